@@ -1,0 +1,55 @@
+// Cutting bytes at a byte: lines at 10, fields at 32.
+ghost use mathlib.Core.Path.{_≡_};
+ghost use Prim.Native.Nat.{_+_, _≤_};
+ghost use mathlib.Core.List.{[]};
+ghost use lib.ListN.{length, drop, getD};
+ghost use Rattle.layout.specs.Split.{find, split};
+
+// The place of the first byte b of s from a place on, or the length of s where there is none.
+pub fn find_from(s: &[u8], from: usize, b: u8) -> usize
+    requires { ⌜ from ≤ length (now s) ⌝ }
+    ensures { λ r. ⌜ (r ≡ from + find b (drop from (now (s .entry)))) × (from ≤ r) × (r ≤ length (now (s .entry))) ⌝ }
+{
+    let mut i = from;
+    while i < s.len() {
+        if s[i] == b {
+            return i;
+        }
+        i += 1;
+    }
+    i
+}
+
+// How many parts the bytes b cut s into: how many fields a line has.
+pub fn count_parts(s: &[u8], b: u8) -> usize
+    ensures { λ r. ⌜ r ≡ length (split b (now (s .entry))) ⌝ }
+{
+    let mut n: usize = 1;
+    let mut i = 0;
+    while i < s.len() {
+        if s[i] == b {
+            n += 1;
+        }
+        i += 1;
+    }
+    n
+}
+
+// The part with the number k, from 0, of s cut at the bytes b: field k of a line, line k of a text. It is empty where
+// there are not so many.
+pub fn part(s: &[u8], b: u8, k: usize) -> &[u8]
+    ensures { λ r. ⌜ now r ≡ getD (split b (now (s .entry))) k [] ⌝ }
+{
+    let mut a = 0;
+    let mut left = k;
+    while 0 < left {
+        let e = find_from(s, a, b);
+        if e == s.len() {
+            return &s[0..0];
+        }
+        a = e + 1;
+        left -= 1;
+    }
+    let e = find_from(s, a, b);
+    &s[a..e]
+}
