@@ -1,2 +1,5 @@
 pub mod Cases
 pub mod SplitLaws
+pub mod WordLaws
+pub mod NumberLaws
+pub mod SpellLaws

@@ -1,0 +1,52 @@
+// Numbers in base ten: read from a field of any length, and measured.
+ghost use mathlib.Core.Path.{_≡_};
+ghost use Prim.Native.Nat.{_+_, _*_, _≤_};
+ghost use lib.ListN.{length, drop};
+ghost use Rattle.layout.specs.Word.{same};
+ghost use Rattle.layout.specs.Number.{below, value, startsWell, numberOf, spell};
+ghost use Rattle.layout.specs.Steps.Number.{digits, pushDigit};
+
+// What a field is as a number below a bound.
+pub enum Number {
+    NotNumber,
+    Value(u64),
+    Over,
+}
+
+// Where the digits from a place on end, and a value that says what they are below the bound.
+pub struct Digits {
+    pub end: usize,
+    pub value: u64,
+}
+
+// One digit more.
+fn push_digit(v: u64, bound: u64, b: u8) -> u64
+    requires { ⌜ (48 ≤ b) × (b ≤ 57) × (bound ≤ 4294967296) × (v ≤ 10 * bound + 9) ⌝ }
+    ensures { λ r. ⌜ (r ≡ pushDigit bound v b) × (r ≤ 10 * bound + 9) ⌝ }
+{
+    if v < bound {
+        return v * 10 + (b - 48) as u64;
+    }
+    v
+}
+
+// Reads the digits of s from a place on.
+pub fn scan_digits(s: &[u8], from: usize, bound: u64) -> Digits
+    requires { ⌜ (from ≤ length (now s)) × (bound ≤ 4294967296) ⌝ }
+    ensures { λ r. ⌜ (r .end ≡ from + length (digits (drop from (now (s .entry))))) × (r .end ≤ length (now (s .entry))) × (below bound (r .value) ≡ below bound (value (digits (drop from (now (s .entry)))))) ⌝ }
+{
+    let mut v: u64 = 0;
+    let mut i = from;
+    while i < s.len() {
+        let b = s[i];
+        if b < 48 {
+            return Digits { end: i, value: v };
+        }
+        if 57 < b {
+            return Digits { end: i, value: v };
+        }
+        v = push_digit(v, bound, b);
+        i += 1;
+    }
+    Digits { end: i, value: v }
+}
