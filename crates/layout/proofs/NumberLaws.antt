@@ -1,13 +1,13 @@
 -- Laws of numbers as they are read. Assumes nothing.
 use Prim.Native.Nat.{ℕ, zero, suc, _+_, _-_, _*_, _≤_, _<_}
-use native.Mathlib.Nat.{le-trans, le-refl, not-suc-le-zero, le-of-suc-le-suc, suc-ne-zero, suc-inj}
+use native.Mathlib.Nat.{le-trans, le-refl, not-suc-le-zero, le-of-suc-le-suc, suc-ne-zero, suc-inj, add-zero}
 use native.Mathlib.Numerals.{add-one}
 use native.Mathlib.Omega.{arith}
 use mathlib.Core.Path.{_≡_, refl, sym, ap, _∙_}
 use mathlib.Core.Bool.{Bool, true, false, cond, not, _&&_, false≢true}
 use mathlib.Core.List.{List, [], _∷_, _++_}
-use lib.ListN.{length, getD, take, drop, drop-of-length-le}
-use lib.Seq.{drop-cons}
+use lib.ListN.{length, getD, take, drop, drop-of-length-le, length-take, length-drop}
+use lib.Seq.{drop-cons, getD-take, getD-drop, take-all}
 use lib.Dec.{eqb, leb, ltb}
 use borrow.Author.Tests.{le-leb, lt-leb, lt-ltb, le-ltb, leb-true, ltb-true, ltb-false, eq-eqb, ne-eqb, eqb-true}
 use Rattle.layout.specs.declared.number.Number.{Number}
@@ -138,6 +138,13 @@ starts-more [] h = absurd (not-suc-le-zero h)
 starts-more (a ∷ []) h = absurd (not-suc-le-zero (le-of-suc-le-suc h))
 starts-more (a ∷ b ∷ p) h = refl
 
+module _ (s : List ℕ) (a e : ℕ) (from : a ≤ e) (to : e ≤ length s) where
+  pub cut-long : length (take (e - a) (drop a s)) ≡ e - a
+  cut-long = simp (length-take, length-drop) (omega arith)
+
+  pub cut-first : a < e → getD (take (e - a) (drop a s)) 0 0 ≡ getD s a 0
+  cut-first h = let p : 0 < e - a = omega arith in rw (getD-take, getD-drop, add-zero)
+
 -- ---- a field as a number
 module _ (f : List ℕ) where
   pub number-starts : isNumber f ≡ true → startsWell f ≡ true
@@ -151,6 +158,30 @@ module _ (f : List ℕ) where
   pub number-is : startsWell f ≡ true → allDigits f ≡ true → isNumber f ≡ true
   unfolding isNumber
   number-is p q = rw (p, q)
+
+-- the digits of a field end at e
+module _ (f : List ℕ) (e : ℕ) (found : e ≡ length (digits f)) where
+  pub read-short : (e ≡ length f → ⊥) → isNumber f ≡ false
+  read-short n =
+      by-bool (isNumber f)
+        (λ q. absurd (n (found ∙ ap length (digits-whole f (number-digits f q)))))
+        (λ q. q)
+
+  module _ (all : e ≡ length f) where
+    pub read-whole : digits f ≡ f
+    read-whole = sym (digits-prefix f) ∙ take-all (length (digits f)) f (omega arith)
+
+    whole : take (e - 0) f ≡ f
+    whole = take-all (e - 0) f (omega arith)
+
+    pub read-not : startsWell (take (e - 0) f) ≡ false → isNumber f ≡ false
+    read-not q =
+        by-bool (isNumber f)
+          (λ n. absurd (false≢true (sym q ∙ ap startsWell whole ∙ number-starts f n)))
+          (λ n. n)
+
+    pub read-is : startsWell (take (e - 0) f) ≡ true → isNumber f ≡ true
+    read-is q = number-is f (ap startsWell (sym whole) ∙ q) (ap allDigits (sym read-whole) ∙ digits-all f)
 
 module _ (bound : ℕ) (f : List ℕ) where
   pub number-not : isNumber f ≡ false → numberOf bound f ≡ NotNumber

@@ -8,12 +8,15 @@ use mathlib.Core.Bool.{Bool, true, false, not, _&&_, false≢true}
 use mathlib.Core.List.{List, [], _∷_, _++_, append-nil}
 use lib.ListN.{length, drop, set, length-append}
 use lib.Dec.{eqb, ltb}
-use borrow.Author.Tests.{lt-ltb, le-ltb, ltb-true, ltb-false, ne-eqb, eqb-false, not-true}
-use Rattle.layout.specs.Number.{isDigit, allDigits, startsWell, isNumber, valueFrom, value, spellWithin, spellBefore, spell}
+use borrow.Author.Tests.{lt-ltb, le-ltb, ltb-true, ltb-false, eq-eqb, ne-eqb, eqb-false, not-true}
+use Rattle.layout.specs.declared.number.Number.the-variants.{NotNumber, Value, Over}
+use Rattle.layout.specs.Word.{same}
+use Rattle.layout.specs.Number.{isDigit, allDigits, startsWell, isNumber, valueFrom, value, numberOf, spellWithin, spellBefore, spell}
 use Rattle.layout.specs.Steps.Number.{lastDigits}
-use Rattle.layout.proofs.Cases.{by-lt, and-left, and-right}
+use Rattle.layout.proofs.Cases.{by-lt, by-eq, and-left, and-right}
 use Rattle.layout.proofs.SplitLaws.{without}
-use Rattle.layout.proofs.NumberLaws.{digit-is, digit-from, digit-to, number-is, number-starts, number-digits}
+use Rattle.layout.proofs.WordLaws.{same-false, same-refl}
+use Rattle.layout.proofs.NumberLaws.{digit-is, digit-from, digit-to, number-is, number-digits, not-number, over-number, value-number}
 
 -- ---- the two cases, whatever bounds the recursion
 within-low : (k n : ℕ) (r : List ℕ) → n < 10 → spellWithin (suc k) n r ≡ (48 + n) ∷ r
@@ -178,6 +181,26 @@ digits-without b (x ∷ p) h e =
 
 pub number-without : (b : ℕ) (p : List ℕ) → isDigit b ≡ false → isNumber p ≡ true → without b p ≡ true
 number-without b p h e = digits-without b p h (number-digits p e)
+
+-- ---- a field is the spelling of n, as it is read below n + 1
+module _ (n : ℕ) (f : List ℕ) where
+  not-spelling : (value f ≡ n → ⊥) → same f (spell n) ≡ false
+  not-spelling h = same-false f (spell n) (λ e. h (ap (valueFrom 0) e ∙ value-spell n))
+
+  pub own-not : numberOf (n + 1) f ≡ NotNumber → same f (spell n) ≡ false
+  own-not q =
+      same-false f (spell n) (λ e. false≢true (sym (not-number (n + 1) f q) ∙ ap isNumber e ∙ number-spell n))
+
+  pub own-over : numberOf (n + 1) f ≡ Over → same f (spell n) ≡ false
+  own-over q = not-spelling (λ e. omega (arith, over-number (n + 1) f q .1))
+
+  pub own-value : (v : ℕ) → numberOf (n + 1) f ≡ Value v → eqb v n ≡ same f (spell n)
+  own-value v q =
+      let t = value-number (n + 1) f v q in
+      by-eq v n
+        (λ e. let g : spell n ≡ f = ap spell (sym (t .1 ∙ e)) ∙ spell-value f (t .0) in
+          rw (eq-eqb v n e, g) (sym (same-refl f)))
+        (λ e. rw (ne-eqb v n e) (sym (not-spelling (λ k. e (sym (t .1) ∙ k)))))
 
 -- ---- a loop that writes the digits from the last one on
 pub last-spell : (n : ℕ) (r : List ℕ) → lastDigits (length (spell n)) n r ≡ spellBefore n r

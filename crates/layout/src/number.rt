@@ -1,7 +1,7 @@
 // Numbers in base ten: read from a field of any length, and measured.
 ghost use mathlib.Core.Path.{_≡_};
-ghost use Prim.Native.Nat.{_+_, _*_, _≤_};
-ghost use lib.ListN.{length, drop};
+ghost use Prim.Native.Nat.{_+_, _-_, _*_, _≤_};
+ghost use lib.ListN.{length, take, drop};
 ghost use Rattle.layout.specs.Word.{same};
 ghost use Rattle.layout.specs.Number.{below, value, startsWell, numberOf, spell};
 ghost use Rattle.layout.specs.Steps.Number.{digits, pushDigit};
@@ -49,4 +49,64 @@ pub fn scan_digits(s: &[u8], from: usize, bound: u64) -> Digits
         i += 1;
     }
     Digits { end: i, value: v }
+}
+
+// Whether the digits from a to e begin as a number does: there is one, and the first of several is not `0`.
+pub fn starts_well(s: &[u8], a: usize, e: usize) -> bool
+    requires { ⌜ (a ≤ e) × (e ≤ length (now s)) ⌝ }
+    ensures { λ r. ⌜ r ≡ startsWell (take (e - a) (drop a (now (s .entry)))) ⌝ }
+{
+    let n = e - a;
+    if n == 0 {
+        return false;
+    }
+    if n == 1 {
+        return true;
+    }
+    s[a] != 48
+}
+
+// Reads a field of any length as a number below a bound.
+pub fn read_number(field: &[u8], bound: u64) -> Number
+    requires { ⌜ bound ≤ 4294967296 ⌝ }
+    ensures { λ r. ⌜ r ≡ numberOf bound (now (field .entry)) ⌝ }
+{
+    let d = scan_digits(field, 0, bound);
+    let e = d.end;
+    let v = d.value;
+    if e != field.len() {
+        return Number::NotNumber;
+    }
+    if starts_well(field, 0, e) {
+        if v < bound {
+            return Number::Value(v);
+        }
+        return Number::Over;
+    }
+    Number::NotNumber
+}
+
+// Whether a field is the spelling of a number: a line's own number.
+pub fn is_spelling(field: &[u8], n: u32) -> bool
+    ensures { λ r. ⌜ r ≡ same (now (field .entry)) (spell n) ⌝ }
+{
+    let m = read_number(field, n as u64 + 1);
+    match m {
+        Number::NotNumber => false,
+        Number::Value(v) => v == n as u64,
+        Number::Over => false,
+    }
+}
+
+// How many digits the spelling of a number has.
+pub fn number_len(n: u32) -> usize
+    ensures { λ r. ⌜ (r ≡ length (spell n)) × (r ≤ 10) ⌝ }
+{
+    let mut k: usize = 1;
+    let mut rest = n;
+    while 10 <= rest {
+        rest = rest / 10;
+        k += 1;
+    }
+    k
 }
