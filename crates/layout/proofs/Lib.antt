@@ -3,3 +3,5 @@ pub mod SplitLaws
 pub mod WordLaws
 pub mod NumberLaws
 pub mod SpellLaws
+pub mod FillLaws
+pub mod ListLaws

@@ -59,7 +59,11 @@ unfolding valueFrom
 from-ge v [] = le-refl v
 from-ge v (b ∷ bs) = le-trans (omega arith) (from-ge (v * 10 + (b - 48)) bs)
 
-below-not : (bound n : ℕ) → bound ≤ n → below bound n ≡ Over
+pub below-value : (bound n : ℕ) → n < bound → below bound n ≡ Value n
+unfolding below
+below-value bound n h = rw (lt-ltb n bound h)
+
+pub below-not : (bound n : ℕ) → bound ≤ n → below bound n ≡ Over
 unfolding below
 below-not bound n h = rw (le-ltb n bound h)
 
@@ -151,6 +155,10 @@ module _ (f : List ℕ) where
   unfolding isNumber
   number-starts e = and-left (startsWell f) (allDigits f) e
 
+  pub starts-not : startsWell f ≡ false → isNumber f ≡ false
+  unfolding isNumber
+  starts-not e = rw e
+
   pub number-digits : isNumber f ≡ true → allDigits f ≡ true
   unfolding isNumber
   number-digits e = and-right (startsWell f) (allDigits f) e
@@ -193,8 +201,7 @@ module _ (bound : ℕ) (f : List ℕ) where
   number-below e = rw e
 
   pub number-value : isNumber f ≡ true → value f < bound → numberOf bound f ≡ Value (value f)
-  unfolding below
-  number-value e h = number-below e ∙ rw (lt-ltb (value f) bound h)
+  number-value e h = number-below e ∙ below-value bound (value f) h
 
   pub number-over : isNumber f ≡ true → bound ≤ value f → numberOf bound f ≡ Over
   number-over e h = number-below e ∙ below-not bound (value f) h
@@ -227,8 +234,19 @@ module _ (bound : ℕ) (f : List ℕ) where
 -- a value that is below the bound, and one that is not, by the digits read
 module _ (bound v n : ℕ) (told : below bound v ≡ below bound n) where
   pub told-value : v < bound → below bound n ≡ Value v
-  unfolding below
-  told-value h = sym told ∙ rw (lt-ltb v bound h)
+  told-value h = sym told ∙ below-value bound v h
 
   pub told-over : bound ≤ v → below bound n ≡ Over
   told-over h = sym told ∙ below-not bound v h
+
+  pub told-same : v < bound → v ≡ n
+  told-same h =
+      by-lt n bound
+        (λ k. let p = told-value h in let q = below-value bound n k in cc)
+        (λ k. let p = told-value h in let q = below-not bound n k in let z : _≡_ {A = ℕ} 0 1 = cc in absurd (omega arith))
+
+  pub told-not : bound ≤ v → bound ≤ n
+  told-not h =
+      by-lt n bound
+        (λ k. let p = told-over h in let q = below-value bound n k in let z : _≡_ {A = ℕ} 0 1 = cc in absurd (omega arith))
+        (λ k. k)

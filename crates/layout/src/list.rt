@@ -1,4 +1,21 @@
-// Lists of numbers: read from a field, and written.
+// Lists of numbers: read from a field, measured and written.
+ghost use mathlib.Core.Path.{_≡_};
+ghost use Prim.Native.Nat.{_+_, _≤_, _<_};
+ghost use mathlib.Core.List.{_∷_};
+ghost use lib.ListN.{length, drop, take};
+ghost use Rattle.layout.specs.Split.{find, split};
+ghost use Rattle.layout.specs.Number.{isNumber, spell};
+ghost use Rattle.layout.specs.List.{itemsOf, judged, listOf, leading, listText};
+ghost use Rattle.layout.specs.Fill.{fill, written, after};
+ghost use Rattle.layout.specs.Steps.Number.{digits};
+ghost use Rattle.layout.specs.Steps.List.{pushed, kept, tailText};
+use crate::number::scan_digits;
+use crate::number::starts_well;
+use crate::number::number_len;
+use crate::number::put_number;
+use crate::word::is_word;
+use crate::fill::Written;
+
 // What a field is as a list of at most so many numbers below a bound.
 pub enum ListRead {
     // Some item is no number.
@@ -9,4 +26,45 @@ pub enum ListRead {
     Many,
     // A list, of so many numbers.
     Listed(usize),
+}
+
+// Whether the item that begins at a is a number, where the digits from a on end at e.
+fn is_item(field: &[u8], a: usize, e: usize) -> bool
+    requires { ⌜ (a ≤ length (now field)) × (e ≡ a + length (digits (drop a (now field)))) × (e ≤ length (now field)) ⌝ }
+    ensures { λ r. ⌜ r ≡ isNumber (take (find 44 (drop a (now (field .entry)))) (drop a (now (field .entry)))) ⌝ }
+{
+    if e == field.len() {
+        return starts_well(field, a, e);
+    }
+    if field[e] == 44 {
+        return starts_well(field, a, e);
+    }
+    false
+}
+
+// One number more: the answer so far goes on, and the number is kept where it counts.
+fn push_item(items: &mut [u32], so_far: ListRead, v: u64, bound: u64, max: usize) -> ListRead
+    requires { ⌜ (bound ≤ 4294967296) × (max ≤ length (now items)) ⌝ }
+    ensures { λ r. ⌜ (r ≡ pushed bound max «so_far» v) × (now (items .exit) ≡ kept bound max «so_far» v (now (items .entry))) ⌝ }
+{
+    match so_far {
+        ListRead::NotList => ListRead::NotList,
+        ListRead::Over => ListRead::Over,
+        ListRead::Many => {
+            if v < bound {
+                return ListRead::Many;
+            }
+            ListRead::Over
+        }
+        ListRead::Listed(n) => {
+            if v < bound {
+                if n < max {
+                    items[n] = v as u32;
+                    return ListRead::Listed(n + 1);
+                }
+                return ListRead::Many;
+            }
+            ListRead::Over
+        }
+    }
 }

@@ -4,6 +4,7 @@ ghost use Prim.Native.Nat.{_+_, _-_, _*_, _≤_};
 ghost use lib.ListN.{length, take, drop};
 ghost use Rattle.layout.specs.Word.{same};
 ghost use Rattle.layout.specs.Number.{below, value, startsWell, numberOf, spell};
+ghost use Rattle.layout.specs.Fill.{fill};
 ghost use Rattle.layout.specs.Steps.Number.{digits, pushDigit};
 
 // What a field is as a number below a bound.
@@ -107,6 +108,22 @@ pub fn number_len(n: u32) -> usize
     while 10 <= rest {
         rest = rest / 10;
         k += 1;
+    }
+    k
+}
+
+// Writes the spelling of a number into the first bytes of a part that has room, and says how many there are.
+pub fn put_number(part: &mut [u8], n: u32) -> usize
+    requires { ⌜ length (spell n) ≤ length (now part) ⌝ }
+    ensures { λ r. ⌜ (r ≡ length (spell n)) × (now (part .exit) ≡ fill (spell n) (now (part .entry))) ⌝ }
+{
+    let k = number_len(n);
+    let mut i = k;
+    let mut rest = n;
+    while 0 < i {
+        i -= 1;
+        part[i] = (48 + rest % 10) as u8;
+        rest = rest / 10;
     }
     k
 }
