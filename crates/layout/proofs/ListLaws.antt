@@ -61,6 +61,14 @@ module _ (bound max : ℕ) where
     unfolding kept
     kept-listed n xs h k = rw (lt-ltb v bound h, lt-ltb n max k)
 
+  pub kept-length : (r : ListRead) (v : ℕ) (xs : List ℕ) → length (kept bound max r v xs) ≡ length xs
+  unfolding kept
+  kept-length NotList v xs = refl
+  kept-length Over v xs = refl
+  kept-length Many v xs = refl
+  kept-length (Listed n) v xs =
+      by-bool (ltb v bound && ltb n max) (λ e. rw e (length-set xs n v)) (λ e. rw e)
+
   -- only what a number is below the bound counts
   both-over : (v w : ℕ) (r : ListRead) → bound ≤ v → bound ≤ w → pushed bound max r v ≡ pushed bound max r w
   unfolding pushed
@@ -282,6 +290,13 @@ module _ (s : List ℕ) (a e : ℕ) (found : e ≡ a + length (digits (drop a s)
             (λ q. number-is (take (e - a) (drop a s)) q all ∙ sym q)
             (λ q. starts-not (take (e - a) (drop a s)) q ∙ sym q)
 
+-- the item that ends where its digits do, as its digits say
+item-digits : (s : List ℕ) (a e : ℕ) → e ≡ a + length (digits (drop a s)) → e ≡ a + find 44 (drop a s)
+    → digits (drop a s) ≡ itemAt s a
+item-digits s a e found end =
+    let k : length (digits (drop a s)) ≡ find 44 (drop a s) = omega arith in
+    sym (digits-prefix (drop a s)) ∙ ap (λ (n : ℕ). take n (drop a s)) k
+
 -- ---- a turn of the loop that reads items, at the place a, with the answer r and the places xs so far
 module _ (bound max : ℕ) (r : ListRead) (xs s : List ℕ) (a : ℕ) (from : a ≤ length s) where
   first-item : {C : Type 0} → ((ps : List (List ℕ)) → split 44 (drop a s) ≡ itemAt s a ∷ ps → C) → C
@@ -299,9 +314,15 @@ module _ (bound max : ℕ) (r : ListRead) (xs s : List ℕ) (a : ℕ) (from : a 
     pub turn-left : placesFrom bound max r (split 44 (drop a s)) xs ≡ xs
     turn-left = first-item (λ ps q. rw q (places-not bound max r (itemAt s a) ps xs bad))
 
-  -- v says what the item is below the bound
-  module _ (e v : ℕ) (good : isNumber (itemAt s a) ≡ true) (end : e ≡ a + find 44 (drop a s))
-      (told : below bound v ≡ below bound (value (itemAt s a))) where
+  -- the digits end at e, and v says what they are below the bound
+  module _ (e v : ℕ) (found : e ≡ a + length (digits (drop a s))) (to : e ≤ length s)
+      (read : below bound v ≡ below bound (value (digits (drop a s)))) (good : isNumber (itemAt s a) ≡ true) where
+    end : e ≡ a + find 44 (drop a s)
+    end = item-number s a e found to good
+
+    told : below bound v ≡ below bound (value (itemAt s a))
+    told = read ∙ ap (λ (q : List ℕ). below bound (value q)) (item-digits s a e found end)
+
     last : length s ≤ e → split 44 (drop a s) ≡ itemAt s a ∷ []
     last h = cut-last 44 s a e end from h ∙ ap (λ (q : List ℕ). q ∷ []) (cut-part s a e end)
 
@@ -334,13 +355,6 @@ module _ (bound max : ℕ) (r : ListRead) (xs s : List ℕ) (a : ℕ) (from : a 
     turn-places h =
         rw (more h, pushed-told bound max v (value (itemAt s a)) told r, kept-told bound max v (value (itemAt s a)) told r xs)
           (places-next bound max r (itemAt s a) (split 44 (drop (e + 1) s)) xs good)
-
--- the item that ends where its digits do, as its digits say
-pub item-digits : (s : List ℕ) (a e : ℕ) → e ≡ a + length (digits (drop a s)) → e ≡ a + find 44 (drop a s)
-    → digits (drop a s) ≡ itemAt s a
-item-digits s a e found end =
-    let k : length (digits (drop a s)) ≡ find 44 (drop a s) = omega arith in
-    sym (digits-prefix (drop a s)) ∙ ap (λ (n : ℕ). take n (drop a s)) k
 
 leading-empty : (bound max : ℕ) → leading bound max [] ≡ []
 unfolding leading

@@ -68,3 +68,38 @@ fn push_item(items: &mut [u32], so_far: ListRead, v: u64, bound: u64, max: usize
         }
     }
 }
+
+// Reads items with commas between them, in one pass.
+fn read_items(field: &[u8], bound: u64, max: usize, items: &mut [u32]) -> ListRead
+    requires { ⌜ (bound ≤ 4294967296) × (max ≤ length (now items)) ⌝ }
+    ensures { λ r. ⌜ (r ≡ judged bound max (split 44 (now (field .entry)))) × (now (items .exit) ≡ fill (leading bound max (split 44 (now (field .entry)))) (now (items .entry))) ⌝ }
+{
+    let mut so_far = ListRead::Listed(0);
+    let mut a = 0;
+    loop {
+        let d = scan_digits(field, a, bound);
+        let e = d.end;
+        let v = d.value;
+        if is_item(field, a, e) {
+            so_far = push_item(items, so_far, v, bound, max);
+            if e == field.len() {
+                return so_far;
+            }
+            a = e + 1;
+        } else {
+            return ListRead::NotList;
+        }
+    }
+}
+
+// Reads a field as a list of at most max numbers below a bound, and keeps the numbers in the first places of items: all of
+// them where the field is such a list.
+pub fn read_list(field: &[u8], bound: u64, max: usize, items: &mut [u32]) -> ListRead
+    requires { ⌜ (bound ≤ 4294967296) × (max ≤ length (now items)) ⌝ }
+    ensures { λ r. ⌜ (r ≡ listOf bound max (now (field .entry))) × (now (items .exit) ≡ fill (leading bound max (itemsOf (now (field .entry)))) (now (items .entry))) ⌝ }
+{
+    if is_word(field, b"-") {
+        return ListRead::Listed(0);
+    }
+    read_items(field, bound, max, items)
+}
