@@ -92,3 +92,77 @@ part-filled at w b ys e =
 
 pub part-room : (at : ℕ) (w b : List ℕ) → at + length w ≤ length b → length w ≤ length (take (length b - at) (drop at b))
 part-room at w b h = rw (tail-part b at) (omega (arith, length-drop at b))
+
+-- ---- a text that is being written: the buffer b, which has room, now is buf; what stands from `at` on is left
+pub record Writing (text b left buf : List ℕ) (at : ℕ) : Type 0 where
+  pub room : length text ≤ length b
+  pub long : length buf ≡ length b
+  pub sum : at + length left ≡ length text
+  pub whole : fill text b ≡ fillAt at left buf
+
+pub writing-begins : (text b : List ℕ) → length text ≤ length b → Writing text b text b 0
+writing-begins text b h = record { room = h; long = refl; sum = omega arith; whole = sym (fillAt-zero text b) }
+
+pub writing-ends : {text b left buf : List ℕ} {at : ℕ} → Writing text b left buf at → left ≡ []
+    → (at ≡ length text) × (buf ≡ fill text b)
+writing-ends {text} {b} {left} {buf} {at} s e =
+    (omega (arith, s .sum, ap length e), sym (s .whole ∙ ap (λ (l : List ℕ). fillAt at l buf) e ∙ fillAt-none at buf))
+
+-- what is left is written last
+module _ {text b left buf : List ℕ} {at : ℕ} (s : Writing text b left buf at) where
+  pub writing-from : at ≤ length buf
+  writing-from = omega (arith, s .room, s .long, s .sum)
+
+  last-fits : at + length left ≤ length buf
+  last-fits = omega (arith, s .room, s .long, s .sum)
+
+  pub last-room : length left ≤ length (take (length buf - at) (drop at buf))
+  last-room = part-room at left buf last-fits
+
+  pub last-sum : at + length left ≤ length b
+  last-sum = omega (arith, last-fits, s .long)
+
+  module _ (ys : List ℕ) (filled : ys ≡ fill left (take (length buf - at) (drop at buf))) where
+    pub last-length : length (putMid at (length buf - at) buf ys) ≡ length b
+    last-length = ap length (part-filled at left buf ys filled) ∙ fillAt-length at left buf last-fits ∙ s .long
+
+    pub last-part : (k : ℕ) → k ≡ length left → (at + k ≡ length text) × (putMid at (length buf - at) buf ys ≡ fill text b)
+    last-part k e = (omega (arith, s .sum), part-filled at left buf ys filled ∙ sym (s .whole))
+
+-- w stands next in what is left
+module _ {text b left buf : List ℕ} {at : ℕ} (s : Writing text b left buf at) (w rest : List ℕ) (next : left ≡ w ++ rest) where
+  fits : at + length w ≤ length buf
+  fits = omega (arith, s .room, s .long, s .sum, ap length next, length-append w rest)
+
+  -- there is room for it in the part from `at` on
+  pub writing-room : length w ≤ length (take (length buf - at) (drop at buf))
+  writing-room = part-room at w buf fits
+
+  pub writing-sum : at + length w ≤ length b
+  writing-sum = omega (arith, fits, s .long)
+
+  -- a callee filled that part with it
+  pub writing-part : (k : ℕ) (ys : List ℕ) → k ≡ length w → ys ≡ fill w (take (length buf - at) (drop at buf))
+      → Writing text b rest (putMid at (length buf - at) buf ys) (at + k)
+  writing-part k ys long filled =
+      let e = part-filled at w buf ys filled in
+      record {
+        room = s .room;
+        long = ap length e ∙ fillAt-length at w buf fits ∙ s .long;
+        sum = omega (arith, s .sum, ap length next, length-append w rest);
+        whole = s .whole ∙ sym (rw (e, next, long) (fillAt-then at w rest buf fits))
+      }
+
+-- a callee filled the whole buffer with the first piece
+module _ (text b w rest : List ℕ) (room : length text ≤ length b) (next : text ≡ w ++ rest) where
+  pub first-room : length w ≤ length b
+  first-room = omega (arith, ap length next, length-append w rest)
+
+  pub writing-first : (k : ℕ) (b₁ : List ℕ) → k ≡ length w → b₁ ≡ fill w b → Writing text b rest b₁ k
+  writing-first k b₁ long e =
+      record {
+        room = room;
+        long = ap length e ∙ fill-length w b first-room;
+        sum = omega (arith, ap length next, length-append w rest);
+        whole = sym (rw (e, next, long) (fill-then w rest b first-room))
+      }

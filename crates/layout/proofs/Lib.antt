@@ -5,3 +5,4 @@ pub mod NumberLaws
 pub mod SpellLaws
 pub mod FillLaws
 pub mod ListLaws
+pub mod ListTextLaws

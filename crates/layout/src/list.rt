@@ -15,6 +15,7 @@ use crate::number::number_len;
 use crate::number::put_number;
 use crate::word::is_word;
 use crate::fill::Written;
+use crate::fill::put_bytes;
 
 // What a field is as a list of at most so many numbers below a bound.
 pub enum ListRead {
@@ -102,4 +103,81 @@ pub fn read_list(field: &[u8], bound: u64, max: usize, items: &mut [u32]) -> Lis
         return ListRead::Listed(0);
     }
     read_items(field, bound, max, items)
+}
+
+// How many bytes the text of a list has.
+pub fn list_len(items: &[u32]) -> usize
+    requires { ⌜ length (now items) ≤ 64 ⌝ }
+    ensures { λ r. ⌜ (r ≡ length (listText (now (items .entry)))) × (r ≤ 704) ⌝ }
+{
+    let n = items.len();
+    if n == 0 {
+        return 1;
+    }
+    let mut total: usize = 0;
+    let mut i = 0;
+    while i < n {
+        total = total + number_len(items[i]) + 1;
+        i += 1;
+    }
+    total - 1
+}
+
+// Writes a comma and a number into a part that has room.
+fn put_item(part: &mut [u8], x: u32) -> usize
+    requires { ⌜ length (44 ∷ spell x) ≤ length (now part) ⌝ }
+    ensures { λ r. ⌜ (r ≡ length (44 ∷ spell x)) × (now (part .exit) ≡ fill (44 ∷ spell x) (now (part .entry))) ⌝ }
+{
+    part[0] = 44;
+    let k = put_number(&mut part[1..], x);
+    k + 1
+}
+
+// Writes numbers, each with a comma before it, into a part that has room.
+fn put_tail(part: &mut [u8], items: &[u32]) -> usize
+    requires { ⌜ length (tailText (now items)) ≤ length (now part) ⌝ }
+    ensures { λ r. ⌜ (r ≡ length (tailText (now (items .entry)))) × (now (part .exit) ≡ fill (tailText (now (items .entry))) (now (part .entry))) ⌝ }
+{
+    let mut at: usize = 0;
+    let mut i = 0;
+    while i < items.len() {
+        let k = put_item(&mut part[at..], items[i]);
+        at += k;
+        i += 1;
+    }
+    at
+}
+
+// Writes a list that is not empty into a part that has room.
+fn put_items(part: &mut [u8], items: &[u32]) -> usize
+    requires { ⌜ (0 < length (now items)) × (length (listText (now items)) ≤ length (now part)) ⌝ }
+    ensures { λ r. ⌜ (r ≡ length (listText (now (items .entry)))) × (now (part .exit) ≡ fill (listText (now (items .entry))) (now (part .entry))) ⌝ }
+{
+    let k = put_number(part, items[0]);
+    let m = put_tail(&mut part[k..], &items[1..]);
+    k + m
+}
+
+// Writes a list into the first bytes of a part that has room, and says how many there are.
+pub fn put_list(part: &mut [u8], items: &[u32]) -> usize
+    requires { ⌜ length (listText (now items)) ≤ length (now part) ⌝ }
+    ensures { λ r. ⌜ (r ≡ length (listText (now (items .entry)))) × (now (part .exit) ≡ fill (listText (now (items .entry))) (now (part .entry))) ⌝ }
+{
+    if items.len() == 0 {
+        return put_bytes(part, b"-");
+    }
+    put_items(part, items)
+}
+
+// Writes a list into the first bytes of a part, or refuses a part that is too short and leaves it as it was.
+pub fn write_list(part: &mut [u8], items: &[u32]) -> Written
+    requires { ⌜ length (now items) ≤ 64 ⌝ }
+    ensures { λ r. ⌜ (r ≡ written (listText (now (items .entry))) (now (part .entry))) × (now (part .exit) ≡ after (listText (now (items .entry))) (now (part .entry))) ⌝ }
+{
+    let k = list_len(items);
+    if part.len() < k {
+        return Written::Short;
+    }
+    put_list(part, items);
+    Written::Wrote(k)
 }
