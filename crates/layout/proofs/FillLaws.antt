@@ -39,8 +39,13 @@ module _ (t b : List ℕ) where
 pub fill-then : (w t b : List ℕ) → length w ≤ length b → fillAt (length w) t (fill w b) ≡ fill (w ++ t) b
 unfolding fill fillAt
 fill-then w t b h =
-    rw (take-at w (drop (length w) b) (length w) refl, drop-at w (drop (length w) b) (length w) refl,
-        drop-drop (length t) (length w) b, length-append w t, append-assoc)
+    rw (
+      take-at w (drop (length w) b) (length w) refl,
+      drop-at w (drop (length w) b) (length w) refl,
+      drop-drop (length t) (length w) b,
+      length-append w t,
+      append-assoc,
+    )
 
 module _ (at : ℕ) (w t b : List ℕ) (room : at + length w ≤ length b) where
   before : length (take at b) ≡ at
@@ -51,9 +56,9 @@ module _ (at : ℕ) (w t b : List ℕ) (room : at + length w ≤ length b) where
   fillAt-then =
       let k : at + length w ≡ length (take at b) + length w = omega (arith, before) in
       let f : take (at + length w) (take at b ++ fill w (drop at b)) ≡ take at b ++ take (length w) (fill w (drop at b)) =
-          ap (λ (n : ℕ). take n (take at b ++ fill w (drop at b))) k ∙ take-append-add (take at b) (fill w (drop at b)) (length w) in
+      ap (λ (n : ℕ). take n (take at b ++ fill w (drop at b))) k ∙ take-append-add (take at b) (fill w (drop at b)) (length w) in
       let g : drop (at + length w) (take at b ++ fill w (drop at b)) ≡ drop (length w) (fill w (drop at b)) =
-          ap (λ (n : ℕ). drop n (take at b ++ fill w (drop at b))) k ∙ drop-append-add (take at b) (fill w (drop at b)) (length w) in
+      ap (λ (n : ℕ). drop n (take at b ++ fill w (drop at b))) k ∙ drop-append-add (take at b) (fill w (drop at b)) (length w) in
       ap₂ (λ (x y : List ℕ). x ++ fill t y) f g
       ∙ append-assoc (take at b) (take (length w) (fill w (drop at b))) (fill t (drop (length w) (fill w (drop at b))))
       ∙ ap (λ (l : List ℕ). take at b ++ l) (fill-then w t (drop at b) (omega (arith, length-drop at b)))
@@ -61,8 +66,13 @@ module _ (at : ℕ) (w t b : List ℕ) (room : at + length w ≤ length b) where
 pub fillAt-length : (at : ℕ) (w b : List ℕ) → at + length w ≤ length b → length (fillAt at w b) ≡ length b
 unfolding fillAt
 fillAt-length at w b room =
-    omega (arith, length-append (take at b) (fill w (drop at b)), length-take-le at b (omega arith), length-drop at b,
-           fill-length w (drop at b) (omega (arith, length-drop at b)))
+    omega (
+      arith,
+      length-append (take at b) (fill w (drop at b)),
+      length-take-le at b (omega arith),
+      length-drop at b,
+      fill-length w (drop at b) (omega (arith, length-drop at b)),
+    )
 
 pub fillAt-none : (at : ℕ) (b : List ℕ) → fillAt at [] b ≡ b
 unfolding fillAt fill
@@ -150,7 +160,7 @@ module _ {text b left buf : List ℕ} {at : ℕ} (s : Writing text b left buf at
         room = s .room;
         long = ap length e ∙ fillAt-length at w buf fits ∙ s .long;
         sum = omega (arith, s .sum, ap length next, length-append w rest);
-        whole = s .whole ∙ sym (rw (e, next, long) (fillAt-then at w rest buf fits))
+        whole = s .whole ∙ sym (rw (e, next, long) (fillAt-then at w rest buf fits));
       }
 
 -- a callee filled the whole buffer with the first piece
@@ -164,5 +174,5 @@ module _ (text b w rest : List ℕ) (room : length text ≤ length b) (next : te
         room = room;
         long = ap length e ∙ fill-length w b first-room;
         sum = omega (arith, ap length next, length-append w rest);
-        whole = sym (rw (e, next, long) (fill-then w rest b first-room))
+        whole = sym (rw (e, next, long) (fill-then w rest b first-room));
       }

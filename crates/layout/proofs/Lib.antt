@@ -6,3 +6,4 @@ pub mod SpellLaws
 pub mod FillLaws
 pub mod ListLaws
 pub mod ListTextLaws
+pub mod RoundTrips

@@ -88,14 +88,14 @@ module _ (bound max : ℕ) where
     pub pushed-told : (r : ListRead) → pushed bound max r v ≡ pushed bound max r w
     pushed-told r =
         by-lt v bound
-          (λ h. ap (pushed bound max r) (told-same bound v w told h))
-          (λ h. both-over v w r h (told-not bound v w told h))
+        (λ h. ap (pushed bound max r) (told-same bound v w told h))
+        (λ h. both-over v w r h (told-not bound v w told h))
 
     pub kept-told : (r : ListRead) (xs : List ℕ) → kept bound max r v xs ≡ kept bound max r w xs
     kept-told r xs =
         by-lt v bound
-          (λ h. ap (λ (x : ℕ). kept bound max r x xs) (told-same bound v w told h))
-          (λ h. both-left v w r xs h (told-not bound v w told h))
+        (λ h. ap (λ (x : ℕ). kept bound max r x xs) (told-same bound v w told h))
+        (λ h. both-left v w r xs h (told-not bound v w told h))
 
   -- ---- the first item of what is left
   module _ (r : ListRead) (p : List ℕ) (ps : List (List ℕ)) where
@@ -131,8 +131,8 @@ module _ (bound max : ℕ) where
   answer-over (p ∷ ps) =
       let ih = answer-over ps in
       by-bool (isNumber p)
-        (λ e. answer-next Over p ps e ∙ rw e ih)
-        (λ e. answer-not Over p ps e ∙ rw e)
+      (λ e. answer-next Over p ps e ∙ rw e ih)
+      (λ e. answer-not Over p ps e ∙ rw e)
 
   answer-many : (ps : List (List ℕ))
       → answerFrom bound max Many ps ≡ cond (allNumbers ps) (cond (allBelow bound ps) Many Over) NotList
@@ -141,31 +141,31 @@ module _ (bound max : ℕ) where
   answer-many (p ∷ ps) =
       let ih = answer-many ps in
       by-bool (isNumber p)
-        (λ e. answer-next Many p ps e
-          ∙ by-lt (value p) bound
-              (λ h. rw (e, many-below (value p) h, lt-ltb (value p) bound h) ih)
-              (λ h. rw (e, many-over (value p) h, le-ltb (value p) bound h) (answer-over ps)))
-        (λ e. answer-not Many p ps e ∙ rw e)
+      (λ e. answer-next Many p ps e
+      ∙ by-lt (value p) bound
+      (λ h. rw (e, many-below (value p) h, lt-ltb (value p) bound h) ih)
+      (λ h. rw (e, many-over (value p) h, le-ltb (value p) bound h) (answer-over ps)))
+      (λ e. answer-not Many p ps e ∙ rw e)
 
   answer-listed : (n : ℕ) (ps : List (List ℕ)) → n ≤ max
       → answerFrom bound max (Listed n) ps
-        ≡ cond (allNumbers ps)
-          (cond (allBelow bound ps) (cond (leb (n + length ps) max) (Listed (n + length ps)) Many) Over) NotList
+      ≡ cond (allNumbers ps)
+      (cond (allBelow bound ps) (cond (leb (n + length ps) max) (Listed (n + length ps)) Many) Over) NotList
   unfolding allNumbers allBelow
   answer-listed n [] h = answer-end (Listed n) ∙ rw (add-zero, le-leb n max h)
   answer-listed n (p ∷ ps) h =
       let m : n + 1 + length ps ≡ n + suc (length ps) = omega arith in
       by-bool (isNumber p)
-        (λ e. answer-next (Listed n) p ps e
-          ∙ by-lt (value p) bound
-              (λ k. by-lt n max
-                (λ l. rw (e, pushed-listed (value p) n k l, lt-ltb (value p) bound k)
-                  (answer-listed (n + 1) ps (omega arith)
-                   ∙ ap (λ (j : ℕ). cond (allNumbers ps) (cond (allBelow bound ps) (cond (leb j max) (Listed j) Many) Over) NotList) m))
-                (λ l. rw (e, pushed-many (value p) n k l, lt-ltb (value p) bound k, lt-leb (n + suc (length ps)) max (omega arith))
-                  (answer-many ps)))
-              (λ k. rw (e, pushed-over (value p) n k, le-ltb (value p) bound k) (answer-over ps)))
-        (λ e. answer-not (Listed n) p ps e ∙ rw e)
+      (λ e. answer-next (Listed n) p ps e
+      ∙ by-lt (value p) bound
+      (λ k. by-lt n max
+      (λ l. rw (e, pushed-listed (value p) n k l, lt-ltb (value p) bound k)
+      (answer-listed (n + 1) ps (omega arith)
+      ∙ ap (λ (j : ℕ). cond (allNumbers ps) (cond (allBelow bound ps) (cond (leb j max) (Listed j) Many) Over) NotList) m))
+      (λ l. rw (e, pushed-many (value p) n k l, lt-ltb (value p) bound k, lt-leb (n + suc (length ps)) max (omega arith))
+      (answer-many ps)))
+      (λ k. rw (e, pushed-over (value p) n k, le-ltb (value p) bound k) (answer-over ps)))
+      (λ e. answer-not (Listed n) p ps e ∙ rw e)
 
   pub answer-is : (ps : List (List ℕ)) → answerFrom bound max (Listed 0) ps ≡ judged bound max ps
   unfolding judged
@@ -185,11 +185,11 @@ module _ (bound max : ℕ) where
   places-many (p ∷ ps) xs =
       let ih = places-many ps xs in
       by-bool (isNumber p)
-        (λ e. places-next Many p ps xs e
-          ∙ by-lt (value p) bound
-              (λ h. rw (many-below (value p) h) ih)
-              (λ h. rw (many-over (value p) h) (places-over ps xs)))
-        (λ e. places-not Many p ps xs e)
+      (λ e. places-next Many p ps xs e
+      ∙ by-lt (value p) bound
+      (λ h. rw (many-below (value p) h) ih)
+      (λ h. rw (many-over (value p) h) (places-over ps xs)))
+      (λ e. places-not Many p ps xs e)
 
   places-listed : (n k : ℕ) (ps : List (List ℕ)) (xs : List ℕ) → n + k ≡ max → max ≤ length xs
       → placesFrom bound max (Listed n) ps xs ≡ fillAt n (leading bound k ps) xs
@@ -198,22 +198,22 @@ module _ (bound max : ℕ) where
   places-listed n (suc k) [] xs q h = places-end (Listed n) xs ∙ sym (fillAt-none n xs)
   places-listed n zero (p ∷ ps) xs q h =
       by-bool (isNumber p)
-        (λ e. places-next (Listed n) p ps xs e
-          ∙ by-lt (value p) bound
-              (λ l. rw (pushed-many (value p) n l (omega arith), kept-many (value p) n xs l (omega arith))
-                (places-many ps xs ∙ sym (fillAt-none n xs)))
-              (λ l. rw (pushed-over (value p) n l, kept-over (value p) n xs l) (places-over ps xs ∙ sym (fillAt-none n xs))))
-        (λ e. places-not (Listed n) p ps xs e ∙ sym (fillAt-none n xs))
+      (λ e. places-next (Listed n) p ps xs e
+      ∙ by-lt (value p) bound
+      (λ l. rw (pushed-many (value p) n l (omega arith), kept-many (value p) n xs l (omega arith))
+      (places-many ps xs ∙ sym (fillAt-none n xs)))
+      (λ l. rw (pushed-over (value p) n l, kept-over (value p) n xs l) (places-over ps xs ∙ sym (fillAt-none n xs))))
+      (λ e. places-not (Listed n) p ps xs e ∙ sym (fillAt-none n xs))
   places-listed n (suc k) (p ∷ ps) xs q h =
       by-bool (isNumber p)
-        (λ e. places-next (Listed n) p ps xs e
-          ∙ by-lt (value p) bound
-              (λ l. rw (e, lt-ltb (value p) bound l, pushed-listed (value p) n l (omega arith), kept-listed (value p) n xs l (omega arith))
-                (places-listed (n + 1) k ps (set xs n (value p)) (omega arith) (simp length-set (omega arith))
-                 ∙ fillAt-set n (value p) (leading bound k ps) xs (omega arith)))
-              (λ l. rw (e, le-ltb (value p) bound l, pushed-over (value p) n l, kept-over (value p) n xs l)
-                (places-over ps xs ∙ sym (fillAt-none n xs))))
-        (λ e. places-not (Listed n) p ps xs e ∙ rw e (sym (fillAt-none n xs)))
+      (λ e. places-next (Listed n) p ps xs e
+      ∙ by-lt (value p) bound
+      (λ l. rw (e, lt-ltb (value p) bound l, pushed-listed (value p) n l (omega arith), kept-listed (value p) n xs l (omega arith))
+      (places-listed (n + 1) k ps (set xs n (value p)) (omega arith) (simp length-set (omega arith))
+      ∙ fillAt-set n (value p) (leading bound k ps) xs (omega arith)))
+      (λ l. rw (e, le-ltb (value p) bound l, pushed-over (value p) n l, kept-over (value p) n xs l)
+      (places-over ps xs ∙ sym (fillAt-none n xs))))
+      (λ e. places-not (Listed n) p ps xs e ∙ rw e (sym (fillAt-none n xs)))
 
   pub places-are : (ps : List (List ℕ)) (xs : List ℕ) → max ≤ length xs
       → placesFrom bound max (Listed 0) ps xs ≡ fill (leading bound max ps) xs
@@ -226,19 +226,19 @@ unfolding digits find
 digits-item [] h = refl
 digits-item (x ∷ l) h =
     by-bool (isDigit x)
-      (λ d.
-        let n : x ≡ 44 → ⊥ = λ q. false≢true (sym (digit-low 44 (omega arith)) ∙ ap isDigit (sym q) ∙ d) in
-        let t : length (digits l) < length l → getD l (length (digits l)) 0 ≡ 44 = λ k. (rw d at h) (omega arith) in
-        rw (d, ne-eqb x 44 n) (ap suc (digits-item l t)))
-      (λ d. rw (d, eq-eqb x 44 ((rw d at h) (omega arith))))
+    (λ d.
+    let n : x ≡ 44 → ⊥ = λ q. false≢true (sym (digit-low 44 (omega arith)) ∙ ap isDigit (sym q) ∙ d) in
+    let t : length (digits l) < length l → getD l (length (digits l)) 0 ≡ 44 = λ k. (rw d at h) (omega arith) in
+    rw (d, ne-eqb x 44 n) (ap suc (digits-item l t)))
+    (λ d. rw (d, eq-eqb x 44 ((rw d at h) (omega arith))))
 
 find-at : (b : ℕ) (l : List ℕ) → find b l < length l → getD l (find b l) 0 ≡ b
 unfolding find
 find-at b [] h = absurd (not-suc-le-zero h)
 find-at b (x ∷ l) h =
     by-bool (eqb x b)
-      (λ q. rw q (eqb-true x b q))
-      (λ q. rw q (find-at b l (le-of-suc-le-suc (rw q at h))))
+    (λ q. rw q (eqb-true x b q))
+    (λ q. rw q (find-at b l (le-of-suc-le-suc (rw q at h))))
 
 cut-size : (l : List ℕ) → length (take (find 44 l) l) ≡ find 44 l
 cut-size l = length-take-le (find 44 l) l (find-le 44 l)
@@ -262,11 +262,11 @@ module _ (s : List ℕ) (a e : ℕ) (found : e ≡ a + length (digits (drop a s)
   pub item-other : e < length s → (getD s e 0 ≡ 44 → ⊥) → isNumber (itemAt s a) ≡ false
   item-other h o =
       by-bool (isNumber (itemAt s a))
-        (λ n.
-          let q = item-number n in
-          let i : find 44 (drop a s) < length (drop a s) = omega (arith, length-drop a s) in
-          absurd (o (ap (λ (k : ℕ). getD s k 0) q ∙ sym (getD-drop a s (find 44 (drop a s)) 0) ∙ find-at 44 (drop a s) i)))
-        (λ n. n)
+      (λ n.
+      let q = item-number n in
+      let i : find 44 (drop a s) < length (drop a s) = omega (arith, length-drop a s) in
+      absurd (o (ap (λ (k : ℕ). getD s k 0) q ∙ sym (getD-drop a s (find 44 (drop a s)) 0) ∙ find-at 44 (drop a s) i)))
+      (λ n. n)
 
   -- digits up to a comma or to the end
   module _ (ends : e < length s → getD s e 0 ≡ 44) where
@@ -274,21 +274,21 @@ module _ (s : List ℕ) (a e : ℕ) (found : e ≡ a + length (digits (drop a s)
     item-end =
         found
         ∙ ap (λ (k : ℕ). a + k)
-            (sym (digits-item (drop a s)
-              (λ h. getD-drop a s (length (digits (drop a s))) 0 ∙ ap (λ (k : ℕ). getD s k 0) (sym found)
-                ∙ ends (omega (arith, length-drop a s)))))
+        (sym (digits-item (drop a s)
+        (λ h. getD-drop a s (length (digits (drop a s))) 0 ∙ ap (λ (k : ℕ). getD s k 0) (sym found)
+        ∙ ends (omega (arith, length-drop a s)))))
 
     pub item-starts : isNumber (itemAt s a) ≡ startsWell (take (e - a) (drop a s))
     item-starts =
         let p = cut-part s a e item-end in
         let k : e - a ≡ length (digits (drop a s)) = omega arith in
         let d : take (e - a) (drop a s) ≡ digits (drop a s) =
-            ap (λ (n : ℕ). take n (drop a s)) k ∙ digits-prefix (drop a s) in
+        ap (λ (n : ℕ). take n (drop a s)) k ∙ digits-prefix (drop a s) in
         let all : allDigits (take (e - a) (drop a s)) ≡ true = ap allDigits d ∙ digits-all (drop a s) in
         ap isNumber (sym p)
         ∙ by-bool (startsWell (take (e - a) (drop a s)))
-            (λ q. number-is (take (e - a) (drop a s)) q all ∙ sym q)
-            (λ q. starts-not (take (e - a) (drop a s)) q ∙ sym q)
+        (λ q. number-is (take (e - a) (drop a s)) q all ∙ sym q)
+        (λ q. starts-not (take (e - a) (drop a s)) q ∙ sym q)
 
 -- the item that ends where its digits do, as its digits say
 item-digits : (s : List ℕ) (a e : ℕ) → e ≡ a + length (digits (drop a s)) → e ≡ a + find 44 (drop a s)
@@ -304,8 +304,8 @@ module _ (bound max : ℕ) (r : ListRead) (xs s : List ℕ) (a : ℕ) (from : a 
       let e : ℕ = a + find 44 (drop a s) in
       let p : take (e - a) (drop a s) ≡ itemAt s a = cut-part s a e refl in
       by-lt e (length s)
-        (λ h. f (split 44 (drop (e + 1) s)) (cut-more 44 s a e refl from h ∙ ap (λ (q : List ℕ). q ∷ split 44 (drop (e + 1) s)) p))
-        (λ h. f [] (cut-last 44 s a e refl from h ∙ ap (λ (q : List ℕ). q ∷ []) p))
+      (λ h. f (split 44 (drop (e + 1) s)) (cut-more 44 s a e refl from h ∙ ap (λ (q : List ℕ). q ∷ split 44 (drop (e + 1) s)) p))
+      (λ h. f [] (cut-last 44 s a e refl from h ∙ ap (λ (q : List ℕ). q ∷ []) p))
 
   module _ (bad : isNumber (itemAt s a) ≡ false) where
     pub turn-not : answerFrom bound max r (split 44 (drop a s)) ≡ NotList
@@ -332,29 +332,29 @@ module _ (bound max : ℕ) (r : ListRead) (xs s : List ℕ) (a : ℕ) (from : a 
     pub turn-last : length s ≤ e → answerFrom bound max r (split 44 (drop a s)) ≡ pushed bound max r v
     turn-last h =
         rw (last h)
-          (answer-next bound max r (itemAt s a) [] good
-           ∙ answer-end bound max (pushed bound max r (value (itemAt s a)))
-           ∙ sym (pushed-told bound max v (value (itemAt s a)) told r))
+        (answer-next bound max r (itemAt s a) [] good
+        ∙ answer-end bound max (pushed bound max r (value (itemAt s a)))
+        ∙ sym (pushed-told bound max v (value (itemAt s a)) told r))
 
     pub turn-kept : length s ≤ e → placesFrom bound max r (split 44 (drop a s)) xs ≡ kept bound max r v xs
     turn-kept h =
         rw (last h)
-          (places-next bound max r (itemAt s a) [] xs good
-           ∙ places-end bound max (pushed bound max r (value (itemAt s a))) (kept bound max r (value (itemAt s a)) xs)
-           ∙ sym (kept-told bound max v (value (itemAt s a)) told r xs))
+        (places-next bound max r (itemAt s a) [] xs good
+        ∙ places-end bound max (pushed bound max r (value (itemAt s a))) (kept bound max r (value (itemAt s a)) xs)
+        ∙ sym (kept-told bound max v (value (itemAt s a)) told r xs))
 
     pub turn-answer : e < length s
         → answerFrom bound max r (split 44 (drop a s)) ≡ answerFrom bound max (pushed bound max r v) (split 44 (drop (e + 1) s))
     turn-answer h =
         rw (more h, pushed-told bound max v (value (itemAt s a)) told r)
-          (answer-next bound max r (itemAt s a) (split 44 (drop (e + 1) s)) good)
+        (answer-next bound max r (itemAt s a) (split 44 (drop (e + 1) s)) good)
 
     pub turn-places : e < length s
         → placesFrom bound max r (split 44 (drop a s)) xs
-          ≡ placesFrom bound max (pushed bound max r v) (split 44 (drop (e + 1) s)) (kept bound max r v xs)
+        ≡ placesFrom bound max (pushed bound max r v) (split 44 (drop (e + 1) s)) (kept bound max r v xs)
     turn-places h =
         rw (more h, pushed-told bound max v (value (itemAt s a)) told r, kept-told bound max v (value (itemAt s a)) told r xs)
-          (places-next bound max r (itemAt s a) (split 44 (drop (e + 1) s)) xs good)
+        (places-next bound max r (itemAt s a) (split 44 (drop (e + 1) s)) xs good)
 
 leading-empty : (bound max : ℕ) → leading bound max [] ≡ []
 unfolding leading
@@ -391,15 +391,15 @@ unfolding listOf judged
 is-list bound max n f q =
     let ps = itemsOf f in
     by-bool (allNumbers ps)
-      (λ a. by-bool (allBelow bound ps)
-        (λ b. by-bool (leb (length ps) max)
-          (λ l.
-            let t : Listed (length ps) ≡ Listed n = rw (a, b, l) at q in
-            let k : length ps ≡ n = cc in
-            record { numbers = a; small = b; count = k; few = omega (arith, leb-true (length ps) max l) })
-          (λ l. let t : Many ≡ Listed n = rw (a, b, l) at q in let z : _≡_ {A = ℕ} 0 1 = cc in absurd (omega arith)))
-        (λ b. let t : Over ≡ Listed n = rw (a, b) at q in let z : _≡_ {A = ℕ} 0 1 = cc in absurd (omega arith)))
-      (λ a. let t : NotList ≡ Listed n = rw a at q in let z : _≡_ {A = ℕ} 0 1 = cc in absurd (omega arith))
+    (λ a. by-bool (allBelow bound ps)
+    (λ b. by-bool (leb (length ps) max)
+    (λ l.
+    let t : Listed (length ps) ≡ Listed n = rw (a, b, l) at q in
+    let k : length ps ≡ n = cc in
+    record { numbers = a; small = b; count = k; few = omega (arith, leb-true (length ps) max l) })
+    (λ l. let t : Many ≡ Listed n = rw (a, b, l) at q in let z : _≡_ {A = ℕ} 0 1 = cc in absurd (omega arith)))
+    (λ b. let t : Over ≡ Listed n = rw (a, b) at q in let z : _≡_ {A = ℕ} 0 1 = cc in absurd (omega arith)))
+    (λ a. let t : NotList ≡ Listed n = rw a at q in let z : _≡_ {A = ℕ} 0 1 = cc in absurd (omega arith))
 
 -- the leading numbers of a list are all its numbers
 leading-all : (bound max : ℕ) (ps : List (List ℕ)) → allNumbers ps ≡ true → allBelow bound ps ≡ true → length ps ≤ max
@@ -410,9 +410,9 @@ leading-all bound (suc max) [] a b l = refl
 leading-all bound zero (p ∷ ps) a b l = absurd (not-suc-le-zero l)
 leading-all bound (suc max) (p ∷ ps) a b l =
     rw (and-left (isNumber p) (allNumbers ps) a, and-left (ltb (value p) bound) (allBelow bound ps) b)
-      (ap (λ (q : List ℕ). value p ∷ q)
-        (leading-all bound max ps (and-right (isNumber p) (allNumbers ps) a) (and-right (ltb (value p) bound) (allBelow bound ps) b)
-          (le-of-suc-le-suc l)))
+    (ap (λ (q : List ℕ). value p ∷ q)
+    (leading-all bound max ps (and-right (isNumber p) (allNumbers ps) a) (and-right (ltb (value p) bound) (allBelow bound ps) b)
+    (le-of-suc-le-suc l)))
 
 pub leading-numbers : (bound max n : ℕ) (f : List ℕ) → IsList bound max n f → leading bound max (itemsOf f) ≡ numbersOf f
 unfolding numbersOf

@@ -72,11 +72,11 @@ pub below-push : (bound v b : ℕ) (bs : List ℕ)
 unfolding valueFrom pushDigit
 below-push bound v b bs =
     by-lt v bound
-      (λ h. rw (lt-ltb v bound h))
-      (λ h.
-        rw (le-ltb v bound h)
-          (below-not bound (valueFrom (v * 10 + (b - 48)) bs) (le-trans (omega arith) (from-ge (v * 10 + (b - 48)) bs))
-           ∙ sym (below-not bound (valueFrom v bs) (le-trans h (from-ge v bs)))))
+    (λ h. rw (lt-ltb v bound h))
+    (λ h.
+    rw (le-ltb v bound h)
+    (below-not bound (valueFrom (v * 10 + (b - 48)) bs) (le-trans (omega arith) (from-ge (v * 10 + (b - 48)) bs))
+    ∙ sym (below-not bound (valueFrom v bs) (le-trans h (from-ge v bs)))))
 
 pub below-none : (bound v : ℕ) → below bound (valueFrom v []) ≡ below bound v
 unfolding valueFrom
@@ -112,11 +112,11 @@ unfolding digits allDigits find
 digits-part b [] n e = refl
 digits-part b (x ∷ s) n e =
     by-bool (eqb x b)
-      (λ q. let d : isDigit x ≡ false = ap isDigit (eqb-true x b q) ∙ n in rw (q, d))
-      (λ q.
-        let a : isDigit x && allDigits (take (find b s) s) ≡ true = rw q at e in
-        rw (q, and-left (isDigit x) (allDigits (take (find b s) s)) a)
-          (ap (λ (l : List ℕ). x ∷ l) (digits-part b s n (and-right (isDigit x) (allDigits (take (find b s) s)) a))))
+    (λ q. let d : isDigit x ≡ false = ap isDigit (eqb-true x b q) ∙ n in rw (q, d))
+    (λ q.
+    let a : isDigit x && allDigits (take (find b s) s) ≡ true = rw q at e in
+    rw (q, and-left (isDigit x) (allDigits (take (find b s) s)) a)
+    (ap (λ (l : List ℕ). x ∷ l) (digits-part b s n (and-right (isDigit x) (allDigits (take (find b s) s)) a))))
 
 pub digits-whole : (s : List ℕ) → allDigits s ≡ true → digits s ≡ s
 unfolding digits allDigits
@@ -172,8 +172,8 @@ module _ (f : List ℕ) (e : ℕ) (found : e ≡ length (digits f)) where
   pub read-short : (e ≡ length f → ⊥) → isNumber f ≡ false
   read-short n =
       by-bool (isNumber f)
-        (λ q. absurd (n (found ∙ ap length (digits-whole f (number-digits f q)))))
-        (λ q. q)
+      (λ q. absurd (n (found ∙ ap length (digits-whole f (number-digits f q)))))
+      (λ q. q)
 
   module _ (all : e ≡ length f) where
     pub read-whole : digits f ≡ f
@@ -185,8 +185,8 @@ module _ (f : List ℕ) (e : ℕ) (found : e ≡ length (digits f)) where
     pub read-not : startsWell (take (e - 0) f) ≡ false → isNumber f ≡ false
     read-not q =
         by-bool (isNumber f)
-          (λ n. absurd (false≢true (sym q ∙ ap startsWell whole ∙ number-starts f n)))
-          (λ n. n)
+        (λ n. absurd (false≢true (sym q ∙ ap startsWell whole ∙ number-starts f n)))
+        (λ n. n)
 
     pub read-is : startsWell (take (e - 0) f) ≡ true → isNumber f ≡ true
     read-is q = number-is f (ap startsWell (sym whole) ∙ q) (ap allDigits (sym read-whole) ∙ digits-all f)
@@ -210,26 +210,26 @@ module _ (bound : ℕ) (f : List ℕ) where
   pub not-number : numberOf bound f ≡ NotNumber → isNumber f ≡ false
   not-number q =
       by-bool (isNumber f)
-        (λ e. by-lt (value f) bound
-          (λ h. let o = number-value e h in let z : _≡_ {A = ℕ} 0 1 = cc in absurd (omega arith))
-          (λ h. let o = number-over e h in let z : _≡_ {A = ℕ} 0 1 = cc in absurd (omega arith)))
-        (λ e. e)
+      (λ e. by-lt (value f) bound
+      (λ h. let o = number-value e h in let z : _≡_ {A = ℕ} 0 1 = cc in absurd (omega arith))
+      (λ h. let o = number-over e h in let z : _≡_ {A = ℕ} 0 1 = cc in absurd (omega arith)))
+      (λ e. e)
 
   pub over-number : numberOf bound f ≡ Over → (isNumber f ≡ true) × (bound ≤ value f)
   over-number q =
       by-bool (isNumber f)
-        (λ e. by-lt (value f) bound
-          (λ h. let o = number-value e h in let z : _≡_ {A = ℕ} 0 1 = cc in absurd (omega arith))
-          (λ h. (e, h)))
-        (λ e. let o = number-not e in let z : _≡_ {A = ℕ} 0 1 = cc in absurd (omega arith))
+      (λ e. by-lt (value f) bound
+      (λ h. let o = number-value e h in let z : _≡_ {A = ℕ} 0 1 = cc in absurd (omega arith))
+      (λ h. (e, h)))
+      (λ e. let o = number-not e in let z : _≡_ {A = ℕ} 0 1 = cc in absurd (omega arith))
 
   pub value-number : (v : ℕ) → numberOf bound f ≡ Value v → (isNumber f ≡ true) × (value f ≡ v) × (v < bound)
   value-number v q =
       by-bool (isNumber f)
-        (λ e. by-lt (value f) bound
-          (λ h. let o = number-value e h in let z : value f ≡ v = cc in (e, z, omega arith))
-          (λ h. let o = number-over e h in let z : _≡_ {A = ℕ} 0 1 = cc in absurd (omega arith)))
-        (λ e. let o = number-not e in let z : _≡_ {A = ℕ} 0 1 = cc in absurd (omega arith))
+      (λ e. by-lt (value f) bound
+      (λ h. let o = number-value e h in let z : value f ≡ v = cc in (e, z, omega arith))
+      (λ h. let o = number-over e h in let z : _≡_ {A = ℕ} 0 1 = cc in absurd (omega arith)))
+      (λ e. let o = number-not e in let z : _≡_ {A = ℕ} 0 1 = cc in absurd (omega arith))
 
 -- a value that is below the bound, and one that is not, by the digits read
 module _ (bound v n : ℕ) (told : below bound v ≡ below bound n) where
@@ -242,11 +242,11 @@ module _ (bound v n : ℕ) (told : below bound v ≡ below bound n) where
   pub told-same : v < bound → v ≡ n
   told-same h =
       by-lt n bound
-        (λ k. let p = told-value h in let q = below-value bound n k in cc)
-        (λ k. let p = told-value h in let q = below-not bound n k in let z : _≡_ {A = ℕ} 0 1 = cc in absurd (omega arith))
+      (λ k. let p = told-value h in let q = below-value bound n k in cc)
+      (λ k. let p = told-value h in let q = below-not bound n k in let z : _≡_ {A = ℕ} 0 1 = cc in absurd (omega arith))
 
   pub told-not : bound ≤ v → bound ≤ n
   told-not h =
       by-lt n bound
-        (λ k. let p = told-over h in let q = below-value bound n k in let z : _≡_ {A = ℕ} 0 1 = cc in absurd (omega arith))
-        (λ k. k)
+      (λ k. let p = told-over h in let q = below-value bound n k in let z : _≡_ {A = ℕ} 0 1 = cc in absurd (omega arith))
+      (λ k. k)

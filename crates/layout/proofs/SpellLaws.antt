@@ -85,8 +85,8 @@ pub spell-short : (k n : ℕ) → n < 10 ^ suc k → length (spell n) ≤ suc k
 spell-short zero n h = omega (arith, length-low n h)
 spell-short (suc k) n h =
     by-lt n 10
-      (λ q. omega (arith, length-low n q))
-      (λ q. omega (arith, length-high n q, spell-short k (n / 10) (omega (arith, pow-suc 10 (suc k)))))
+    (λ q. omega (arith, length-low n q))
+    (λ q. omega (arith, length-high n q, spell-short k (n / 10) (omega (arith, pow-suc 10 (suc k)))))
 
 -- ---- the value of a spelling
 value-before : (n : ℕ) (r : List ℕ) → valueFrom 0 (spellBefore n r) ≡ valueFrom n r
@@ -132,8 +132,8 @@ pub number-spell : (n : ℕ) → isNumber (spell n) ≡ true
 number-spell n =
     let d = digits-spell n [] ∙ digits-none in
     by-lt 0 n
-      (λ h. number-is (spell n) (starts-spell n [] h) d)
-      (λ h. number-is (spell n) (starts-zero n (omega arith)) d)
+    (λ h. number-is (spell n) (starts-spell n [] h) d)
+    (λ h. number-is (spell n) (starts-zero n (omega arith)) d)
 
 -- ---- a number is the spelling of its value
 spell-digits : (a : ℕ) (bs r : List ℕ) → 0 < a → allDigits bs ≡ true
@@ -198,9 +198,9 @@ module _ (n : ℕ) (f : List ℕ) where
   own-value v q =
       let t = value-number (n + 1) f v q in
       by-eq v n
-        (λ e. let g : spell n ≡ f = ap spell (sym (t .1 ∙ e)) ∙ spell-value f (t .0) in
-          rw (eq-eqb v n e, g) (sym (same-refl f)))
-        (λ e. rw (ne-eqb v n e) (sym (not-spelling (λ k. e (sym (t .1) ∙ k)))))
+      (λ e. let g : spell n ≡ f = ap spell (sym (t .1 ∙ e)) ∙ spell-value f (t .0) in
+      rw (eq-eqb v n e, g) (sym (same-refl f)))
+      (λ e. rw (ne-eqb v n e) (sym (not-spelling (λ k. e (sym (t .1) ∙ k)))))
 
 -- ---- a loop that writes the digits from the last one on
 pub last-spell : (n : ℕ) (r : List ℕ) → lastDigits (length (spell n)) n r ≡ spellBefore n r

@@ -42,7 +42,7 @@ split-more-by : (b x : ℕ) (xs : List ℕ) (t : Bool)
     → (find b xs < length xs → split b xs ≡ take (find b xs) xs ∷ split b (drop (suc (find b xs)) xs))
     → cond t 0 (suc (find b xs)) < suc (length xs)
     → cond t ([] ∷ split b xs) (onFirst x (split b xs))
-      ≡ take (cond t 0 (suc (find b xs))) (x ∷ xs) ∷ split b (drop (suc (cond t 0 (suc (find b xs)))) (x ∷ xs))
+    ≡ take (cond t 0 (suc (find b xs))) (x ∷ xs) ∷ split b (drop (suc (cond t 0 (suc (find b xs)))) (x ∷ xs))
 unfolding onFirst
 split-more-by b x xs true ih h = refl
 split-more-by b x xs false ih h = ap (onFirst x) (ih (le-of-suc-le-suc h))
@@ -115,8 +115,8 @@ module _ (b : ℕ) (s : List ℕ) (a e : ℕ) (found : e ≡ a + find b (drop a 
   pub part-here : getD (split b (drop a s)) 0 [] ≡ take (e - a) (drop a s)
   part-here =
       by-lt e (length s)
-        (λ h. ap (λ (l : List (List ℕ)). getD l 0 []) (cut-more b s a e found ha h))
-        (λ h. ap (λ (l : List (List ℕ)). getD l 0 []) (cut-last b s a e found ha h))
+      (λ h. ap (λ (l : List (List ℕ)). getD l 0 []) (cut-more b s a e found ha h))
+      (λ h. ap (λ (l : List (List ℕ)). getD l 0 []) (cut-last b s a e found ha h))
 
   pub part-next : (j : ℕ) → 0 < j → e < length s
       → getD (split b (drop a s)) j [] ≡ getD (split b (drop (e + 1) s)) (j - 1) []
@@ -152,14 +152,14 @@ unfolding without split onFirst
 split-clean b [] e = refl
 split-clean b (x ∷ p) e =
     rw (not-true (eqb x b) (and-left (not (eqb x b)) (without b p) e))
-      (ap (onFirst x) (split-clean b p (and-right (not (eqb x b)) (without b p) e)))
+    (ap (onFirst x) (split-clean b p (and-right (not (eqb x b)) (without b p) e)))
 
 pub split-append : (b : ℕ) (p s : List ℕ) → without b p ≡ true → split b (p ++ b ∷ s) ≡ p ∷ split b s
 unfolding without split onFirst
 split-append b [] s e = rw (eq-eqb b b refl)
 split-append b (x ∷ p) s e =
     rw (not-true (eqb x b) (and-left (not (eqb x b)) (without b p) e))
-      (ap (onFirst x) (split-append b p s (and-right (not (eqb x b)) (without b p) e)))
+    (ap (onFirst x) (split-append b p s (and-right (not (eqb x b)) (without b p) e)))
 
 -- parts that hold no b, joined and split again
 pub split-join : (b : ℕ) (p : List ℕ) (ps : List (List ℕ)) → allWithout b (p ∷ ps) ≡ true → split b (join b (p ∷ ps)) ≡ p ∷ ps
@@ -199,5 +199,5 @@ join-split b [] = refl
 join-split b (x ∷ s) =
     let ih = join-split b s in
     by-eq x b
-      (λ e. rw (eq-eqb x b e) (join-skip b (split b s) (split-some b s) ∙ rw (ih, e)))
-      (λ e. rw (ne-eqb x b e) (join-onFirst b x (split b s) (split-some b s) ∙ rw ih))
+    (λ e. rw (eq-eqb x b e) (join-skip b (split b s) (split-some b s) ∙ rw (ih, e)))
+    (λ e. rw (ne-eqb x b e) (join-onFirst b x (split b s) (split-some b s) ∙ rw ih))

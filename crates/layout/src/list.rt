@@ -9,13 +9,13 @@ ghost use Rattle.layout.specs.List.{itemsOf, judged, listOf, leading, li
 ghost use Rattle.layout.specs.Fill.{fill, written, after};
 ghost use Rattle.layout.specs.Steps.Number.{digits};
 ghost use Rattle.layout.specs.Steps.List.{pushed, kept, tailText};
-use crate::number::scan_digits;
-use crate::number::starts_well;
-use crate::number::number_len;
-use crate::number::put_number;
-use crate::word::is_word;
 use crate::fill::Written;
 use crate::fill::put_bytes;
+use crate::number::number_len;
+use crate::number::put_number;
+use crate::number::scan_digits;
+use crate::number::starts_well;
+use crate::word::is_word;
 
 // What a field is as a list of at most so many numbers below a bound.
 pub enum ListRead {

@@ -15,7 +15,7 @@ pub enum Number {
 }
 
 // Where the digits from a place on end, and a value that says what they are below the bound.
-pub struct Digits {
+pub(crate) struct Digits {
     pub end: usize,
     pub value: u64,
 }
@@ -32,7 +32,7 @@ fn push_digit(v: u64, bound: u64, b: u8) -> u64
 }
 
 // Reads the digits of s from a place on.
-pub fn scan_digits(s: &[u8], from: usize, bound: u64) -> Digits
+pub(crate) fn scan_digits(s: &[u8], from: usize, bound: u64) -> Digits
     requires { ⌜ (from ≤ length (now s)) × (bound ≤ 4294967296) ⌝ }
     ensures { λ r. ⌜ (r .end ≡ from + length (digits (drop from (now (s .entry))))) × (r .end ≤ length (now (s .entry))) × (below bound (r .value) ≡ below bound (value (digits (drop from (now (s .entry)))))) ⌝ }
 {
@@ -53,7 +53,7 @@ pub fn scan_digits(s: &[u8], from: usize, bound: u64) -> Digits
 }
 
 // Whether the digits from a to e begin as a number does: there is one, and the first of several is not `0`.
-pub fn starts_well(s: &[u8], a: usize, e: usize) -> bool
+pub(crate) fn starts_well(s: &[u8], a: usize, e: usize) -> bool
     requires { ⌜ (a ≤ e) × (e ≤ length (now s)) ⌝ }
     ensures { λ r. ⌜ r ≡ startsWell (take (e - a) (drop a (now (s .entry)))) ⌝ }
 {

@@ -40,10 +40,12 @@ loop-again c =
     let h = c .before .before .loop in
     let a = c .before .before .before .args in
     let s = a .bytes .now in
-    let next : drop (h .i) s ≡ getD s (h .i) 0 ∷ drop (h .i + 1) s = rw add-one (drop-cons s (h .i) 0 (search needs)) in
-    (search needs, simp length-set (search needs),
-     h .inv .2 ∙ ap (λ (l : List ℕ). fillAt (h .i) l (h .part)) next
-     ∙ sym (fillAt-set (h .i) (getD s (h .i) 0) (drop (h .i + 1) s) (h .part) (search needs)))
+    let next : drop (h .i) s ≡ getD s (h .i) 0 ∷ drop (h .i + 1) s = rw add-one (drop-cons s (h .i) 0 (search needs)) in (
+      search needs,
+      simp length-set (search needs),
+      h .inv .2 ∙ ap (λ (l : List ℕ). fillAt (h .i) l (h .part)) next
+          ∙ sym (fillAt-set (h .i) (getD s (h .i) 0) (drop (h .i + 1) s) (h .part) (search needs)),
+    )
 
 same-length : tie.Need-same-length Inv-loop μ-loop
 same-length c = search needs

@@ -48,17 +48,19 @@ returns-2 : tie.Need-returns-2
 returns-2 c =
     let a = c .before .before .before .before .before .args in
     let e = c .before .before .before .so-far .given .1 in
-    let n = c .before .before .before .so-far .given .0 .0 in
-    (rw e (sym (pushed-listed (a .bound) (a .max) (a .v) n (c .before .if2 .taken) (c .if3 .taken))),
-     rw e (sym (kept-listed (a .bound) (a .max) (a .v) n (a .items .now) (c .before .if2 .taken) (c .if3 .taken))))
+    let n = c .before .before .before .so-far .given .0 .0 in (
+      rw e (sym (pushed-listed (a .bound) (a .max) (a .v) n (c .before .if2 .taken) (c .if3 .taken))),
+      rw e (sym (kept-listed (a .bound) (a .max) (a .v) n (a .items .now) (c .before .if2 .taken) (c .if3 .taken))),
+    )
 
 returns-3 : tie.Need-returns-3
 returns-3 c =
     let a = c .before .before .before .before .before .args in
     let e = c .before .before .before .so-far .given .1 in
-    let n = c .before .before .before .so-far .given .0 .0 in
-    (rw e (sym (pushed-many (a .bound) (a .max) (a .v) n (c .before .if2 .taken) (search needs))),
-     rw e (sym (kept-many (a .bound) (a .max) (a .v) n (a .items .now) (c .before .if2 .taken) (search needs))))
+    let n = c .before .before .before .so-far .given .0 .0 in (
+      rw e (sym (pushed-many (a .bound) (a .max) (a .v) n (c .before .if2 .taken) (search needs))),
+      rw e (sym (kept-many (a .bound) (a .max) (a .v) n (a .items .now) (c .before .if2 .taken) (search needs))),
+    )
 
 returns-4 : tie.Need-returns-4
 unfolding pushed kept
@@ -79,9 +81,10 @@ returns-7 : tie.Need-returns-7
 returns-7 c =
     let a = c .before .before .before .before .args in
     let e = c .before .before .so-far .given .1 in
-    let n = c .before .before .so-far .given .0 .0 in
-    (rw e (sym (pushed-over (a .bound) (a .max) (a .v) n (search needs))),
-     rw e (sym (kept-over (a .bound) (a .max) (a .v) n (a .items .now) (search needs))))
+    let n = c .before .before .so-far .given .0 .0 in (
+      rw e (sym (pushed-over (a .bound) (a .max) (a .v) n (search needs))),
+      rw e (sym (kept-over (a .bound) (a .max) (a .v) n (a .items .now) (search needs))),
+    )
 
 pub push-item-spec : {M : Type 1} → statement M
 push-item-spec =

@@ -41,11 +41,12 @@ returns : tie.Need-returns
 returns c =
     let p = c .before .before .put-number in
     let a = c .before .before .before .before .before .args in
-    let b = a .part .now in
-    (omega (arith, p .ensures .0),
-     part-filled 1 (spell (a .x)) (set b 0 44) (p .last .0) (p .ensures .1)
-     ∙ fillAt-set 0 44 (spell (a .x)) b (search needs)
-     ∙ fillAt-zero (44 ∷ spell (a .x)) b)
+    let b = a .part .now in (
+      omega (arith, p .ensures .0),
+      part-filled 1 (spell (a .x)) (set b 0 44) (p .last .0) (p .ensures .1)
+          ∙ fillAt-set 0 44 (spell (a .x)) b (search needs)
+          ∙ fillAt-zero (44 ∷ spell (a .x)) b,
+    )
 
 pub put-item-spec : {M : Type 1} → statement M
 put-item-spec =

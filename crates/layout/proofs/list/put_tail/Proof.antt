@@ -58,10 +58,11 @@ loop-again : tie.Need-loop-again Inv-loop μ-loop
 loop-again c =
     let p = c .before .before .put-item in
     let l = c .before .before .before .before .before .before .loop in
-    let s = c .before .before .before .before .before .before .before .before .before .args .items .now in
-    (search needs,
-     writing-part (l .inv .1) (44 ∷ spell (getD s (l .i) 0)) _ (tail-at s (l .i) (search needs)) (p .result) (p .last .0)
-       (p .ensures .0) (p .ensures .1))
+    let s = c .before .before .before .before .before .before .before .before .before .args .items .now in (
+      search needs,
+      writing-part (l .inv .1) (44 ∷ spell (getD s (l .i) 0)) _ (tail-at s (l .i) (search needs)) (p .result) (p .last .0)
+          (p .ensures .0) (p .ensures .1),
+    )
 
 same-length : tie.Need-same-length Inv-loop μ-loop
 same-length c = c .before .loop .inv .1 .long

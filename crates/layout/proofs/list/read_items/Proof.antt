@@ -23,9 +23,12 @@ abbrev μ-loop : tie.MeasureT-loop
 
 loop-holds : tie.Need-loop-holds Inv-loop μ-loop
 loop-holds c =
-    let a = c .before .before .args in
-    (search needs, refl, sym (answer-is (a .bound) (a .max) (split 44 (a .field .now))),
-     sym (places-are (a .bound) (a .max) (split 44 (a .field .now)) (a .items .now) (search needs)))
+    let a = c .before .before .args in (
+      search needs,
+      refl,
+      sym (answer-is (a .bound) (a .max) (split 44 (a .field .now))),
+      sym (places-are (a .bound) (a .max) (split 44 (a .field .now)) (a .items .now) (search needs)),
+    )
 
 scan-digits-requires : tie.Need-scan-digits-requires Inv-loop μ-loop
 scan-digits-requires c κs = search needs
@@ -46,11 +49,12 @@ returns c =
     let d = i .before .before .scan-digits in
     let l = i .before .before .before .loop in
     let a = i .before .before .before .before .before .before .args in
-    let good = sym (i .before .is-item .ensures) ∙ i .if1 .taken in
-    (p .ensures .0
-     ∙ sym (l .inv .2 ∙ turn-last (a .bound) (a .max) (l .so-far) (l .items) (a .field .now) (l .a) (search needs) (d .result .end) (d .result .value) (d .ensures .0) (search needs) (d .ensures .2) good (search needs)),
-     p .ensures .1
-     ∙ sym (l .inv .3 ∙ turn-kept (a .bound) (a .max) (l .so-far) (l .items) (a .field .now) (l .a) (search needs) (d .result .end) (d .result .value) (d .ensures .0) (search needs) (d .ensures .2) good (search needs)))
+    let good = sym (i .before .is-item .ensures) ∙ i .if1 .taken in (
+      p .ensures .0
+          ∙ sym (l .inv .2 ∙ turn-last (a .bound) (a .max) (l .so-far) (l .items) (a .field .now) (l .a) (search needs) (d .result .end) (d .result .value) (d .ensures .0) (search needs) (d .ensures .2) good (search needs)),
+      p .ensures .1
+          ∙ sym (l .inv .3 ∙ turn-kept (a .bound) (a .max) (l .so-far) (l .items) (a .field .now) (l .a) (search needs) (d .result .end) (d .result .value) (d .ensures .0) (search needs) (d .ensures .2) good (search needs)),
+    )
 
 add-a : tie.Need-add-a Inv-loop μ-loop
 add-a c = search needs
@@ -65,13 +69,14 @@ loop-again c =
     let d = i .before .before .scan-digits in
     let l = i .before .before .before .loop in
     let a = i .before .before .before .before .before .before .args in
-    let good = sym (i .before .is-item .ensures) ∙ i .if1 .taken in
-    (search needs,
-     ap length (p .ensures .1) ∙ kept-length (a .bound) (a .max) (l .so-far) (d .result .value) (l .items) ∙ l .inv .1,
-     rw (p .ensures .0)
-       (l .inv .2 ∙ turn-answer (a .bound) (a .max) (l .so-far) (l .items) (a .field .now) (l .a) (search needs) (d .result .end) (d .result .value) (d .ensures .0) (search needs) (d .ensures .2) good (search needs)),
-     rw (p .ensures .0, p .ensures .1)
-       (l .inv .3 ∙ turn-places (a .bound) (a .max) (l .so-far) (l .items) (a .field .now) (l .a) (search needs) (d .result .end) (d .result .value) (d .ensures .0) (search needs) (d .ensures .2) good (search needs)))
+    let good = sym (i .before .is-item .ensures) ∙ i .if1 .taken in (
+      search needs,
+      ap length (p .ensures .1) ∙ kept-length (a .bound) (a .max) (l .so-far) (d .result .value) (l .items) ∙ l .inv .1,
+      rw (p .ensures .0)
+          (l .inv .2 ∙ turn-answer (a .bound) (a .max) (l .so-far) (l .items) (a .field .now) (l .a) (search needs) (d .result .end) (d .result .value) (d .ensures .0) (search needs) (d .ensures .2) good (search needs)),
+      rw (p .ensures .0, p .ensures .1)
+          (l .inv .3 ∙ turn-places (a .bound) (a .max) (l .so-far) (l .items) (a .field .now) (l .a) (search needs) (d .result .end) (d .result .value) (d .ensures .0) (search needs) (d .ensures .2) good (search needs)),
+    )
 
 same-length-2 : tie.Need-same-length-2 Inv-loop μ-loop
 same-length-2 c = search needs
@@ -81,9 +86,10 @@ returns-2 c =
     let d = c .before .before .scan-digits in
     let l = c .before .before .before .loop in
     let a = c .before .before .before .before .before .before .args in
-    let bad = sym (c .before .is-item .ensures) ∙ c .if1 .left in
-    (sym (l .inv .2 ∙ turn-not (a .bound) (a .max) (l .so-far) (l .items) (a .field .now) (l .a) (search needs) bad),
-     sym (l .inv .3 ∙ turn-left (a .bound) (a .max) (l .so-far) (l .items) (a .field .now) (l .a) (search needs) bad))
+    let bad = sym (c .before .is-item .ensures) ∙ c .if1 .left in (
+      sym (l .inv .2 ∙ turn-not (a .bound) (a .max) (l .so-far) (l .items) (a .field .now) (l .a) (search needs) bad),
+      sym (l .inv .3 ∙ turn-left (a .bound) (a .max) (l .so-far) (l .items) (a .field .now) (l .a) (search needs) bad),
+    )
 
 pub read-items-spec : {M : Type 1} → statement M
 read-items-spec =

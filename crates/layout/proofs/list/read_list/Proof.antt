@@ -18,9 +18,10 @@ returns : tie.Need-returns
 unfolding fill
 returns c =
     let a = c .before .before .before .before .before .args in
-    let e = sym (c .before .is-word .ensures) ∙ c .if1 .taken in
-    (sym (list-none (a .bound) (a .max) (a .field .now) e),
-     sym (ap (λ (l : List ℕ). fill l (a .items .now)) (leading-none (a .bound) (a .max) (a .field .now) e)))
+    let e = sym (c .before .is-word .ensures) ∙ c .if1 .taken in (
+      sym (list-none (a .bound) (a .max) (a .field .now) e),
+      sym (ap (λ (l : List ℕ). fill l (a .items .now)) (leading-none (a .bound) (a .max) (a .field .now) e)),
+    )
 
 read-items-requires : tie.Need-read-items-requires
 read-items-requires c κs = search needs
@@ -33,9 +34,10 @@ returns-2 c =
     let r = c .before .before .read-items in
     let i = c .before .before .before .before in
     let a = i .before .before .before .before .before .args in
-    let e = sym (i .before .is-word .ensures) ∙ i .if1 .left in
-    (r .ensures .0 ∙ sym (list-items (a .bound) (a .max) (a .field .now) e),
-     r .ensures .1 ∙ ap (λ (l : List ℕ). fill l (a .items .now)) (sym (leading-items (a .bound) (a .max) (a .field .now) e)))
+    let e = sym (i .before .is-word .ensures) ∙ i .if1 .left in (
+      r .ensures .0 ∙ sym (list-items (a .bound) (a .max) (a .field .now) e),
+      r .ensures .1 ∙ ap (λ (l : List ℕ). fill l (a .items .now)) (sym (leading-items (a .bound) (a .max) (a .field .now) e)),
+    )
 
 pub read-list-spec : {M : Type 1} → statement M
 read-list-spec =

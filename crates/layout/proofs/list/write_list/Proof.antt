@@ -26,9 +26,10 @@ returns-2 : tie.Need-returns-2
 returns-2 c =
     let k = c .before .before .before .before .before .list-len in
     let p = c .before .before .put-list in
-    let a = c .before .before .before .before .before .before .before .before .args in
-    (ap Wrote (k .ensures .0) ∙ sym (written-fits _ (a .part .now) (omega (arith, k .ensures .0))),
-     p .ensures .1 ∙ sym (after-fits _ (a .part .now) (omega (arith, k .ensures .0))))
+    let a = c .before .before .before .before .before .before .before .before .args in (
+      ap Wrote (k .ensures .0) ∙ sym (written-fits _ (a .part .now) (omega (arith, k .ensures .0))),
+      p .ensures .1 ∙ sym (after-fits _ (a .part .now) (omega (arith, k .ensures .0))),
+    )
 
 pub write-list-spec : {M : Type 1} → statement M
 write-list-spec =

@@ -32,17 +32,21 @@ returns : tie.Need-returns Inv-loop μ-loop
 returns c =
     let h = c .before .before .before in
     let a = h .before .before .args in
-    let none = digits-stop (a .s .now) (h .loop .i) (search needs) (digit-low _ (c .if1 .taken)) in
-    (omega (arith, ap length none), search needs,
-     sym (h .loop .inv .4 ∙ ap (λ (l : List ℕ). below (a .bound) (valueFrom (h .loop .v) l)) none ∙ below-none (a .bound) (h .loop .v)))
+    let none = digits-stop (a .s .now) (h .loop .i) (search needs) (digit-low _ (c .if1 .taken)) in (
+      omega (arith, ap length none),
+      search needs,
+      sym (h .loop .inv .4 ∙ ap (λ (l : List ℕ). below (a .bound) (valueFrom (h .loop .v) l)) none ∙ below-none (a .bound) (h .loop .v)),
+    )
 
 returns-2 : tie.Need-returns-2 Inv-loop μ-loop
 returns-2 c =
     let h = c .before .before .before .before in
     let a = h .before .before .args in
-    let none = digits-stop (a .s .now) (h .loop .i) (search needs) (digit-high _ (c .if2 .taken)) in
-    (omega (arith, ap length none), search needs,
-     sym (h .loop .inv .4 ∙ ap (λ (l : List ℕ). below (a .bound) (valueFrom (h .loop .v) l)) none ∙ below-none (a .bound) (h .loop .v)))
+    let none = digits-stop (a .s .now) (h .loop .i) (search needs) (digit-high _ (c .if2 .taken)) in (
+      omega (arith, ap length none),
+      search needs,
+      sym (h .loop .inv .4 ∙ ap (λ (l : List ℕ). below (a .bound) (valueFrom (h .loop .v) l)) none ∙ below-none (a .bound) (h .loop .v)),
+    )
 
 push-digit-requires : tie.Need-push-digit-requires Inv-loop μ-loop
 push-digit-requires c κs = search needs
@@ -58,20 +62,26 @@ loop-again c =
     let h = c .before .before .before .before .before in
     let a = h .before .before .args in
     let p = c .push-digit in
-    let more = digits-next (a .s .now) (h .loop .i) (search needs) (digit-is _ (search needs) (search needs)) in
-    (search needs, search needs, search needs, omega (arith, ap length more),
-     h .loop .inv .4
-     ∙ ap (λ (l : List ℕ). below (a .bound) (valueFrom (h .loop .v) l)) more
-     ∙ below-push (a .bound) (h .loop .v) (getD (a .s .now) (h .loop .i) 0) (digits (drop (h .loop .i + 1) (a .s .now)))
-     ∙ ap (λ (w : ℕ). below (a .bound) (valueFrom w (digits (drop (h .loop .i + 1) (a .s .now))))) (sym (p .ensures .0)))
+    let more = digits-next (a .s .now) (h .loop .i) (search needs) (digit-is _ (search needs) (search needs)) in (
+      search needs,
+      search needs,
+      search needs,
+      omega (arith, ap length more),
+      h .loop .inv .4
+          ∙ ap (λ (l : List ℕ). below (a .bound) (valueFrom (h .loop .v) l)) more
+          ∙ below-push (a .bound) (h .loop .v) (getD (a .s .now) (h .loop .i) 0) (digits (drop (h .loop .i + 1) (a .s .now)))
+          ∙ ap (λ (w : ℕ). below (a .bound) (valueFrom w (digits (drop (h .loop .i + 1) (a .s .now))))) (sym (p .ensures .0)),
+    )
 
 returns-3 : tie.Need-returns-3 Inv-loop μ-loop
 returns-3 c =
     let h = c .before in
     let a = h .before .before .args in
-    let none = digits-end (a .s .now) (h .loop .i) (search needs) in
-    (omega (arith, ap length none), search needs,
-     sym (h .loop .inv .4 ∙ ap (λ (l : List ℕ). below (a .bound) (valueFrom (h .loop .v) l)) none ∙ below-none (a .bound) (h .loop .v)))
+    let none = digits-end (a .s .now) (h .loop .i) (search needs) in (
+      omega (arith, ap length none),
+      search needs,
+      sym (h .loop .inv .4 ∙ ap (λ (l : List ℕ). below (a .bound) (valueFrom (h .loop .v) l)) none ∙ below-none (a .bound) (h .loop .v)),
+    )
 
 pub scan-digits-spec : {M : Type 1} → statement M
 scan-digits-spec =

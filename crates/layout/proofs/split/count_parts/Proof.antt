@@ -37,7 +37,7 @@ loop-again c =
     let s = h .before .args .s .now in
     let b = h .before .args .b in
     ⊎-elim (λ w. omega (arith, count-here b s (h .loop .i) (search needs) (w .0 .taken)))
-      (λ w. omega (arith, count-next b s (h .loop .i) (search needs) (w .0 .left))) (c .if1 .came)
+    (λ w. omega (arith, count-next b s (h .loop .i) (search needs) (w .0 .left))) (c .if1 .came)
 
 returns : tie.Need-returns Inv-loop μ-loop
 returns c =
