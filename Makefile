@@ -1,9 +1,15 @@
 # make test   the whole gate: formatting, then every proof, must-fail edit and program; its last line is 'N passed, 0 failed'
-# make run    runs the sample program of the lowest layer
+# make run    proves, builds and runs the newest program: the lowest layer on some fields, until the checker stands
 
-.PHONY: run test
+.PHONY: run test rt
 
-test:
-	@command -v rt >/dev/null || { echo "the Rattle kit is missing: its command rt is not on the path"; exit 1; }
+test: rt
 	rt fmt --check
 	rt ci
+
+run: rt
+	rt check layout_cases
+	target/bin/layout_cases
+
+rt:
+	@command -v rt >/dev/null || { echo "The Rattle kit is missing: its command rt is not on the path."; exit 1; }

@@ -9,7 +9,7 @@ fn say(bytes: &[u8]) {
     io::write_all(STDOUT_FILENO, bytes);
 }
 
-fn say_buffer(buffer: &[u8; 12]) {
+fn say_buffer(buffer: &[u8; 8]) {
     let all: &[u8] = buffer;
     say(all);
 }
@@ -26,11 +26,11 @@ fn say_number(field: &[u8]) {
     }
 }
 
-// Writes a list back into a part of the buffer with room for ten bytes, and shows that part.
+// Writes a list back into a part of the buffer with room for six bytes, and shows that part.
 fn say_written(items: &[u32]) {
-    let mut buffer = [46u8; 12];
+    let mut buffer = [46u8; 8];
     if items.len() <= 64 {
-        let w = layout::list::write_list(&mut buffer[1..11], items);
+        let w = layout::list::write_list(&mut buffer[1..7], items);
         match w {
             Written::Wrote(n) => {
                 say(b", written in ");
