@@ -5,7 +5,7 @@ use native.Mathlib.Numerals.{add-one, sub-one}
 use native.Mathlib.Omega.{arith}
 use mathlib.Core.Path.{_≡_, refl, sym, ap, _∙_}
 use mathlib.Core.Bool.{Bool, true, false, cond, not, _&&_}
-use mathlib.Core.List.{List, [], _∷_, _++_}
+use mathlib.Core.List.{List, [], _∷_, _++_, append-assoc}
 use lib.ListN.{length, getD, take, drop, length-drop, drop-of-length-le}
 use lib.Seq.{drop-cons, drop-drop, take-all}
 use lib.Dec.{eqb}
@@ -81,6 +81,25 @@ module _ (b : ℕ) (s : List ℕ) (a e : ℕ) (found : e ≡ a + find b (drop a 
   cut-last h =
       split-last b (drop a s) (omega (arith, length-drop a s))
       ∙ ap (λ (l : List ℕ). l ∷ []) (sym (take-all (e - a) (drop a s) (omega (arith, length-drop a s))))
+
+-- ---- parts cut one after the other: the parts fs, and the rest from a on
+pub record Cut (b : ℕ) (s : List ℕ) (fs : List (List ℕ)) (a : ℕ) : Type 0 where
+  pub is : split b s ≡ fs ++ split b (drop a s)
+
+pub cut-begins : (b : ℕ) (s : List ℕ) → Cut b s [] 0
+cut-begins b s = record { is = refl }
+
+module _ {b : ℕ} {s : List ℕ} {fs : List (List ℕ)} {a : ℕ} (c : Cut b s fs a) (e : ℕ) (found : e ≡ a + find b (drop a s)) (ha : a ≤ length s) where
+  pub cut-next : e < length s → Cut b s (fs ++ take (e - a) (drop a s) ∷ []) (e + 1)
+  cut-next h = record {
+    is =
+      c .is
+      ∙ ap (λ (l : List (List ℕ)). fs ++ l) (cut-more b s a e found ha h)
+      ∙ sym (append-assoc fs (take (e - a) (drop a s) ∷ []) (split b (drop (e + 1) s)))
+  }
+
+  pub cut-ends : length s ≤ e → split b s ≡ fs ++ take (e - a) (drop a s) ∷ []
+  cut-ends h = c .is ∙ ap (λ (l : List (List ℕ)). fs ++ l) (cut-last b s a e found ha h)
 
 -- ---- counting the parts
 first-long : (x : ℕ) (l : List (List ℕ)) → length (onFirst x l) ≡ length l

@@ -1,0 +1,102 @@
+-- Laws of the line of an object. Assumes nothing.
+use Prim.Native.Nat.{ℕ, _-_, _+_, _≤_, _<_}
+use native.Mathlib.Omega.{arith}
+use mathlib.Core.Path.{_≡_, refl, sym, ap, ap₂, _∙_}
+use mathlib.Core.Bool.{Bool, true, false, cond, not, _&&_, _||_, false≢true, and-true}
+use mathlib.Core.List.{List, [], _∷_}
+use lib.ListN.{length, getD, take, drop}
+use lib.Dec.{eqb, ltb}
+use borrow.Author.Tests.{eq-eqb, ne-eqb}
+use Rattle.layout.specs.Split.{find, split}
+use Rattle.layout.specs.Word.{same, dash}
+use Rattle.layout.specs.Number.{isNumber, value, spell}
+use Rattle.layout.proofs.Cases.{by-bool, and-left, and-right, and-false}
+use Rattle.layout.proofs.SplitLaws.{cut-more, cut-last}
+use Rattle.history.specs.declared.record.Kind.{Kind}
+use Rattle.history.specs.declared.record.Object.{Object}
+use Rattle.history.specs.declared.field.OptionalField.{OptionalField}
+use Rattle.history.specs.declared.object.ObjectRead.{ObjectRead}
+use Rattle.history.specs.Kinds.{isKind, kindOf, isWindow}
+use Rattle.history.specs.Faults.{firstFault, isOptional, optional, objectLayout, objectLimits, objectFits, objectFault, faultyObject, objectWith, objectThree, objectFields, objectLine}
+use Rattle.history.specs.Steps.Fields.{isBelow, optionalField}
+use Rattle.history.proofs.FaultLaws.{InOrder, fault-same, fault-none, below-is, optional-is}
+
+-- the reader's test of a width's limits is document 01's, where the width is `-` or a number
+width-limits : (own : ℕ) (w : List ℕ) → isOptional w ≡ true
+    → ltb own 16 && optionalField 9 w .below && (optionalField 9 w .dash || ltb 0 (optionalField 9 w .value)) ≡ objectLimits own w
+unfolding isOptional optionalField objectLimits
+width-limits own w o =
+    by-bool (ltb own 16)
+      (λ h. by-bool (same w dash)
+        (λ d. rw (h, d))
+        (λ d.
+          let n : isNumber w ≡ true = rw d at o in
+          rw (h, d, below-is 9 w n)
+            (by-bool (ltb (value w) 9)
+              (λ b. rw b (sym (and-true (ltb 0 (value w)))))
+              (λ b. rw b (sym (and-false (ltb 0 (value w))))))))
+      (λ h. rw h)
+
+-- ---- what the reader judges is the first fault of the fields
+fits-is : (k w : List ℕ) → cond (isWindow (kindOf k)) (not (optionalField 9 w .dash)) (optionalField 9 w .dash) ≡ objectFits k w
+unfolding optionalField objectFits
+fits-is k w = refl
+
+layout-is : (own : ℕ) (a k w : List ℕ) → same a (spell own) && isKind k && optionalField 9 w .spelt ≡ objectLayout own a k w
+unfolding optionalField objectLayout
+layout-is own a k w = refl
+
+layout-width : (own : ℕ) (a k w : List ℕ) → objectLayout own a k w ≡ true → isOptional w ≡ true
+unfolding objectLayout
+layout-width own a k w l = and-right (same a (spell own) && isKind k) (isOptional w) l
+
+module _ (own : ℕ) (a k w : List ℕ) (numbered known : Bool) (kind : Kind) (width : OptionalField) (window fits : Bool)
+    (n : numbered ≡ same a (spell own)) (q : known ≡ isKind k) (t : kind ≡ kindOf k) (o : width ≡ optionalField 9 w)
+    (v : window ≡ isWindow kind) (i : fits ≡ cond window (not (width .dash)) (width .dash)) where
+  pub object-judged : firstFault (numbered && known && width .spelt) (ltb own 16 && width .below && (width .dash || ltb 0 (width .value))) fits true
+      ≡ objectFault own a k w
+  unfolding objectFault
+  object-judged =
+      rw (i, v, n, q, o, t, layout-is own a k w, fits-is k w)
+        (fault-same (objectLayout own a k w) _ (objectLimits own w) (objectFits k w) (objectFits k w) true true
+          (λ l. width-limits own w (layout-width own a k w l))
+          (λ l m. (refl, refl)))
+
+-- ---- the object, or its fault
+module _ (own : ℕ) (a k w : List ℕ) where
+  pub three-faulty : (objectFault own a k w ≡ 0 → ⊥) → objectThree own a k w ≡ faultyObject (objectFault own a k w)
+  unfolding objectThree
+  three-faulty h = rw (ne-eqb (objectFault own a k w) 0 h)
+
+  -- what a line without a fault says
+  pub three-order : objectFault own a k w ≡ 0 → InOrder (objectLayout own a k w) (objectLimits own w) (objectFits k w) true
+  unfolding objectFault
+  three-order e = fault-none _ _ _ _ e
+
+  limits-below : objectLimits own w ≡ true → isOptional w ≡ true → same w dash || isBelow 9 w ≡ true
+  unfolding objectLimits isOptional
+  limits-below m o =
+      by-bool (same w dash)
+        (λ d. rw d)
+        (λ d.
+          let n : isNumber w ≡ true = rw d at o in
+          let l : ltb 0 (value w) && ltb (value w) 9 ≡ true = rw d at (and-right (ltb own 16) _ m) in
+          rw d (below-is 9 w n ∙ and-right (ltb 0 (value w)) (ltb (value w) 9) l))
+
+  pub three-object : (kind : Kind) (width : OptionalField) → kind ≡ kindOf k → width ≡ optionalField 9 w → objectFault own a k w ≡ 0
+      → _≡_ {A = ObjectRead} (record { fault = 0; object = record { kind = kind; width = width .value } }) (objectThree own a k w)
+  unfolding objectThree
+  three-object kind width t o e =
+      let i = three-order e in
+      let v = optional-is 9 w (limits-below (i .limits) (layout-width own a k w (i .layout))) in
+      rw (t, o, eq-eqb (objectFault own a k w) 0 e, v)
+
+-- ---- the line, by its fields
+module _ (own : ℕ) (line : List ℕ) (fs : List (List ℕ)) (cut : split 32 line ≡ fs) where
+  pub object-count : (length fs ≡ 3 → ⊥) → objectLine own line ≡ faultyObject 2
+  unfolding objectLine objectFields
+  object-count h = rw (cut, ne-eqb (length fs) 3 h)
+
+  pub object-three : length fs ≡ 3 → objectLine own line ≡ objectThree own (getD fs 0 []) (getD fs 1 []) (getD fs 2 [])
+  unfolding objectLine objectFields
+  object-three h = rw (cut, eq-eqb (length fs) 3 h)

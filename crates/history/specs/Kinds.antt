@@ -1,0 +1,85 @@
+-- Kinds and ops: their words, and which op, value and answer a kind allows (document 01, "Objects").
+use Prim.Native.Nat.{ℕ}
+use mathlib.Core.Bool.{Bool, true, false, cond, not, _||_}
+use mathlib.Core.List.{List}
+use lib.Dec.{eqb, leb}
+use Rattle.layout.specs.Word.{same, registerWord, queueWord, stackWord, windowWord, writeWord, readWord, pushWord, popWord, peekWord}
+use Rattle.history.specs.declared.record.Kind.{Kind}
+use Rattle.history.specs.declared.record.Kind.the-variants.{Register, Queue, Stack, Window}
+use Rattle.history.specs.declared.record.Op.{Op}
+use Rattle.history.specs.declared.record.Op.the-variants.{Write, Read, Push, Pop, Peek}
+use Rattle.history.specs.declared.record.Object.{Object}
+
+unfoldable pub kindWord : Kind → List ℕ
+kindWord Register = registerWord
+kindWord Queue = queueWord
+kindWord Stack = stackWord
+kindWord Window = windowWord
+
+unfoldable pub opWord : Op → List ℕ
+opWord Write = writeWord
+opWord Read = readWord
+opWord Push = pushWord
+opWord Pop = popWord
+opWord Peek = peekWord
+
+-- The word is a kind's, and that kind (Register for any other word).
+unfoldable pub isKind : List ℕ → Bool
+isKind f = same f queueWord || (same f stackWord || (same f windowWord || same f registerWord))
+
+unfoldable pub kindOf : List ℕ → Kind
+kindOf f = cond (same f queueWord) Queue (cond (same f stackWord) Stack (cond (same f windowWord) Window Register))
+
+-- The word is an op's, and that op (Write for any other word).
+unfoldable pub isOp : List ℕ → Bool
+isOp f = same f readWord || (same f pushWord || (same f popWord || (same f peekWord || same f writeWord)))
+
+unfoldable pub opOf : List ℕ → Op
+opOf f = cond (same f readWord) Read (cond (same f pushWord) Push (cond (same f popWord) Pop (cond (same f peekWord) Peek Write)))
+
+abbrev pub isWindow : Kind → Bool
+isWindow Register = false
+isWindow Queue = false
+isWindow Stack = false
+isWindow Window = true
+
+-- The kind has push, pop and peek; else it has write and read.
+abbrev pub isShelf : Kind → Bool
+isShelf Register = false
+isShelf Queue = true
+isShelf Stack = true
+isShelf Window = false
+
+abbrev pub isShelfOp : Op → Bool
+isShelfOp Write = false
+isShelfOp Read = false
+isShelfOp Push = true
+isShelfOp Pop = true
+isShelfOp Peek = true
+
+-- The op is one that the kind has.
+abbrev pub hasOp : Kind → Op → Bool
+hasOp kind op = cond (isShelf kind) (isShelfOp op) (not (isShelfOp op))
+
+-- The op has a value: write and push. For read, pop and peek the value is `-`.
+abbrev pub takesValue : Op → Bool
+takesValue Write = true
+takesValue Read = false
+takesValue Push = true
+takesValue Pop = false
+takesValue Peek = false
+
+-- How many values a read answers.
+abbrev pub readCount : Kind → ℕ → ℕ
+readCount Register width = 1
+readCount Queue width = 1
+readCount Stack width = 1
+readCount Window width = width
+
+-- An op of an object can answer so many values.
+abbrev pub canAnswer : Object → Op → ℕ → Bool
+canAnswer o Write n = eqb n 0
+canAnswer o Read n = eqb n (readCount (o .kind) (o .width))
+canAnswer o Push n = eqb n 0
+canAnswer o Pop n = leb n 1
+canAnswer o Peek n = leb n 1

@@ -1,0 +1,4 @@
+pub mod Record
+pub mod Kinds
+pub mod Faults
+pub mod Steps

@@ -1,0 +1,5 @@
+// The history text: bytes to a record and back. It knows nothing of criteria.
+pub mod record;
+pub mod word;
+pub mod field;
+pub mod object;
