@@ -1,2 +1,5 @@
+pub mod PadLaws
 pub mod FaultLaws
 pub mod ObjectLaws
+pub mod AnswerLaws
+pub mod EventLaws

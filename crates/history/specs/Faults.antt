@@ -13,6 +13,7 @@ use Rattle.history.specs.Kinds.{isKind, kindOf, isOp, opOf, isWindow, ha
 use Rattle.history.specs.declared.record.Object.{Object}
 use Rattle.history.specs.declared.record.Event.{Event}
 use Rattle.history.specs.declared.object.ObjectRead.{ObjectRead}
+use Rattle.history.specs.declared.event.EventRead.{EventRead}
 
 -- The first fault of a line whose layout (2), limits (3), ops, values and widths (4) and answer's length (5) are in order or
 -- not; 0 where all are.
@@ -59,3 +60,54 @@ objectFields own fs = cond (eqb (length fs) 3) (objectThree own (getD fs 0 []) (
 -- What a line is as that of the object whose number is `own`.
 unfoldable pub objectLine : ℕ → List ℕ → ObjectRead
 objectLine own line = objectFields own (split 32 line)
+
+-- ---- the line of an event: its number, process, object, op, value and answer
+unfoldable pub eventLayout : ℕ → List ℕ → List ℕ → List ℕ → List ℕ → List ℕ → List ℕ → Bool
+eventLayout own a p o w v s = same a (spell own) && isNumber p && isNumber o && isOp w && isOptional v && allNumbers (itemsOf s)
+
+-- No 65th event, a process from 0 to 7, a declared object, values up to 65,535.
+unfoldable pub eventLimits : ℕ → ℕ → List ℕ → List ℕ → List ℕ → List ℕ → Bool
+eventLimits own declared p o v s =
+    ltb own 64 && ltb (value p) 8 && ltb (value o) declared && (same v dash || ltb (value v) 65536) && allBelow 65536 (itemsOf s)
+
+-- An op that the kind has, and a value where the op takes one and nowhere else.
+unfoldable pub eventFits : Object → List ℕ → List ℕ → Bool
+eventFits object w v = hasOp (object .kind) (opOf w) && cond (takesValue (opOf w)) (not (same v dash)) (same v dash)
+
+-- An answer of a length that the op can give. No op gives more than eight values.
+unfoldable pub eventLong : Object → List ℕ → List ℕ → Bool
+eventLong object w s = leb (length (itemsOf s)) 8 && canAnswer object (opOf w) (length (itemsOf s))
+
+-- The object that the field names.
+abbrev pub objectNamed : List Object → List ℕ → Object
+objectNamed os o = getD os (value o) noObject
+
+unfoldable pub eventFault : ℕ → List Object → List ℕ → List ℕ → List ℕ → List ℕ → List ℕ → List ℕ → ℕ
+eventFault own os a p o w v s =
+    firstFault (eventLayout own a p o w v s) (eventLimits own (length os) p o v s) (eventFits (objectNamed os o) w v)
+    (eventLong (objectNamed os o) w s)
+
+abbrev pub faultyEvent : ℕ → EventRead
+faultyEvent fault = record { fault = fault; event = noEvent }
+
+abbrev pub eventWith : ℕ → Event → EventRead
+eventWith fault e = cond (eqb fault 0) (record { fault = 0; event = e }) (faultyEvent fault)
+
+-- The event that six fields say.
+unfoldable pub eventSaid : List ℕ → List ℕ → List ℕ → List ℕ → List ℕ → Event
+eventSaid p o w v s =
+    record { process = record { 0 = value p }; object = value o; op = opOf w; value = optional v; answer = answerOf (numbersOf s) }
+
+-- What six fields are as the line of an event, in a history with these objects.
+unfoldable pub eventSix : ℕ → List Object → List ℕ → List ℕ → List ℕ → List ℕ → List ℕ → List ℕ → EventRead
+eventSix own os a p o w v s = eventWith (eventFault own os a p o w v s) (eventSaid p o w v s)
+
+unfoldable pub eventFields : ℕ → List Object → List (List ℕ) → EventRead
+eventFields own os fs =
+    cond (eqb (length fs) 6)
+    (eventSix own os (getD fs 0 []) (getD fs 1 []) (getD fs 2 []) (getD fs 3 []) (getD fs 4 []) (getD fs 5 []))
+    (faultyEvent 2)
+
+-- What a line is as that of the event whose number is `own`.
+unfoldable pub eventLine : ℕ → List Object → List ℕ → EventRead
+eventLine own os line = eventFields own os (split 32 line)

@@ -2,4 +2,6 @@
 pub mod record;
 pub mod word;
 pub mod field;
+pub mod answer;
 pub mod object;
+pub mod event;

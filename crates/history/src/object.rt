@@ -1,6 +1,5 @@
 // The line of an object.
 ghost use mathlib.Core.Path.{_≡_};
-ghost use mathlib.Core.Bool.{cond, not};
 ghost use Rattle.history.specs.Faults.{faultyObject, objectThree, objectLine};
 use crate::record::Kind;
 use crate::record::Object;
@@ -8,6 +7,7 @@ use crate::field::optional_field;
 use crate::field::first_fault;
 use crate::word::read_kind;
 use crate::word::is_window;
+use crate::word::fits_dash;
 use layout::number::is_spelling;
 use layout::split::find_from;
 
@@ -29,16 +29,6 @@ fn faulty_object(fault: u8) -> ObjectRead
     }
 }
 
-// Whether a width stands where the kind has one.
-fn fits_width(window: bool, dash: bool) -> bool
-    ensures { λ r. ⌜ r ≡ cond window (not dash) dash ⌝ }
-{
-    if window {
-        return !dash;
-    }
-    dash
-}
-
 // Reads the three fields of the object whose number is `own`.
 fn read_three(a: &[u8], k: &[u8], w: &[u8], own: u32) -> ObjectRead
     ensures { λ r. ⌜ r ≡ objectThree own (now (a .entry)) (now (k .entry)) (now (w .entry)) ⌝ }
@@ -51,7 +41,7 @@ fn read_three(a: &[u8], k: &[u8], w: &[u8], own: u32) -> ObjectRead
     let window = is_window(kind);
     let layout = numbered & word.known & width.spelt;
     let limits = (own < 16) & width.below & (dash | (0 < width.value));
-    let fits = fits_width(window, dash);
+    let fits = fits_dash(window, dash);
     let fault = first_fault(layout, limits, fits, true);
     if fault != 0 {
         return faulty_object(fault);

@@ -1,6 +1,7 @@
 // The words of kinds and ops.
 ghost use mathlib.Core.Path.{_≡_};
-ghost use Rattle.history.specs.Kinds.{isKind, kindOf, isOp, opOf, isWindow, hasOp, takesValue, canAnswer};
+ghost use Rattle.history.specs.Kinds.{isKind, kindOf, isOp, opOf, isWindow, isShelf, isShelfOp, hasOp, takesValue, readCount, canAnswer};
+ghost use mathlib.Core.Bool.{cond, not};
 use crate::record::Kind;
 use crate::record::Op;
 use crate::record::Object;
@@ -89,4 +90,85 @@ pub fn is_window(kind: Kind) -> bool
         Kind::Stack => false,
         Kind::Window => true,
     }
+}
+
+fn is_shelf(kind: Kind) -> bool
+    ensures { λ r. ⌜ r ≡ isShelf kind ⌝ }
+{
+    match kind {
+        Kind::Register => false,
+        Kind::Queue => true,
+        Kind::Stack => true,
+        Kind::Window => false,
+    }
+}
+
+fn is_shelf_op(op: Op) -> bool
+    ensures { λ r. ⌜ r ≡ isShelfOp op ⌝ }
+{
+    match op {
+        Op::Write => false,
+        Op::Read => false,
+        Op::Push => true,
+        Op::Pop => true,
+        Op::Peek => true,
+    }
+}
+
+// Whether the op is one that the kind has.
+pub fn has_op(kind: Kind, op: Op) -> bool
+    ensures { λ r. ⌜ r ≡ hasOp kind op ⌝ }
+{
+    if is_shelf(kind) {
+        return is_shelf_op(op);
+    }
+    !is_shelf_op(op)
+}
+
+pub fn takes_value(op: Op) -> bool
+    ensures { λ r. ⌜ r ≡ takesValue op ⌝ }
+{
+    match op {
+        Op::Write => true,
+        Op::Read => false,
+        Op::Push => true,
+        Op::Pop => false,
+        Op::Peek => false,
+    }
+}
+
+// How many values a read answers.
+fn read_count(kind: Kind, width: u8) -> usize
+    ensures { λ r. ⌜ r ≡ readCount kind width ⌝ }
+{
+    match kind {
+        Kind::Register => 1,
+        Kind::Queue => 1,
+        Kind::Stack => 1,
+        Kind::Window => width as usize,
+    }
+}
+
+// Whether an op of an object can answer so many values.
+pub fn can_answer(object: Object, op: Op, n: usize) -> bool
+    ensures { λ r. ⌜ r ≡ canAnswer object op n ⌝ }
+{
+    let kind = object.kind;
+    match op {
+        Op::Write => n == 0,
+        Op::Read => n == read_count(kind, object.width),
+        Op::Push => n == 0,
+        Op::Pop => n <= 1,
+        Op::Peek => n <= 1,
+    }
+}
+
+// Whether a value or a width stands where it belongs, and `-` elsewhere.
+pub fn fits_dash(wanted: bool, dash: bool) -> bool
+    ensures { λ r. ⌜ r ≡ cond wanted (not dash) dash ⌝ }
+{
+    if wanted {
+        return !dash;
+    }
+    dash
 }

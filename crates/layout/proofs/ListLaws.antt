@@ -6,8 +6,8 @@ use native.Mathlib.Omega.{arith}
 use mathlib.Core.Path.{_≡_, refl, sym, ap, ap₂, _∙_}
 use mathlib.Core.Bool.{Bool, true, false, cond, _&&_, false≢true}
 use mathlib.Core.List.{List, [], _∷_, _++_, map}
-use lib.ListN.{length, getD, take, drop, set, length-set, length-drop}
-use lib.Seq.{getD-drop, length-take-le}
+use lib.ListN.{length, getD, take, drop, set, length-set, length-drop, length-map}
+use lib.Seq.{getD-drop, length-take-le, take-at}
 use lib.Dec.{eqb, leb, ltb}
 use borrow.Author.Tests.{le-leb, lt-leb, lt-ltb, le-ltb, leb-true, ltb-true, eq-eqb, ne-eqb, eqb-true}
 use Rattle.layout.specs.declared.number.Number.the-variants.{Value}
@@ -417,3 +417,67 @@ leading-all bound (suc max) (p ∷ ps) a b l =
 pub leading-numbers : (bound max n : ℕ) (f : List ℕ) → IsList bound max n f → leading bound max (itemsOf f) ≡ numbersOf f
 unfolding numbersOf
 leading-numbers bound max n f i = leading-all bound max (itemsOf f) (i .numbers) (i .small) (omega (arith, i .count, i .few))
+
+-- what a field is that is no such list
+module _ (bound max : ℕ) (f : List ℕ) where
+  pub list-not : listOf bound max f ≡ NotList → allNumbers (itemsOf f) ≡ false
+  unfolding listOf judged
+  list-not q =
+      let ps = itemsOf f in
+      by-bool (allNumbers ps)
+        (λ a. by-bool (allBelow bound ps)
+          (λ b. by-bool (leb (length ps) max)
+            (λ l. let t : Listed (length ps) ≡ NotList = rw (a, b, l) at q in let z : _≡_ {A = ℕ} 0 1 = cc in absurd (omega arith))
+            (λ l. let t : Many ≡ NotList = rw (a, b, l) at q in let z : _≡_ {A = ℕ} 0 1 = cc in absurd (omega arith)))
+          (λ b. let t : Over ≡ NotList = rw (a, b) at q in let z : _≡_ {A = ℕ} 0 1 = cc in absurd (omega arith)))
+        (λ a. a)
+
+  pub list-over : listOf bound max f ≡ Over → (allNumbers (itemsOf f) ≡ true) × (allBelow bound (itemsOf f) ≡ false)
+  unfolding listOf judged
+  list-over q =
+      let ps = itemsOf f in
+      by-bool (allNumbers ps)
+        (λ a. by-bool (allBelow bound ps)
+          (λ b. by-bool (leb (length ps) max)
+            (λ l. let t : Listed (length ps) ≡ Over = rw (a, b, l) at q in let z : _≡_ {A = ℕ} 0 1 = cc in absurd (omega arith))
+            (λ l. let t : Many ≡ Over = rw (a, b, l) at q in let z : _≡_ {A = ℕ} 0 1 = cc in absurd (omega arith)))
+          (λ b. (a, b)))
+        (λ a. let t : NotList ≡ Over = rw a at q in let z : _≡_ {A = ℕ} 0 1 = cc in absurd (omega arith))
+
+  pub list-many : listOf bound max f ≡ Many
+      → (allNumbers (itemsOf f) ≡ true) × (allBelow bound (itemsOf f) ≡ true) × (leb (length (itemsOf f)) max ≡ false)
+  unfolding listOf judged
+  list-many q =
+      let ps = itemsOf f in
+      by-bool (allNumbers ps)
+        (λ a. by-bool (allBelow bound ps)
+          (λ b. by-bool (leb (length ps) max)
+            (λ l. let t : Listed (length ps) ≡ Many = rw (a, b, l) at q in let z : _≡_ {A = ℕ} 0 1 = cc in absurd (omega arith))
+            (λ l. (a, b, l)))
+          (λ b. let t : Over ≡ Many = rw (a, b) at q in let z : _≡_ {A = ℕ} 0 1 = cc in absurd (omega arith)))
+        (λ a. let t : NotList ≡ Many = rw a at q in let z : _≡_ {A = ℕ} 0 1 = cc in absurd (omega arith))
+
+-- ---- the numbers of a list
+below-at : (bound : ℕ) (ps : List (List ℕ)) (i : ℕ) → allBelow bound ps ≡ true → i < length ps → getD (map value ps) i 0 < bound
+unfolding allBelow
+below-at bound [] i b h = absurd (not-suc-le-zero h)
+below-at bound (p ∷ ps) zero b h = ltb-true (value p) bound (and-left (ltb (value p) bound) (allBelow bound ps) b)
+below-at bound (p ∷ ps) (suc i) b h =
+    below-at bound ps i (and-right (ltb (value p) bound) (allBelow bound ps) b) (le-of-suc-le-suc h)
+
+module _ {bound max n : ℕ} {f : List ℕ} (i : IsList bound max n f) where
+  pub numbers-count : length (numbersOf f) ≡ n
+  unfolding numbersOf
+  numbers-count = length-map (itemsOf f) value ∙ i .count
+
+  pub numbers-below : (k : ℕ) → k < n → getD (numbersOf f) k 0 < bound
+  unfolding numbersOf
+  numbers-below k h = below-at bound (itemsOf f) k (i .small) (omega (arith, i .count))
+
+  -- the reader keeps them in the first places
+  pub numbers-kept : (xs ys : List ℕ) → xs ≡ fill (leading bound max (itemsOf f)) ys → take n xs ≡ numbersOf f
+  unfolding fill
+  numbers-kept xs ys e =
+      let l = leading-numbers bound max n f i in
+      ap (take n) (e ∙ ap (λ (t : List ℕ). t ++ drop (length t) ys) l)
+      ∙ take-at (numbersOf f) (drop (length (numbersOf f)) ys) n numbers-count

@@ -15,7 +15,7 @@ judged c =
     c .first-fault .ensures
     ∙ object-judged (a .own) (a .a .now) (a .k .now) (a .w .now) _ _ _ _ _ _ (o .before .before .is-spelling .ensures)
       (o .before .read-kind .ensures .0) (o .before .read-kind .ensures .1) (o .optional-field .ensures .0)
-      (c .before .before .before .before .before .before .is-window .ensures) (c .before .fits-width .ensures)
+      (c .before .before .before .before .before .before .is-window .ensures) (c .before .fits-dash .ensures)
 
 is-spelling-requires : tie.Need-is-spelling-requires
 is-spelling-requires c κs = search needs
@@ -29,8 +29,8 @@ optional-field-requires c κs = search needs
 is-window-requires : tie.Need-is-window-requires
 is-window-requires c κs = search needs
 
-fits-width-requires : tie.Need-fits-width-requires
-fits-width-requires c κs = search needs
+fits-dash-requires : tie.Need-fits-dash-requires
+fits-dash-requires c κs = search needs
 
 first-fault-requires : tie.Need-first-fault-requires
 first-fault-requires c κs = search needs
@@ -66,7 +66,7 @@ read-three-spec =
     read-kind-requires
     optional-field-requires
     is-window-requires
-    fits-width-requires
+    fits-dash-requires
     first-fault-requires
     faulty-object-requires
     returns

@@ -1,0 +1,1 @@
+-- Laws of the line of an event. Assumes nothing.
