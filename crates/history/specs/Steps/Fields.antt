@@ -1,6 +1,6 @@
 -- What the reader keeps of a field.
 use Prim.Native.Nat.{ℕ}
-use mathlib.Core.Bool.{Bool, cond, _&&_, _||_}
+use mathlib.Core.Bool.{Bool, cond, not, _&&_, _||_}
 use mathlib.Core.List.{List}
 use lib.ListN.{length}
 use lib.Dec.{leb, ltb}
@@ -8,7 +8,11 @@ use Rattle.layout.specs.Word.{same, dash}
 use Rattle.layout.specs.Number.{isNumber, value}
 use Rattle.layout.specs.List.{itemsOf, allNumbers, allBelow, numbersOf}
 use Rattle.history.specs.Record.{noAnswer, answerOf}
-use Rattle.history.specs.Faults.{isOptional}
+use Rattle.history.specs.Kinds.{hasOp, takesValue, canAnswer}
+use Rattle.history.specs.Faults.{firstFault, isOptional, eventWith}
+use Rattle.history.specs.declared.record.Op.{Op}
+use Rattle.history.specs.declared.record.Object.{Object}
+use Rattle.history.specs.declared.event.EventRead.{EventRead}
 use Rattle.history.specs.declared.field.NumberField.{NumberField}
 use Rattle.history.specs.declared.field.OptionalField.{OptionalField}
 use Rattle.history.specs.declared.answer.AnswerField.{AnswerField}
@@ -42,3 +46,17 @@ answerField f =
       few = isAnswer f;
       answer = cond (isAnswer f) (answerOf (numbersOf f)) noAnswer
     }
+
+-- The first fault of the fields kept, as those of an event of this object; and what they are as its line.
+unfoldable pub judgedFault : Bool → ℕ → NumberField → NumberField → Bool → Op → OptionalField → AnswerField → Object → ℕ
+judgedFault numbered own process number known op value list object =
+    firstFault
+    (numbered && process .spelt && number .spelt && known && value .spelt && list .spelt)
+    (ltb own 64 && process .below && number .below && value .below && list .below)
+    (hasOp (object .kind) op && cond (takesValue op) (not (value .dash)) (value .dash))
+    (list .few && canAnswer object op (list .answer .count))
+
+unfoldable pub eventJudged : Bool → ℕ → NumberField → NumberField → Bool → Op → OptionalField → AnswerField → Object → EventRead
+eventJudged numbered own process number known op value list object =
+    eventWith (judgedFault numbered own process number known op value list object)
+    (record { process = record { 0 = process .value }; object = number .value; op = op; value = value .value; answer = list .answer })
