@@ -91,3 +91,7 @@ module _ (bound : ℕ) (f : List ℕ) where
       by-bool (same f dash)
         (λ d. rw d)
         (λ d. rw (d, rw d at e))
+
+-- ---- an order that is no equality is strict
+pub strict : (a b : ℕ) → a ≤ b → (a ≡ b → ⊥) → a < b
+strict a b h n = omega arith

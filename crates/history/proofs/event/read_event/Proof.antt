@@ -5,6 +5,7 @@ use mathlib.Core.Path.{_≡_, refl, sym, _∙_}
 use mathlib.Core.List.{List, [], _∷_}
 use lib.ListN.{length, take, drop}
 use Rattle.layout.proofs.SplitLaws.{Cut, cut-begins, cut-next, cut-ends, split-some}
+use Rattle.history.proofs.FaultLaws.{strict}
 use Rattle.history.proofs.EventLaws.{event-count, event-six}
 use borrow.Author.Needs.{needs}
 use Rattle.history.proofs.event.read_event.Statement.{statement}
@@ -141,7 +142,7 @@ returns-6 : tie.Need-returns-6
 returns-6 c =
     let f = c .before .before in
     let a = f .before .before .before .before .before .before .before .before .before .before .before .before .args in
-    let cut = cut-next (fifth (f .before)) _ (f .find-from6 .ensures .0) (search needs) (search needs) in
+    let cut = cut-next (fifth (f .before)) _ (f .find-from6 .ensures .0) (search needs) (strict _ _ (f .find-from6 .ensures .2) (c .before .if6 .taken)) in
     c .faulty-event6 .ensures
     ∙ sym (event-count (a .own) _ (a .line .now) _ (cut .is)
         (λ e. absurd (omega (arith, split-some 32 (drop (f .find-from6 .result + 1) (a .line .now))))))
