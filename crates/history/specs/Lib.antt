@@ -1,4 +1,7 @@
 pub mod Record
 pub mod Kinds
 pub mod Faults
+pub mod ReadHistory
+pub mod HistoryText
+pub mod Readable
 pub mod Steps

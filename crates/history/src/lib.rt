@@ -5,3 +5,4 @@ pub mod field;
 pub mod answer;
 pub mod object;
 pub mod event;
+pub mod read;

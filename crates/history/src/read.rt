@@ -1,0 +1,124 @@
+// Reading a history text.
+ghost use mathlib.Core.Path.{_≡_};
+ghost use Prim.Native.Nat.{_+_, _-_, _≤_, _<_};
+ghost use mathlib.Core.List.{List, []};
+ghost use lib.ListN.{length, take, drop, replicate};
+ghost use Rattle.layout.specs.Split.{split};
+ghost use Rattle.history.specs.Record.{pad, noObject, noEvent, noHistory};
+ghost use Rattle.history.specs.ReadHistory.{refusal, eventsFrom, objectsFrom, linesFrom, readHistory, faultyLine};
+use crate::record::Event;
+use crate::record::History;
+use crate::record::Kind;
+use crate::record::Object;
+use crate::record::Op;
+use crate::record::ProcessNo;
+use crate::answer::no_answer;
+use crate::event::read_event;
+use crate::object::read_object;
+use layout::split::find_from;
+use layout::word::is_word;
+
+// The record and fault 0; or the first fault, the number of its line from 1, and that line from `start` to `end`.
+pub struct HistoryRead {
+    pub fault: u8,
+    pub line: usize,
+    pub start: usize,
+    pub end: usize,
+    pub history: History,
+}
+
+fn no_objects() -> [Object; 16]
+    ensures { λ r. ⌜ r ≡ replicate 16 noObject ⌝ }
+{
+    let o = Object {
+        kind: Kind::Register,
+        width: 0,
+    };
+    [o; 16]
+}
+
+fn no_events() -> [Event; 64]
+    ensures { λ r. ⌜ r ≡ replicate 64 noEvent ⌝ }
+{
+    let answer = no_answer();
+    let e = Event {
+        process: ProcessNo(0),
+        object: 0,
+        op: Op::Write,
+        value: 0,
+        answer,
+    };
+    [e; 64]
+}
+
+fn refuse(fault: u8, line: usize, start: usize, end: usize) -> HistoryRead
+    requires { ⌜ start ≤ end ⌝ }
+    ensures { λ r. ⌜ r ≡ refusal fault line start (end - start) ⌝ }
+{
+    let objects = no_objects();
+    let events = no_events();
+    let history = History {
+        objects,
+        declared: 0,
+        events,
+        count: 0,
+    };
+    if start == end {
+        return HistoryRead {
+            fault,
+            line,
+            start: 0,
+            end: 0,
+            history,
+        };
+    }
+    HistoryRead {
+        fault,
+        line,
+        start,
+        end,
+        history,
+    }
+}
+
+// Reads the lines of the events, from the line with the number `first`, which begins at `from`.
+fn read_events(text: &[u8], from: usize, first: usize, objects: [Object; 16], declared: usize) -> HistoryRead
+    requires { ⌜ (from ≤ length (now text)) × (first ≤ from + 1) × (declared ≤ 16) × (objects ≡ pad 16 noObject (take declared objects)) ⌝ }
+    ensures { λ r. ⌜ r ≡ eventsFrom (take declared objects) [] first from (split 10 (drop from (now (text .entry)))) ⌝ }
+{
+    let mut events = no_events();
+    let mut count: usize = 0;
+    let mut line = first;
+    let mut a = from;
+    loop {
+        let e = find_from(text, a, 10);
+        if e == text.len() {
+            if a == e {
+                let history = History {
+                    objects,
+                    declared,
+                    events,
+                    count,
+                };
+                return HistoryRead {
+                    fault: 0,
+                    line: 0,
+                    start: 0,
+                    end: 0,
+                    history,
+                };
+            }
+            return refuse(2, line, a, e);
+        }
+        let r = read_event(&text[a..e], count as u32, objects, declared);
+        let fault = r.fault;
+        if fault != 0 {
+            return refuse(fault, line, a, e);
+        }
+        let event = r.event;
+        events[count] = event;
+        count += 1;
+        line += 1;
+        a = e + 1;
+    }
+}
