@@ -3,3 +3,4 @@ pub mod FaultLaws
 pub mod ObjectLaws
 pub mod AnswerLaws
 pub mod EventLaws
+pub mod ReadLaws

@@ -5,8 +5,8 @@ use native.Mathlib.Numerals.{add-one}
 use native.Mathlib.Omega.{arith}
 use mathlib.Core.Path.{_≡_, refl, sym, ap, _∙_}
 use mathlib.Core.List.{List, [], _∷_, _++_, append-assoc}
-use lib.ListN.{length, getD, take, drop, set, replicate, length-append, length-replicate, List·getD-append, List·getD-eq-default}
-use lib.Seq.{take-append-seam, set-append-seam, take-suc, length-take-le, getD-append-add}
+use lib.ListN.{length, getD, take, drop, set, replicate, length-set, length-append, length-replicate, List·getD-append, List·getD-eq-default}
+use lib.Seq.{take-append-seam, set-append-seam, take-suc, take-suc-set, length-take-le, getD-append-add}
 use Rattle.layout.proofs.Cases.{by-lt}
 use Rattle.history.specs.Record.{pad}
 
@@ -55,3 +55,34 @@ module _ {A : Type 0} (places : ℕ) (blank : A) where
 -- ---- a loop that fills an array: the first i elements are in it
 pub take-more : {A : Type 0} (xs : List A) (i : ℕ) (d : A) → i < length xs → take (i + 1) xs ≡ take i xs ++ getD xs i d ∷ []
 take-more xs i d h = rw add-one (take-suc xs i d h)
+
+-- ---- an array that is being filled: its first n places hold a list, and the others are blank
+pub record Filled {A : Type 0} (places : ℕ) (blank : A) (xs : List A) (n : ℕ) : Type 0 where
+  pub few : n ≤ places
+  pub long : length xs ≡ places
+  pub pads : xs ≡ pad places blank (take n xs)
+
+pub filled-none : {A : Type 0} (places : ℕ) (blank : A) (xs : List A) → xs ≡ replicate places blank → Filled places blank xs 0
+filled-none places blank xs e = record {
+  few = omega arith;
+  long = ap length e ∙ length-replicate places blank;
+  pads = e ∙ sym (pad-none places blank)
+}
+
+module _ {A : Type 0} {places : ℕ} {blank : A} {xs : List A} {n : ℕ} (f : Filled places blank xs n) where
+  pub filled-count : length (take n xs) ≡ n
+  filled-count = length-take-le n xs (omega (arith, f .few, f .long))
+
+  module _ (v : A) (h : n < places) where
+    pub filled-take : take (n + 1) (set xs n v) ≡ take n xs ++ v ∷ []
+    filled-take = rw add-one (take-suc-set xs n v (omega (arith, f .long)))
+
+    pub filled-more : Filled places blank (set xs n v) (n + 1)
+    filled-more = record {
+      few = omega arith;
+      long = length-set xs n v ∙ f .long;
+      pads =
+        ap (λ (l : List A). set l n v) (f .pads)
+        ∙ pad-set places blank (take n xs) n v (sym filled-count) h
+        ∙ ap (pad places blank) (sym filled-take)
+    }
