@@ -4,3 +4,7 @@ pub mod ObjectLaws
 pub mod AnswerLaws
 pub mod EventLaws
 pub mod ReadLaws
+pub mod PlaceLaws
+pub mod LineRound
+pub mod ObjectRound
+pub mod EventRound

@@ -171,3 +171,37 @@ history-made objects declared events count p d f =
     ∙ ap (λ (x : ℕ). record { objects = pad 16 noObject (take declared objects); declared = x; events = events; count = count }) (sym d)
     ∙ ap (λ (x : List Event). record { objects = pad 16 noObject (take declared objects); declared = length (take declared objects); events = x; count = count }) (f .pads)
     ∙ ap (λ (x : ℕ). record { objects = pad 16 noObject (take declared objects); declared = length (take declared objects); events = pad 64 noEvent (take count events); count = x }) (sym (filled-count f))
+
+-- ---- the first line
+module _ (s : List ℕ) (e : ℕ) (found : e ≡ 0 + find 10 (drop 0 s)) (to : e ≤ length s) where
+  first-long : length (take (e - 0) s) ≡ e - 0
+  first-long = cut-long s 0 e (omega arith) to
+
+  pub lines-end : length s ≤ e → linesFrom (split 10 s) ≡ refusal 2 1 0 (e - 0)
+  unfolding linesFrom
+  lines-end h = ap linesFrom (cut-last 10 s 0 e found (omega arith) h) ∙ rw first-long
+
+  module _ (h : e < length s) where
+    lines-turn : linesFrom (split 10 s)
+        ≡ cond (same (take (e - 0) s) objectHeading) (objectsFrom [] 2 (length (take (e - 0) s) + 1) (split 10 (drop (e + 1) s)))
+          (refusal 2 1 0 (length (take (e - 0) s)))
+    lines-turn =
+        ap linesFrom (cut-more 10 s 0 e found (omega arith) h)
+        ∙ lines-step (take (e - 0) s) (split 10 (drop (e + 1) s)) (split-some 10 (drop (e + 1) s))
+
+    pub lines-heading : same (take (e - 0) s) objectHeading ≡ true
+        → linesFrom (split 10 s) ≡ objectsFrom [] 2 (e + 1) (split 10 (drop (e + 1) s))
+    lines-heading w = let k : length (take (e - 0) s) + 1 ≡ e + 1 = omega (arith, first-long) in lines-turn ∙ rw (w, k)
+
+    pub lines-bad : same (take (e - 0) s) objectHeading ≡ false → linesFrom (split 10 s) ≡ refusal 2 1 0 (e - 0)
+    lines-bad w = lines-turn ∙ rw (w, first-long)
+
+-- ---- a text that is too long
+module _ (text : List ℕ) where
+  pub history-lines : length text ≤ 16384 → readHistory text ≡ linesFrom (split 10 text)
+  unfolding readHistory
+  history-lines h = rw (le-leb (length text) 16384 h)
+
+  pub history-long : 16384 < length text → readHistory text ≡ refusal 1 0 0 0
+  unfolding readHistory
+  history-long h = rw (lt-leb (length text) 16384 h)

@@ -122,3 +122,67 @@ fn read_events(text: &[u8], from: usize, first: usize, objects: [Object; 16], de
         a = e + 1;
     }
 }
+
+// Reads the lines after the heading of the objects, which begin at `from`.
+fn read_objects(text: &[u8], from: usize) -> HistoryRead
+    requires { ⌜ (from ≤ length (now text)) × (1 ≤ from) ⌝ }
+    ensures { λ r. ⌜ r ≡ objectsFrom [] 2 from (split 10 (drop from (now (text .entry)))) ⌝ }
+{
+    let mut objects = no_objects();
+    let mut declared: usize = 0;
+    let mut line: usize = 2;
+    let mut a = from;
+    loop {
+        let e = find_from(text, a, 10);
+        if e == text.len() {
+            return refuse(2, line, a, e);
+        }
+        if is_word(&text[a..e], b"event process object op value answer") {
+            return read_events(text, e + 1, line + 1, objects, declared);
+        }
+        let r = read_object(&text[a..e], declared as u32);
+        let fault = r.fault;
+        if fault != 0 {
+            return refuse(fault, line, a, e);
+        }
+        let object = r.object;
+        objects[declared] = object;
+        declared += 1;
+        line += 1;
+        a = e + 1;
+    }
+}
+
+// Reads all lines.
+fn read_lines(text: &[u8]) -> HistoryRead
+    ensures { λ r. ⌜ r ≡ linesFrom (split 10 (now (text .entry))) ⌝ }
+{
+    let e = find_from(text, 0, 10);
+    if e == text.len() {
+        return refuse(2, 1, 0, e);
+    }
+    if is_word(&text[0..e], b"object kind width") {
+        return read_objects(text, e + 1);
+    }
+    refuse(2, 1, 0, e)
+}
+
+// Reads a history text of any length and content.
+pub fn read_history(text: &[u8]) -> HistoryRead
+    ensures { λ r. ⌜ r ≡ readHistory (now (text .entry)) ⌝ }
+{
+    if text.len() <= 16384 {
+        return read_lines(text);
+    }
+    refuse(1, 0, 0, 0)
+}
+
+// The faulty line of a history text, as part of that text and without its line feed; empty where there is none.
+pub fn faulty_line(text: &[u8]) -> &[u8]
+    ensures { λ r. ⌜ now r ≡ faultyLine (now (text .entry)) ⌝ }
+{
+    let r = read_history(text);
+    let start = r.start;
+    let end = r.end;
+    &text[start..end]
+}
