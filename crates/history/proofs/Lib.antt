@@ -8,3 +8,7 @@ pub mod PlaceLaws
 pub mod LineRound
 pub mod ObjectRound
 pub mod EventRound
+pub mod WithinLaws
+pub mod TextRound
+pub mod TextLength
+pub mod Theorems

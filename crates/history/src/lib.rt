@@ -6,3 +6,4 @@ pub mod answer;
 pub mod object;
 pub mod event;
 pub mod read;
+pub mod line;

@@ -176,3 +176,11 @@ module _ (text b w rest : List ℕ) (room : length text ≤ length b) (next : te
         sum = omega (arith, ap length next, length-append w rest);
         whole = sym (rw (e, next, long) (fill-then w rest b first-room));
       }
+
+-- a byte behind a text
+pub fill-byte : (w b b₁ : List ℕ) (k x : ℕ) → k ≡ length w → b₁ ≡ fill w b → length w < length b → set b₁ k x ≡ fill (w ++ x ∷ []) b
+fill-byte w b b₁ k x long e h =
+    let l : length b₁ ≡ length b = ap length e ∙ fill-length w b (omega arith) in
+    sym (fillAt-none (k + 1) (set b₁ k x))
+    ∙ fillAt-set k x [] b₁ (omega arith)
+    ∙ rw (e, long) (fill-then w (x ∷ []) b (omega arith))
