@@ -8,7 +8,9 @@ pub mod PlaceLaws
 pub mod LineRound
 pub mod ObjectRound
 pub mod EventRound
+pub mod PieceLaws
 pub mod WithinLaws
 pub mod TextRound
 pub mod TextLength
 pub mod Theorems
+pub mod LimitLaws

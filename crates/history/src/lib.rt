@@ -6,4 +6,6 @@ pub mod answer;
 pub mod object;
 pub mod event;
 pub mod read;
+pub mod limits;
 pub mod line;
+pub mod write;

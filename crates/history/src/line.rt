@@ -2,6 +2,8 @@
 ghost use mathlib.Core.Path.{_≡_};
 ghost use Prim.Native.Nat.{_+_, _*_, _≤_, _<_};
 ghost use mathlib.Core.List.{[], _∷_, _++_, map};
+ghost use mathlib.Core.Bool.{cond};
+ghost use lib.Dec.{eqb};
 ghost use lib.ListN.{length, take};
 ghost use Rattle.layout.specs.Fill.{fill};
 ghost use Rattle.history.specs.Kinds.{kindWord, opWord};
@@ -107,4 +109,47 @@ fn put_piece(part: &mut [u8], field: Field, items: &[u32], behind: u8) -> usize
     let k = put_field(part, field, items);
     part[k] = behind;
     k + 1
+}
+
+// The byte behind field i of n: a space, or a line feed behind the last.
+fn byte_behind(i: usize, n: usize) -> u8
+    requires { ⌜ i < n ⌝ }
+    ensures { λ r. ⌜ r ≡ cond (eqb (i + 1) n) 10 32 ⌝ }
+{
+    if i + 1 == n {
+        return 10;
+    }
+    32
+}
+
+// How many bytes the line of the first n fields has, its line feed too.
+pub fn line_len(fields: [Field; 6], n: usize, items: &[u32]) -> usize
+    requires { ⌜ (n ≤ 6) × (length (now items) ≤ 64) ⌝ }
+    ensures { λ r. ⌜ (r ≡ length (piecesText (map (fieldText (now (items .entry))) (take n fields)))) × (r ≤ 4230) ⌝ }
+{
+    let mut total: usize = 0;
+    let mut i = 0;
+    while i < n {
+        let f = fields[i];
+        total = total + field_len(f, items) + 1;
+        i += 1;
+    }
+    total
+}
+
+// Writes the line of the first n fields, its line feed too, into a part that has room.
+pub fn put_line(part: &mut [u8], fields: [Field; 6], n: usize, items: &[u32]) -> usize
+    requires { ⌜ (n ≤ 6) × (length (piecesText (map (fieldText (now items)) (take n fields))) ≤ length (now part)) ⌝ }
+    ensures { λ r. ⌜ (r ≡ length (piecesText (map (fieldText (now (items .entry))) (take n fields)))) × (now (part .exit) ≡ fill (piecesText (map (fieldText (now (items .entry))) (take n fields))) (now (part .entry))) ⌝ }
+{
+    let mut at: usize = 0;
+    let mut i = 0;
+    while i < n {
+        let f = fields[i];
+        let b = byte_behind(i, n);
+        let k = put_piece(&mut part[at..], f, items, b);
+        at += k;
+        i += 1;
+    }
+    at
 }

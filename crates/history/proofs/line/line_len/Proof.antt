@@ -1,0 +1,63 @@
+-- `line_len` meets its contract: the bytes counted and those of the fields left are all bytes of the line. Assumes nothing.
+use borrow.Author.Needs.{needs}
+use Prim.Native.Nat.{_≤_, _+_, _*_, _-_}
+use mathlib.Core.Path.{_≡_, refl, ap}
+use mathlib.Core.List.{map, [], _∷_, _++_}
+use lib.ListN.{length, take, drop, getD, length-append}
+use Rattle.history.specs.Steps.Lines.{fieldText, piecesText}
+use Rattle.history.proofs.PieceLaws.{pieces-long, pieces-end}
+use Rattle.history.proofs.line.line_len.Statement.{statement}
+use Rattle.history.proofs.line.line_len.Tie as tie
+
+abbrev Inv-loop : tie.InvT-loop
+Inv-loop fields n items total₀ i₀ total i = ?
+
+abbrev μ-loop : tie.MeasureT-loop
+μ-loop fields n items total₀ i₀ total i = n - i
+
+loop-holds : tie.Need-loop-holds Inv-loop μ-loop
+loop-holds c = search needs
+
+mul-f : tie.Need-mul-f Inv-loop μ-loop
+mul-f c = search needs
+
+array-copy-out-f : tie.Need-array-copy-out-f Inv-loop μ-loop
+array-copy-out-f c = search needs
+
+field-len-requires : tie.Need-field-len-requires Inv-loop μ-loop
+field-len-requires c κs = search needs
+
+add-total : tie.Need-add-total Inv-loop μ-loop
+add-total c = search needs
+
+add-total-2 : tie.Need-add-total-2 Inv-loop μ-loop
+add-total-2 c = search needs
+
+add-i : tie.Need-add-i Inv-loop μ-loop
+add-i c = search needs
+
+loop-less : tie.Need-loop-less Inv-loop μ-loop
+loop-less c = search needs
+
+loop-again : tie.Need-loop-again Inv-loop μ-loop
+loop-again c = search needs
+
+returns : tie.Need-returns Inv-loop μ-loop
+returns c = search needs
+
+pub line-len-spec : {M : Type 1} → statement M
+line-len-spec =
+    tie.close
+    (tie.spec
+    Inv-loop
+    μ-loop
+    loop-holds
+    mul-f
+    array-copy-out-f
+    field-len-requires
+    add-total
+    add-total-2
+    add-i
+    loop-less
+    loop-again
+    returns)

@@ -1,0 +1,59 @@
+// Writing a history: the text of a record in the first bytes of a lent buffer.
+ghost use mathlib.Core.Path.{_≡_};
+ghost use Prim.Native.Nat.{ℕ, _+_, _≤_, _<_};
+ghost use mathlib.Core.List.{[], _∷_, _++_};
+ghost use mathlib.Core.Bool.{cond};
+ghost use lib.ListN.{length, take, getD};
+ghost use Rattle.layout.specs.Fill.{fill};
+ghost use Rattle.history.specs.Record.{noEvent};
+ghost use Rattle.history.specs.HistoryText.{linesText, objectText, eventText, objectLines, eventLines};
+ghost use Rattle.history.specs.Steps.Lines.{objectFieldsOf, eventFieldsOf};
+use crate::line::Field;
+use crate::line::line_len;
+use crate::line::put_line;
+use crate::record::Event;
+use crate::record::Object;
+use crate::word::is_window;
+use crate::word::takes_value;
+
+// The number, or `-`.
+fn number_or_dash(wanted: bool, n: u32) -> Field
+    ensures { λ r. ⌜ r ≡ cond wanted (Field.Number n) Field.Dash ⌝ }
+{
+    if wanted {
+        return Field::Number(n);
+    }
+    Field::Dash
+}
+
+// The three fields of an object's line.
+fn object_fields(own: u32, o: Object) -> [Field; 6]
+    ensures { λ r. ⌜ take 3 r ≡ objectFieldsOf own o ⌝ }
+{
+    let kind = o.kind;
+    let width = number_or_dash(is_window(kind), o.width as u32);
+    [Field::Number(own), Field::KindWord(kind), width, Field::Dash, Field::Dash, Field::Dash]
+}
+
+// The six fields of an event's line.
+fn event_fields(own: u32, e: Event) -> [Field; 6]
+    ensures { λ r. ⌜ r ≡ eventFieldsOf own e ⌝ }
+{
+    let op = e.op;
+    let process = e.process.0;
+    let value = number_or_dash(takes_value(op), e.value as u32);
+    [Field::Number(own), Field::Number(process as u32), Field::Number(e.object as u32), Field::OpWord(op), value, Field::Items]
+}
+
+// The values of an answer, as items of a list.
+fn widen(values: [u16; 8]) -> [u32; 8]
+    ensures { λ r. ⌜ r ≡ values ⌝ }
+{
+    let mut items = [0u32; 8];
+    let mut i = 0;
+    while i < 8 {
+        items[i] = values[i] as u32;
+        i += 1;
+    }
+    items
+}
