@@ -36,7 +36,7 @@ module _ (f : List ℕ) where
     answer-small i h =
         let l = is-list 65536 8 n f q in
         let k : getD xs i 0 ≡ getD (numbersOf f) i 0 =
-            sym (getD-take n xs i 0 h) ∙ ap (λ (t : List ℕ). getD t i 0) (numbers-kept l xs ys e) in
+        sym (getD-take n xs i 0 h) ∙ ap (λ (t : List ℕ). getD t i 0) (numbers-kept l xs ys e) in
         omega (arith, numbers-below l i h)
 
     pub answer-listed : answerField f ≡ record { spelt = true; below = true; few = true; answer = answerOf (take n xs) }

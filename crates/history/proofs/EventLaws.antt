@@ -41,8 +41,8 @@ pub judged-is : (numbered : Bool) (own : ℕ) (process number : NumberField) (kn
     → has ≡ hasOp (object .kind) op → takes ≡ takesValue op → fits ≡ cond takes (not (value .dash)) (value .dash)
     → can ≡ canAnswer object op (list .answer .count)
     → firstFault (numbered && process .spelt && number .spelt && known && value .spelt && list .spelt)
-      (ltb own 64 && process .below && number .below && value .below && list .below) (has && fits) (list .few && can)
-      ≡ judgedFault numbered own process number known op value list object
+    (ltb own 64 && process .below && number .below && value .below && list .below) (has && fits) (list .few && can)
+    ≡ judgedFault numbered own process number known op value list object
 unfolding judgedFault
 judged-is numbered own process number known op value list object has takes fits can h t f c = rw (h, f, t, c)
 
@@ -61,12 +61,12 @@ answer-below s e = rw e
 -- an answer of at most eight values has the length of its list
 answer-long : (object : Object) (op : Op) (s : List ℕ) → allNumbers (itemsOf s) ≡ true → allBelow 65536 (itemsOf s) ≡ true
     → answerField s .few && canAnswer object op (answerField s .answer .count)
-      ≡ leb (length (itemsOf s)) 8 && canAnswer object op (length (itemsOf s))
+    ≡ leb (length (itemsOf s)) 8 && canAnswer object op (length (itemsOf s))
 unfolding answerField isAnswer answerOf numbersOf
 answer-long object op s a b =
     by-bool (leb (length (itemsOf s)) 8)
-      (λ l. rw (a, b, l) (ap (canAnswer object op) (length-map (itemsOf s) value)))
-      (λ l. rw (a, b, l))
+    (λ l. rw (a, b, l) (ap (canAnswer object op) (length-map (itemsOf s) value)))
+    (λ l. rw (a, b, l))
 
 -- what the layout of six fields says of each
 pub record Laid (own : ℕ) (a p o w v s : List ℕ) : Type 0 where
@@ -94,7 +94,7 @@ laid own a p o w v s e =
       object = and-right b₂ (isNumber o) e₃;
       op = and-right b₃ (isOp w) e₄;
       given = and-right b₄ (isOptional v) e₅;
-      answer = and-right b₅ (allNumbers (itemsOf s)) e
+      answer = and-right b₅ (allNumbers (itemsOf s)) e;
     }
 
 -- what their limits say of each
@@ -119,7 +119,7 @@ limited own declared p o v s e =
       process = and-right (ltb own 64) (ltb (value p) 8) e₂;
       object = and-right b₂ (ltb (value o) declared) e₃;
       given = and-right b₃ (same v dash || ltb (value v) 65536) e₄;
-      answer = and-right b₄ (allBelow 65536 (itemsOf s)) e
+      answer = and-right b₄ (allBelow 65536 (itemsOf s)) e;
     }
 
 -- ---- what the reader judges is what six fields are
@@ -136,7 +136,7 @@ module _ (own : ℕ) (os : List Object) (a p o w v s : List ℕ) (object : Objec
 
   limits-is : Laid own a p o w v s
       → ltb own 64 && numberField 8 p .below && numberField (length os) o .below && optionalField 65536 v .below && answerField s .below
-        ≡ eventLimits own (length os) p o v s
+      ≡ eventLimits own (length os) p o v s
   unfolding eventLimits
   limits-is l =
       rw (number-below 8 p (l .process), number-below (length os) o (l .object), optional-below 65536 v (l .given), answer-below s (l .answer))
@@ -146,7 +146,7 @@ module _ (own : ℕ) (os : List Object) (a p o w v s : List ℕ) (object : Objec
 
   fits-is : Laid own a p o w v s → Limited own (length os) p o v s
       → hasOp (object .kind) (opOf w) && cond (takesValue (opOf w)) (not (optionalField 65536 v .dash)) (optionalField 65536 v .dash)
-        ≡ eventFits (objectNamed os o) w v
+      ≡ eventFits (objectNamed os o) w v
   unfolding eventFits optionalField
   fits-is l m = rw (object-is l m)
 
@@ -160,10 +160,12 @@ module _ (own : ℕ) (os : List Object) (a p o w v s : List ℕ) (object : Objec
   unfolding judgedFault eventFault
   fault-is =
       rw layout-is
-        (fault-same (eventLayout own a p o w v s) _ (eventLimits own (length os) p o v s) _ _ _ _
-          (λ e. limits-is (laid own a p o w v s e))
-          (λ e m. (fits-is (laid own a p o w v s e) (limited own (length os) p o v s m),
-                   long-is (laid own a p o w v s e) (limited own (length os) p o v s m))))
+      (fault-same (eventLayout own a p o w v s) _ (eventLimits own (length os) p o v s) _ _ _ _
+      (λ e. limits-is (laid own a p o w v s e))
+      (λ e m. (
+        fits-is (laid own a p o w v s e) (limited own (length os) p o v s m),
+        long-is (laid own a p o w v s e) (limited own (length os) p o v s m),
+      )))
 
   or-below : isOptional v ≡ true → same v dash || ltb (value v) 65536 ≡ true → same v dash || isBelow 65536 v ≡ true
   unfolding isOptional
@@ -181,24 +183,28 @@ module _ (own : ℕ) (os : List Object) (a p o w v s : List ℕ) (object : Objec
   -- no fault: the event is the one that the fields say
   said-is : eventFault own os a p o w v s ≡ 0
       → _≡_ {A = Event}
-        (record { process = record { 0 = numberField 8 p .value }; object = numberField (length os) o .value; op = opOf w; value = optionalField 65536 v .value; answer = answerField s .answer })
-        (eventSaid p o w v s)
+      (record { process = record { 0 = numberField 8 p .value }; object = numberField (length os) o .value; op = opOf w; value = optionalField 65536 v .value; answer = answerField s .answer })
+      (eventSaid p o w v s)
   unfolding eventFault eventSaid
   said-is e =
       let i = fault-none _ _ _ _ e in
       let l = laid own a p o w v s (i .layout) in
       let m = limited own (length os) p o v s (i .limits) in
-      rw (number-is 8 p (below-is 8 p (l .process) ∙ m .process), number-is (length os) o (below-is (length os) o (l .object) ∙ m .object),
-          given-is l m, answer-is l m (i .long))
+      rw (
+        number-is 8 p (below-is 8 p (l .process) ∙ m .process),
+        number-is (length os) o (below-is (length os) o (l .object) ∙ m .object),
+        given-is l m,
+        answer-is l m (i .long),
+      )
 
   pub six-judged : eventJudged (same a (spell own)) own (numberField 8 p) (numberField (length os) o) (isOp w) (opOf w) (optionalField 65536 v) (answerField s) object
       ≡ eventSix own os a p o w v s
   unfolding eventJudged eventSix
   six-judged =
       rw fault-is
-        (by-eq (eventFault own os a p o w v s) 0
-          (λ z. with-event _ _ z ∙ ap (λ (x : Event). record { fault = 0; event = x }) (said-is z) ∙ sym (with-event _ _ z))
-          (λ z. with-faulty _ _ z ∙ sym (with-faulty _ _ z)))
+      (by-eq (eventFault own os a p o w v s) 0
+      (λ z. with-event _ _ z ∙ ap (λ (x : Event). record { fault = 0; event = x }) (said-is z) ∙ sym (with-event _ _ z))
+      (λ z. with-faulty _ _ z ∙ sym (with-faulty _ _ z)))
 
 -- the object that the reader looks up is the one that the field names
 below-less : (bound : ℕ) (f : List ℕ) → isBelow bound f ≡ true → value f < bound
@@ -214,12 +220,12 @@ six-read own objects declared few a p o w v s numbered process number known op g
     let d : length (take declared objects) ≡ declared = length-take-le declared objects few in
     let n₃′ : number ≡ numberField (length (take declared objects)) o = n₃ ∙ ap (λ (k : ℕ). numberField k o) (sym d) in
     let named : isBelow (length (take declared objects)) o ≡ true → object ≡ objectNamed (take declared objects) o =
-        λ e.
-          let b : isBelow declared o ≡ true = rw d at e in
-          n₈
-          ∙ ap (λ (x : NumberField). getD objects (x .value) noObject) n₃
-          ∙ ap (λ (k : ℕ). getD objects k noObject) (number-is declared o b)
-          ∙ sym (getD-take declared objects (value o) noObject (below-less declared o b)) in
+    λ e.
+    let b : isBelow declared o ≡ true = rw d at e in
+    n₈
+    ∙ ap (λ (x : NumberField). getD objects (x .value) noObject) n₃
+    ∙ ap (λ (k : ℕ). getD objects k noObject) (number-is declared o b)
+    ∙ sym (getD-take declared objects (value o) noObject (below-less declared o b)) in
     rw (n₁, n₂, n₃′, n₄, n₅, n₆, n₇) (six-judged own (take declared objects) a p o w v s object named)
 
 -- ---- the line, by its fields

@@ -65,14 +65,14 @@ word-op : (f : List ℕ) → isOp f ≡ true → opWord (opOf f) ≡ f
 unfolding isOp opOf opWord
 word-op f e =
     by-bool (same f readWord)
-      (λ r. rw r (sym (same-true f readWord r)))
-      (λ r. by-bool (same f pushWord)
-        (λ u. rw (r, u) (sym (same-true f pushWord u)))
-        (λ u. by-bool (same f popWord)
-          (λ o. rw (r, u, o) (sym (same-true f popWord o)))
-          (λ o. by-bool (same f peekWord)
-            (λ k. rw (r, u, o, k) (sym (same-true f peekWord k)))
-            (λ k. rw (r, u, o, k) (sym (same-true f writeWord (rw (r, u, o, k) at e)))))))
+    (λ r. rw r (sym (same-true f readWord r)))
+    (λ r. by-bool (same f pushWord)
+    (λ u. rw (r, u) (sym (same-true f pushWord u)))
+    (λ u. by-bool (same f popWord)
+    (λ o. rw (r, u, o) (sym (same-true f popWord o)))
+    (λ o. by-bool (same f peekWord)
+    (λ k. rw (r, u, o, k) (sym (same-true f peekWord k)))
+    (λ k. rw (r, u, o, k) (sym (same-true f writeWord (rw (r, u, o, k) at e)))))))
 
 -- ---- the fields of an event's line
 abbrev fieldsOf : ℕ → Event → List (List ℕ)
@@ -85,21 +85,27 @@ fields-without : (b : ℕ) → isDigit b ≡ false → (b ≡ 44 → ⊥) → (b
     → allWithout b (fieldsOf own e) ≡ true
 unfolding allWithout
 fields-without b d c m own e w =
-    rw (spell-without b own d, spell-without b (e .process .0) d, spell-without b (e .object) d, w,
-        option-without b d m (takesValue (e .op)) (e .value), list-without b d c m (valuesIn (e .answer)))
+    rw (
+      spell-without b own d,
+      spell-without b (e .process .0) d,
+      spell-without b (e .object) d,
+      w,
+      option-without b d m (takesValue (e .op)) (e .value),
+      list-without b d c m (valuesIn (e .answer)),
+    )
 
 text-fields : (own : ℕ) (e : Event) → split 32 (eventText own e) ≡ fieldsOf own e
 unfolding eventText
 text-fields own e =
     split-join 32 (spell own) _
-      (fields-without 32 (digit-low 32 (omega arith)) (λ q. omega arith) (λ q. omega arith) own e (op-without (e .op) .0))
+    (fields-without 32 (digit-low 32 (omega arith)) (λ q. omega arith) (λ q. omega arith) own e (op-without (e .op) .0))
 
 -- the line holds no line feed
 pub event-clean : (own : ℕ) (e : Event) → without 10 (eventText own e) ≡ true
 unfolding eventText
 event-clean own e =
     join-without 10 32 (λ q. omega arith) (fieldsOf own e)
-      (fields-without 10 (digit-low 10 (omega arith)) (λ q. omega arith) (λ q. omega arith) own e (op-without (e .op) .1))
+    (fields-without 10 (digit-low 10 (omega arith)) (λ q. omega arith) (λ q. omega arith) own e (op-without (e .op) .1))
 
 -- ---- the places of an answer
 zeros : (xs : List ℕ) → allZero xs ≡ true → xs ≡ replicate (length xs) 0
@@ -136,7 +142,7 @@ good-answer object op a e =
       can = and-right b₁ (canAnswer object op (a .count)) e₂;
       small = and-right b₂ (allLess 65536 (valuesIn a)) e₃;
       long = eqb-true (length (a .values)) 8 (and-right b₃ (eqb (length (a .values)) 8) e₄);
-      rest = and-right b₄ (allZero (drop (a .count) (a .values))) e
+      rest = and-right b₄ (allZero (drop (a .count) (a .values))) e;
     }
 
 module _ {object : Object} {op : Op} {a : Answer} (g : GoodAnswer object op a) where
@@ -149,7 +155,7 @@ module _ {object : Object} {op : Op} {a : Answer} (g : GoodAnswer object op a) w
   answer-whole =
       let n : length (drop (a .count) (a .values)) ≡ 8 - a .count = omega (arith, length-drop (a .count) (a .values)) in
       let r : replicate (8 - a .count) 0 ≡ drop (a .count) (a .values) =
-          sym (zeros (drop (a .count) (a .values)) (g .rest) ∙ ap (λ (k : ℕ). replicate k 0) n) in
+      sym (zeros (drop (a .count) (a .values)) (g .rest) ∙ ap (λ (k : ℕ). replicate k 0) n) in
       rw (answer-count, r, take-append-drop (a .count) (a .values))
 
 drop-pad : (xs : List ℕ) → drop (length xs) (pad 8 0 xs) ≡ replicate (8 - length xs) 0
@@ -175,14 +181,14 @@ unfolding allBelow allLess
 spells-below bound [] e = refl
 spells-below bound (x ∷ xs) e =
     rw (value-spell x, and-left (ltb x bound) (allLess bound xs) e)
-      (spells-below bound xs (and-right (ltb x bound) (allLess bound xs) e))
+    (spells-below bound xs (and-right (ltb x bound) (allLess bound xs) e))
 
 values-less : (bound : ℕ) (ps : List (List ℕ)) → allBelow bound ps ≡ true → allLess bound (map value ps) ≡ true
 unfolding allBelow allLess
 values-less bound [] e = refl
 values-less bound (p ∷ ps) e =
     rw (and-left (ltb (value p) bound) (allBelow bound ps) e)
-      (values-less bound ps (and-right (ltb (value p) bound) (allBelow bound ps) e))
+    (values-less bound ps (and-right (ltb (value p) bound) (allBelow bound ps) e))
 
 -- ---- the value of an event
 given-limits : (t : Bool) (n : ℕ) → cond t (ltb n 65536) (eqb n 0) ≡ true
@@ -225,7 +231,7 @@ good-event os e g =
       object = and-right b₁ (ltb (e .object) (length os)) e₂;
       has = and-right b₂ (hasOp (object .kind) (e .op)) e₃;
       given = and-right b₃ (goodValue (e .op) (e .value)) e₄;
-      answer = good-answer object (e .op) (e .answer) (and-right b₄ (goodAnswer object (e .op) (e .answer)) g)
+      answer = good-answer object (e .op) (e .answer) (and-right b₄ (goodAnswer object (e .op) (e .answer)) g);
     }
 
 module _ (own : ℕ) (os : List Object) (e : Event) (h : own < 64) (g : GoodEvent os e) where
@@ -247,16 +253,29 @@ module _ (own : ℕ) (os : List Object) (e : Event) (h : own < 64) (g : GoodEven
   layout-text : eventLayout own (spell own) pText oText wText vText sText ≡ true
   unfolding eventLayout
   layout-text =
-      rw (same-refl (spell own), number-spell (e .process .0), number-spell (e .object), op-known (e .op),
-          option-layout (takesValue (e .op)) (e .value), items-text (valuesIn (e .answer)))
-        (spells-numbers (valuesIn (e .answer)))
+      rw (
+        same-refl (spell own),
+        number-spell (e .process .0),
+        number-spell (e .object),
+        op-known (e .op),
+        option-layout (takesValue (e .op)) (e .value),
+        items-text (valuesIn (e .answer)),
+      )
+      (spells-numbers (valuesIn (e .answer)))
 
   limits-text : eventLimits own (length os) pText oText vText sText ≡ true
   unfolding eventLimits
   limits-text =
-      rw (lt-ltb own 64 h, value-spell (e .process .0), g .process, value-spell (e .object), g .object,
-          given-limits (takesValue (e .op)) (e .value) (g .given), items-text (valuesIn (e .answer)))
-        (spells-below 65536 (valuesIn (e .answer)) (g .answer .small))
+      rw (
+        lt-ltb own 64 h,
+        value-spell (e .process .0),
+        g .process,
+        value-spell (e .object),
+        g .object,
+        given-limits (takesValue (e .op)) (e .value) (g .given),
+        items-text (valuesIn (e .answer)),
+      )
+      (spells-below 65536 (valuesIn (e .answer)) (g .answer .small))
 
   fits-text : eventFits (objectNamed os oText) wText vText ≡ true
   unfolding eventFits
@@ -265,9 +284,15 @@ module _ (own : ℕ) (os : List Object) (e : Event) (h : own < 64) (g : GoodEven
   long-text : eventLong (objectNamed os oText) wText sText ≡ true
   unfolding eventLong
   long-text =
-      rw (value-spell (e .object), op-word (e .op), items-text (valuesIn (e .answer)),
-          length-map (valuesIn (e .answer)) spell, answer-count (g .answer), le-leb (e .answer .count) 8 (g .answer .few))
-        (g .answer .can)
+      rw (
+        value-spell (e .object),
+        op-word (e .op),
+        items-text (valuesIn (e .answer)),
+        length-map (valuesIn (e .answer)) spell,
+        answer-count (g .answer),
+        le-leb (e .answer .count) 8 (g .answer .few),
+      )
+      (g .answer .can)
 
   fault-text : eventFault own os (spell own) pText oText wText vText sText ≡ 0
   unfolding eventFault
@@ -276,8 +301,14 @@ module _ (own : ℕ) (os : List Object) (e : Event) (h : own < 64) (g : GoodEven
   said-text : eventSaid pText oText wText vText sText ≡ e
   unfolding eventSaid
   said-text =
-      rw (value-spell (e .process .0), value-spell (e .object), op-word (e .op),
-          given-value (takesValue (e .op)) (e .value) (g .given), numbers-written (valuesIn (e .answer)), answer-whole (g .answer))
+      rw (
+        value-spell (e .process .0),
+        value-spell (e .object),
+        op-word (e .op),
+        given-value (takesValue (e .op)) (e .value) (g .given),
+        numbers-written (valuesIn (e .answer)),
+        answer-whole (g .answer),
+      )
 
   six-text : eventSix own os (spell own) pText oText wText vText sText ≡ record { fault = 0; event = e }
   unfolding eventSix
@@ -311,7 +342,7 @@ values-of xs = take-pad 8 0 xs
 -- six fields without a fault
 module _ (own : ℕ) (os : List Object) (a p o w v s : List ℕ)
     (i : InOrder (eventLayout own a p o w v s) (eventLimits own (length os) p o v s) (eventFits (objectNamed os o) w v)
-      (eventLong (objectNamed os o) w s)) where
+    (eventLong (objectNamed os o) w s)) where
   fields-laid : Laid own a p o w v s
   fields-laid = laid own a p o w v s (i .layout)
 
@@ -348,7 +379,7 @@ module _ (own : ℕ) (os : List Object) (a p o w v s : List ℕ)
   read-answer : goodAnswer (objectNamed os o) (opOf w) (answerOf (numbersOf s)) ≡ true
   read-answer =
       made-good (objectNamed os o) (opOf w) (numbersOf s) (omega (arith, leb-true (length (itemsOf s)) 8 read-few, read-count))
-        (ap (canAnswer (objectNamed os o) (opOf w)) read-count ∙ read-can) read-small
+      (ap (canAnswer (objectNamed os o) (opOf w)) read-count ∙ read-can) read-small
 
   read-value : goodValue (opOf w) (optional v) ≡ true
   unfolding goodValue
@@ -365,10 +396,15 @@ module _ (own : ℕ) (os : List Object) (a p o w v s : List ℕ)
   read-fields : fieldsOf own (eventSaid p o w v s) ≡ a ∷ p ∷ o ∷ w ∷ v ∷ s ∷ []
   unfolding eventSaid
   read-fields =
-      rw (sym (same-true a (spell own) (fields-laid .numbered)), spell-value p (fields-laid .process),
-          spell-value o (fields-laid .object),
-          word-op w (fields-laid .op), option-says (takesValue (opOf w)) v (fields-laid .given) read-given,
-          values-of (numbersOf s), written-read 65536 8 (length (itemsOf s)) s read-listed)
+      rw (
+        sym (same-true a (spell own) (fields-laid .numbered)),
+        spell-value p (fields-laid .process),
+        spell-value o (fields-laid .object),
+        word-op w (fields-laid .op),
+        option-says (takesValue (opOf w)) v (fields-laid .given) read-given,
+        values-of (numbersOf s),
+        written-read 65536 8 (length (itemsOf s)) s read-listed,
+      )
 
 -- a line without a fault has six fields without a fault, and says what they say
 record Six (own : ℕ) (os : List Object) (line : List ℕ) : Type 0 where
@@ -380,7 +416,7 @@ record Six (own : ℕ) (os : List Object) (line : List ℕ) : Type 0 where
   s : List ℕ
   cut : split 32 line ≡ a ∷ p ∷ o ∷ w ∷ v ∷ s ∷ []
   order : InOrder (eventLayout own a p o w v s) (eventLimits own (length os) p o v s) (eventFits (objectNamed os o) w v)
-    (eventLong (objectNamed os o) w s)
+      (eventLong (objectNamed os o) w s)
   event : eventLine own os line .event ≡ eventSaid p o w v s
 
 module _ (own : ℕ) (os : List Object) (a p o w v s : List ℕ) where
@@ -397,7 +433,7 @@ module _ (own : ℕ) (os : List Object) (a p o w v s : List ℕ) where
 
   six-order : eventFault own os a p o w v s ≡ 0
       → InOrder (eventLayout own a p o w v s) (eventLimits own (length os) p o v s) (eventFits (objectNamed os o) w v)
-        (eventLong (objectNamed os o) w s)
+      (eventLong (objectNamed os o) w s)
   unfolding eventFault
   six-order z = fault-none _ _ _ _ z
 
@@ -405,29 +441,29 @@ six-of : (own : ℕ) (os : List Object) (line : List ℕ) → eventLine own os l
 six-of own os line e =
     let fs : List (List ℕ) = split 32 line in
     by-eq (length fs) 6
-      (λ n.
-        let a : List ℕ = getD fs 0 [] in
-        let p : List ℕ = getD fs 1 [] in
-        let o : List ℕ = getD fs 2 [] in
-        let w : List ℕ = getD fs 3 [] in
-        let v : List ℕ = getD fs 4 [] in
-        let s : List ℕ = getD fs 5 [] in
-        let q : eventLine own os line ≡ eventSix own os a p o w v s = event-six own os line fs refl n in
-        let z : eventFault own os a p o w v s ≡ 0 = six-zero own os a p o w v s (sym (ap (λ (r : EventRead). r .fault) q) ∙ e) in
-        record {
-          a = a;
-          p = p;
-          o = o;
-          w = w;
-          v = v;
-          s = s;
-          cut = six fs n;
-          order = six-order own os a p o w v s z;
-          event = ap (λ (r : EventRead). r .event) q ∙ six-said own os a p o w v s z
-        })
-      (λ n.
-        let t : _≡_ {A = ℕ} 2 0 = sym (ap (λ (r : EventRead). r .fault) (event-count own os line fs refl n)) ∙ e in
-        absurd (omega arith))
+    (λ n.
+    let a : List ℕ = getD fs 0 [] in
+    let p : List ℕ = getD fs 1 [] in
+    let o : List ℕ = getD fs 2 [] in
+    let w : List ℕ = getD fs 3 [] in
+    let v : List ℕ = getD fs 4 [] in
+    let s : List ℕ = getD fs 5 [] in
+    let q : eventLine own os line ≡ eventSix own os a p o w v s = event-six own os line fs refl n in
+    let z : eventFault own os a p o w v s ≡ 0 = six-zero own os a p o w v s (sym (ap (λ (r : EventRead). r .fault) q) ∙ e) in
+    record {
+      a = a;
+      p = p;
+      o = o;
+      w = w;
+      v = v;
+      s = s;
+      cut = six fs n;
+      order = six-order own os a p o w v s z;
+      event = ap (λ (r : EventRead). r .event) q ∙ six-said own os a p o w v s z;
+    })
+    (λ n.
+    let t : _≡_ {A = ℕ} 2 0 = sym (ap (λ (r : EventRead). r .fault) (event-count own os line fs refl n)) ∙ e in
+    absurd (omega arith))
 
 -- what a line that reads as an event says
 pub record ReadsEvent (own : ℕ) (os : List Object) (line : List ℕ) : Type 0 where
@@ -448,5 +484,5 @@ event-read own os line e =
     record {
       numbered = read-numbered own os (t .a) (t .p) (t .o) (t .w) (t .v) (t .s) (t .order);
       good = ap (goodEvent os) (t .event) ∙ read-good own os (t .a) (t .p) (t .o) (t .w) (t .v) (t .s) (t .order);
-      says = read-says own os line t
+      says = read-says own os line t;
     }

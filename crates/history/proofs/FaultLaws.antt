@@ -24,9 +24,9 @@ unfolding firstFault
 fault-same false m m′ f f′ g g′ p q = refl
 fault-same true m m′ f f′ g g′ p q =
     rw (p refl)
-      (by-bool m′
-        (λ e. rw e (ap₂ (λ (x y : Bool). cond x (cond y 0 5) 4) (q refl e .0) (q refl e .1)))
-        (λ e. rw e))
+    (by-bool m′
+    (λ e. rw e (ap₂ (λ (x y : Bool). cond x (cond y 0 5) 4) (q refl e .0) (q refl e .1)))
+    (λ e. rw e))
 
 -- no fault
 pub record InOrder (l m f g : Bool) : Type 0 where
@@ -76,7 +76,7 @@ module _ (bound : ℕ) (f : List ℕ) where
 
   pub optional-some : same f dash ≡ false
       → optionalField bound f
-        ≡ record { dash = false; spelt = numberField bound f .spelt; below = numberField bound f .below; value = numberField bound f .value }
+      ≡ record { dash = false; spelt = numberField bound f .spelt; below = numberField bound f .below; value = numberField bound f .value }
   unfolding optionalField isOptional numberField
   optional-some e = rw e
 
@@ -89,8 +89,8 @@ module _ (bound : ℕ) (f : List ℕ) where
   unfolding optionalField optional
   optional-is e =
       by-bool (same f dash)
-        (λ d. rw d)
-        (λ d. rw (d, rw d at e))
+      (λ d. rw d)
+      (λ d. rw (d, rw d at e))
 
 -- ---- an order that is no equality is strict
 pub strict : (a b : ℕ) → a ≤ b → (a ≡ b → ⊥) → a < b

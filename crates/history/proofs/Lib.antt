@@ -14,3 +14,4 @@ pub mod TextRound
 pub mod TextLength
 pub mod Theorems
 pub mod LimitLaws
+pub mod ShowLaws

@@ -110,8 +110,15 @@ module _ (objects : List Object) (declared : ℕ) (l : declared ≤ length objec
       → has && given && answered ≡ goodEvent (take declared objects) e
   unfolding goodEvent
   event-is has given answered h k p q r =
-      rw (p, q, r, length-take-le declared objects l, lt-ltb (e .process .0) 8 h, lt-ltb (e .object) declared k,
-          getD-take declared objects (e .object) noObject k)
+      rw (
+        p,
+        q,
+        r,
+        length-take-le declared objects l,
+        lt-ltb (e .process .0) 8 h,
+        lt-ltb (e .object) declared k,
+        getD-take declared objects (e .object) noObject k,
+      )
 
 pub blank-is : (e : Event) (write zeros : Bool) → length (e .answer .values) ≡ 8 → write ≡ isWrite (e .op) → zeros ≡ allZero (e .answer .values)
     → eqb (e .process .0) 0 && eqb (e .object) 0 && write && eqb (e .value) 0 && eqb (e .answer .count) 0 && zeros ≡ blankEvent e

@@ -29,7 +29,7 @@ join-without b c h [] e = refl
 join-without b c h (p ∷ []) e = and-left (without b p) true e
 join-without b c h (p ∷ q ∷ ps) e =
     without-append b p (c ∷ join c (q ∷ ps)) (and-left (without b p) (allWithout b (q ∷ ps)) e)
-      (rw (ne-eqb c b (λ k. h (sym k))) (join-without b c h (q ∷ ps) (and-right (without b p) (allWithout b (q ∷ ps)) e)))
+    (rw (ne-eqb c b (λ k. h (sym k))) (join-without b c h (q ∷ ps) (and-right (without b p) (allWithout b (q ∷ ps)) e)))
 
 spells-without : (b : ℕ) → isDigit b ≡ false → (xs : List ℕ) → allWithout b (map spell xs) ≡ true
 unfolding allWithout

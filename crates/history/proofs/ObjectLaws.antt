@@ -27,15 +27,15 @@ width-limits : (own : ℕ) (w : List ℕ) → isOptional w ≡ true
 unfolding isOptional optionalField objectLimits
 width-limits own w o =
     by-bool (ltb own 16)
-      (λ h. by-bool (same w dash)
-        (λ d. rw (h, d))
-        (λ d.
-          let n : isNumber w ≡ true = rw d at o in
-          rw (h, d, below-is 9 w n)
-            (by-bool (ltb (value w) 9)
-              (λ b. rw b (sym (and-true (ltb 0 (value w)))))
-              (λ b. rw b (sym (and-false (ltb 0 (value w))))))))
-      (λ h. rw h)
+    (λ h. by-bool (same w dash)
+    (λ d. rw (h, d))
+    (λ d.
+    let n : isNumber w ≡ true = rw d at o in
+    rw (h, d, below-is 9 w n)
+    (by-bool (ltb (value w) 9)
+    (λ b. rw b (sym (and-true (ltb 0 (value w)))))
+    (λ b. rw b (sym (and-false (ltb 0 (value w))))))))
+    (λ h. rw h)
 
 -- ---- what the reader judges is the first fault of the fields
 fits-is : (k w : List ℕ) → cond (isWindow (kindOf k)) (not (optionalField 9 w .dash)) (optionalField 9 w .dash) ≡ objectFits k w
@@ -58,9 +58,9 @@ module _ (own : ℕ) (a k w : List ℕ) (numbered known : Bool) (kind : Kind) (w
   unfolding objectFault
   object-judged =
       rw (i, v, n, q, o, t, layout-is own a k w, fits-is k w)
-        (fault-same (objectLayout own a k w) _ (objectLimits own w) (objectFits k w) (objectFits k w) true true
-          (λ l. width-limits own w (layout-width own a k w l))
-          (λ l m. (refl, refl)))
+      (fault-same (objectLayout own a k w) _ (objectLimits own w) (objectFits k w) (objectFits k w) true true
+      (λ l. width-limits own w (layout-width own a k w l))
+      (λ l m. (refl, refl)))
 
 -- ---- the object, or its fault
 module _ (own : ℕ) (a k w : List ℕ) where
@@ -77,11 +77,11 @@ module _ (own : ℕ) (a k w : List ℕ) where
   unfolding objectLimits isOptional
   limits-below m o =
       by-bool (same w dash)
-        (λ d. rw d)
-        (λ d.
-          let n : isNumber w ≡ true = rw d at o in
-          let l : ltb 0 (value w) && ltb (value w) 9 ≡ true = rw d at (and-right (ltb own 16) _ m) in
-          rw d (below-is 9 w n ∙ and-right (ltb 0 (value w)) (ltb (value w) 9) l))
+      (λ d. rw d)
+      (λ d.
+      let n : isNumber w ≡ true = rw d at o in
+      let l : ltb 0 (value w) && ltb (value w) 9 ≡ true = rw d at (and-right (ltb own 16) _ m) in
+      rw d (below-is 9 w n ∙ and-right (ltb 0 (value w)) (ltb (value w) 9) l))
 
   pub three-object : (kind : Kind) (width : OptionalField) → kind ≡ kindOf k → width ≡ optionalField 9 w → objectFault own a k w ≡ 0
       → _≡_ {A = ObjectRead} (record { fault = 0; object = record { kind = kind; width = width .value } }) (objectThree own a k w)

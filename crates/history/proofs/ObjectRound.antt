@@ -54,12 +54,12 @@ word-kind : (f : List ℕ) → isKind f ≡ true → kindWord (kindOf f) ≡ f
 unfolding isKind kindOf kindWord
 word-kind f e =
     by-bool (same f queueWord)
-      (λ q. rw q (sym (same-true f queueWord q)))
-      (λ q. by-bool (same f stackWord)
-        (λ s. rw (q, s) (sym (same-true f stackWord s)))
-        (λ s. by-bool (same f windowWord)
-          (λ w. rw (q, s, w) (sym (same-true f windowWord w)))
-          (λ w. rw (q, s, w) (sym (same-true f registerWord (rw (q, s, w) at e))))))
+    (λ q. rw q (sym (same-true f queueWord q)))
+    (λ q. by-bool (same f stackWord)
+    (λ s. rw (q, s) (sym (same-true f stackWord s)))
+    (λ s. by-bool (same f windowWord)
+    (λ w. rw (q, s, w) (sym (same-true f windowWord w)))
+    (λ w. rw (q, s, w) (sym (same-true f registerWord (rw (q, s, w) at e))))))
 
 -- ---- the fields of an object's line
 abbrev fieldsOf : ℕ → Object → List (List ℕ)
@@ -75,14 +75,14 @@ text-fields : (own : ℕ) (o : Object) → split 32 (objectText own o) ≡ field
 unfolding objectText
 text-fields own o =
     split-join 32 (spell own) (kindWord (o .kind) ∷ cond (isWindow (o .kind)) (spell (o .width)) dash ∷ [])
-      (fields-without 32 (digit-low 32 (omega arith)) (λ q. omega arith) own o (kind-without (o .kind) .0))
+    (fields-without 32 (digit-low 32 (omega arith)) (λ q. omega arith) own o (kind-without (o .kind) .0))
 
 -- the line holds no line feed
 pub object-clean : (own : ℕ) (o : Object) → without 10 (objectText own o) ≡ true
 unfolding objectText
 object-clean own o =
     join-without 10 32 (λ q. omega arith) (fieldsOf own o)
-      (fields-without 10 (digit-low 10 (omega arith)) (λ q. omega arith) own o (kind-without (o .kind) .1))
+    (fields-without 10 (digit-low 10 (omega arith)) (λ q. omega arith) own o (kind-without (o .kind) .1))
 
 -- it is not the heading of the events, which has six fields
 heading-fields : length (split 32 eventHeading) ≡ 6
@@ -92,10 +92,10 @@ heading-fields = refl
 pub object-not-heading : (own : ℕ) (o : Object) → same (objectText own o) eventHeading ≡ false
 object-not-heading own o =
     same-false (objectText own o) eventHeading
-      (λ e.
-        let q : length (split 32 (objectText own o)) ≡ 3 = ap length (text-fields own o) in
-        let z : length (split 32 (objectText own o)) ≡ 6 = ap (λ (l : List ℕ). length (split 32 l)) e ∙ heading-fields in
-        omega arith)
+    (λ e.
+    let q : length (split 32 (objectText own o)) ≡ 3 = ap length (text-fields own o) in
+    let z : length (split 32 (objectText own o)) ≡ 6 = ap (λ (l : List ℕ). length (split 32 l)) e ∙ heading-fields in
+    omega arith)
 
 -- ---- written and read back
 layout-text : (own : ℕ) (o : Object)
@@ -119,14 +119,15 @@ width-text false n g = option-value false n ∙ sym (eqb-true n 0 g)
 
 three-text : (own : ℕ) (o : Object) → own < 16 → goodObject o ≡ true
     → objectThree own (spell own) (kindWord (o .kind)) (cond (isWindow (o .kind)) (spell (o .width)) dash)
-      ≡ record { fault = 0; object = o }
+    ≡ record { fault = 0; object = o }
 unfolding objectThree objectFault goodObject
 three-text own o h g =
     let z = fault-zero (record {
       layout = layout-text own o;
       limits = limits-text own (o .width) (isWindow (o .kind)) h g;
       fits = fits-text (o .kind) (o .width);
-      long = refl }) in
+      long = refl;
+    }) in
     rw (eq-eqb _ 0 z, kind-word (o .kind), width-text (isWindow (o .kind)) (o .width) g)
 
 -- the line of a good object reads as that object
@@ -163,7 +164,7 @@ module _ (own : ℕ) (a k w : List ℕ) (i : InOrder (objectLayout own a k w) (o
   unfolding goodObject objectLimits objectFits
   read-good =
       good-by (isWindow (kindOf k)) w
-        (and-right (ltb own 16) (same w dash || (ltb 0 (value w) && ltb (value w) 9)) (i .limits)) (i .fits)
+      (and-right (ltb own 16) (same w dash || (ltb 0 (value w) && ltb (value w) 9)) (i .limits)) (i .fits)
 
   read-fields : fieldsOf own read ≡ a ∷ k ∷ w ∷ []
   unfolding objectLayout objectFits
@@ -172,7 +173,7 @@ module _ (own : ℕ) (a k w : List ℕ) (i : InOrder (objectLayout own a k w) (o
       let p : spell own ≡ a = sym (same-true a (spell own) (and-left (same a (spell own)) (isKind k) l)) in
       let q : kindWord (kindOf k) ≡ k = word-kind k (and-right (same a (spell own)) (isKind k) l) in
       let r : cond (isWindow (kindOf k)) (spell (optional w)) dash ≡ w =
-          option-says (isWindow (kindOf k)) w (and-right (same a (spell own) && isKind k) (isOptional w) (i .layout)) (i .fits) in
+      option-says (isWindow (kindOf k)) w (and-right (same a (spell own) && isKind k) (isOptional w) (i .layout)) (i .fits) in
       rw (p, q, r)
 
 -- a line without a fault has three fields without a fault, and says what they say
@@ -192,29 +193,29 @@ three-said own a k w z = rw (eq-eqb (objectFault own a k w) 0 z)
 three-zero : (own : ℕ) (a k w : List ℕ) → objectThree own a k w .fault ≡ 0 → objectFault own a k w ≡ 0
 three-zero own a k w e =
     by-eq (objectFault own a k w) 0 (λ z. z)
-      (λ n. absurd (n (sym (ap (λ (r : ObjectRead). r .fault) (three-faulty own a k w n)) ∙ e)))
+    (λ n. absurd (n (sym (ap (λ (r : ObjectRead). r .fault) (three-faulty own a k w n)) ∙ e)))
 
 three-of : (own : ℕ) (line : List ℕ) → objectLine own line .fault ≡ 0 → Three own line
 three-of own line e =
     let fs : List (List ℕ) = split 32 line in
     by-eq (length fs) 3
-      (λ n.
-        let a : List ℕ = getD fs 0 [] in
-        let k : List ℕ = getD fs 1 [] in
-        let w : List ℕ = getD fs 2 [] in
-        let q : objectLine own line ≡ objectThree own a k w = object-three own line fs refl n in
-        let z : objectFault own a k w ≡ 0 = three-zero own a k w (sym (ap (λ (r : ObjectRead). r .fault) q) ∙ e) in
-        record {
-          first = a;
-          second = k;
-          third = w;
-          cut = three fs n;
-          order = three-order own a k w z;
-          object = ap (λ (r : ObjectRead). r .object) q ∙ three-said own a k w z
-        })
-      (λ n.
-        let t : _≡_ {A = ℕ} 2 0 = sym (ap (λ (r : ObjectRead). r .fault) (object-count own line fs refl n)) ∙ e in
-        absurd (omega arith))
+    (λ n.
+    let a : List ℕ = getD fs 0 [] in
+    let k : List ℕ = getD fs 1 [] in
+    let w : List ℕ = getD fs 2 [] in
+    let q : objectLine own line ≡ objectThree own a k w = object-three own line fs refl n in
+    let z : objectFault own a k w ≡ 0 = three-zero own a k w (sym (ap (λ (r : ObjectRead). r .fault) q) ∙ e) in
+    record {
+      first = a;
+      second = k;
+      third = w;
+      cut = three fs n;
+      order = three-order own a k w z;
+      object = ap (λ (r : ObjectRead). r .object) q ∙ three-said own a k w z;
+    })
+    (λ n.
+    let t : _≡_ {A = ℕ} 2 0 = sym (ap (λ (r : ObjectRead). r .fault) (object-count own line fs refl n)) ∙ e in
+    absurd (omega arith))
 
 -- what a line that reads as an object says
 pub record ReadsObject (own : ℕ) (line : List ℕ) : Type 0 where
@@ -235,5 +236,5 @@ object-read own line e =
     record {
       numbered = read-numbered own (t .first) (t .second) (t .third) (t .order);
       good = ap goodObject (t .object) ∙ read-good own (t .first) (t .second) (t .third) (t .order);
-      says = read-says own line t
+      says = read-says own line t;
     }

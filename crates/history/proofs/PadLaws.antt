@@ -4,7 +4,7 @@ use native.Mathlib.Nat.{sub-zero}
 use native.Mathlib.Numerals.{add-one}
 use native.Mathlib.Omega.{arith}
 use mathlib.Core.Path.{_≡_, refl, sym, ap, _∙_}
-use mathlib.Core.List.{List, [], _∷_, _++_, append-assoc}
+use mathlib.Core.List.{List, [], _∷_, _++_, append-assoc, append-nil}
 use lib.ListN.{length, getD, take, drop, set, replicate, length-set, length-append, length-replicate, List·getD-append, List·getD-eq-default}
 use lib.Seq.{take-append-seam, set-append-seam, take-suc, take-suc-set, length-take-le, getD-append-add}
 use Rattle.layout.proofs.Cases.{by-lt}
@@ -44,13 +44,13 @@ module _ {A : Type 0} (places : ℕ) (blank : A) where
     unfolding pad
     getD-pad i =
         by-lt i (length xs)
-          (λ h. List·getD-append xs (replicate (places - length xs) blank) blank i h)
-          (λ h.
-            let j : i ≡ length xs + (i - length xs) = omega arith in
-            ap (λ (n : ℕ). getD (xs ++ replicate (places - length xs) blank) n blank) j
-            ∙ getD-append-add xs (replicate (places - length xs) blank) (i - length xs) blank
-            ∙ getD-blank blank (places - length xs) (i - length xs)
-            ∙ sym (List·getD-eq-default xs blank h))
+        (λ h. List·getD-append xs (replicate (places - length xs) blank) blank i h)
+        (λ h.
+        let j : i ≡ length xs + (i - length xs) = omega arith in
+        ap (λ (n : ℕ). getD (xs ++ replicate (places - length xs) blank) n blank) j
+        ∙ getD-append-add xs (replicate (places - length xs) blank) (i - length xs) blank
+        ∙ getD-blank blank (places - length xs) (i - length xs)
+        ∙ sym (List·getD-eq-default xs blank h))
 
 -- ---- a loop that fills an array: the first i elements are in it
 pub take-more : {A : Type 0} (xs : List A) (i : ℕ) (d : A) → i < length xs → take (i + 1) xs ≡ take i xs ++ getD xs i d ∷ []
@@ -66,7 +66,7 @@ pub filled-none : {A : Type 0} (places : ℕ) (blank : A) (xs : List A) → xs �
 filled-none places blank xs e = record {
   few = omega arith;
   long = ap length e ∙ length-replicate places blank;
-  pads = e ∙ sym (pad-none places blank)
+  pads = e ∙ sym (pad-none places blank);
 }
 
 module _ {A : Type 0} {places : ℕ} {blank : A} {xs : List A} {n : ℕ} (f : Filled places blank xs n) where
@@ -82,7 +82,12 @@ module _ {A : Type 0} {places : ℕ} {blank : A} {xs : List A} {n : ℕ} (f : Fi
       few = omega arith;
       long = length-set xs n v ∙ f .long;
       pads =
-        ap (λ (l : List A). set l n v) (f .pads)
-        ∙ pad-set places blank (take n xs) n v (sym filled-count) h
-        ∙ ap (pad places blank) (sym filled-take)
+          ap (λ (l : List A). set l n v) (f .pads)
+          ∙ pad-set places blank (take n xs) n v (sym filled-count) h
+          ∙ ap (pad places blank) (sym filled-take);
     }
+
+-- a list that fills the array
+pub pad-full : {A : Type 0} (places : ℕ) (blank : A) (xs : List A) → length xs ≡ places → pad places blank xs ≡ xs
+unfolding pad
+pad-full places blank xs e = let k : places - length xs ≡ 0 = omega arith in rw k (append-nil xs)

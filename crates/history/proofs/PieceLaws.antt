@@ -48,16 +48,28 @@ module _ (g : Field → List ℕ) (fields : List Field) (n i : ℕ) (few : n ≤
   last-is h =
       let many : length (map g (drop (i + 1) (take n fields))) ≡ n - (i + 1) = length-map′ g (drop (i + 1) (take n fields)) ∙ left-long in
       by-eq (i + 1) n
-        (λ e. eq-eqb (length (map g (drop (i + 1) (take n fields)))) 0 (omega arith) ∙ sym (eq-eqb (i + 1) n e))
-        (λ e. ne-eqb (length (map g (drop (i + 1) (take n fields)))) 0 (λ z. e (omega arith)) ∙ sym (ne-eqb (i + 1) n e))
+      (λ e. eq-eqb (length (map g (drop (i + 1) (take n fields)))) 0 (omega arith) ∙ sym (eq-eqb (i + 1) n e))
+      (λ e. ne-eqb (length (map g (drop (i + 1) (take n fields)))) 0 (λ z. e (omega arith)) ∙ sym (ne-eqb (i + 1) n e))
 
-  pub pieces-at : i < n
-      → piecesText (map g (drop i (take n fields)))
-        ≡ (g (getD fields i Dash) ++ cond (eqb (i + 1) n) 10 32 ∷ []) ++ piecesText (map g (drop (i + 1) (take n fields)))
-  pieces-at h =
+  pub pieces-at : i < n → (b : ℕ) → b ≡ cond (eqb (i + 1) n) 10 32
+      → piecesText (map g (drop i (take n fields))) ≡ (g (getD fields i Dash) ++ b ∷ []) ++ piecesText (map g (drop (i + 1) (take n fields)))
+  pieces-at h b e =
       ap (λ (l : List Field). piecesText (map g l)) (slice-cons i n fields Dash h few ∙ ap (λ (k : ℕ). getD fields i Dash ∷ drop k (take n fields)) (sym (add-one i)))
       ∙ pieces-step (g (getD fields i Dash)) (map g (drop (i + 1) (take n fields)))
       ∙ ap (λ (t : Bool). (g (getD fields i Dash) ++ cond t 10 32 ∷ []) ++ piecesText (map g (drop (i + 1) (take n fields)))) (last-is h)
+      ∙ ap (λ (x : ℕ). (g (getD fields i Dash) ++ x ∷ []) ++ piecesText (map g (drop (i + 1) (take n fields)))) (sym e)
+
+  pub pieces-long : i < n
+      → length (piecesText (map g (drop i (take n fields))))
+      ≡ length (g (getD fields i Dash)) + 1 + length (piecesText (map g (drop (i + 1) (take n fields))))
+  pieces-long h =
+      let b : ℕ = cond (eqb (i + 1) n) 10 32 in
+      omega (
+        arith,
+        ap length (pieces-at h b refl),
+        length-append (g (getD fields i Dash) ++ b ∷ []) (piecesText (map g (drop (i + 1) (take n fields)))),
+        length-append (g (getD fields i Dash)) (b ∷ []),
+      )
 
   pub pieces-end : n ≤ i → piecesText (map g (drop i (take n fields))) ≡ []
   pieces-end h =
@@ -85,6 +97,27 @@ pub event-pieces : (own : ℕ) (e : Event) → piecesText (map (fieldText (value
 unfolding eventFieldsOf eventText fieldText
 event-pieces own e =
     ap (λ (v : List ℕ). piecesText (spell own ∷ spell (e .process .0) ∷ spell (e .object) ∷ opWord (e .op) ∷ v ∷ listText (valuesIn (e .answer)) ∷ []))
-      (choose (valuesIn (e .answer)) (takesValue (e .op)) (e .value))
+    (choose (valuesIn (e .answer)) (takesValue (e .op)) (e .value))
     ∙ pieces-join (spell own)
-        (spell (e .process .0) ∷ spell (e .object) ∷ opWord (e .op) ∷ cond (takesValue (e .op)) (spell (e .value)) dash ∷ listText (valuesIn (e .answer)) ∷ [])
+    (spell (e .process .0) ∷ spell (e .object) ∷ opWord (e .op) ∷ cond (takesValue (e .op)) (spell (e .value)) dash ∷ listText (valuesIn (e .answer)) ∷ [])
+
+-- ---- the lines that the writers write
+pub object-line : (items : List ℕ) (own : ℕ) (o : Object) (fields : List Field) → take 3 fields ≡ objectFieldsOf own o
+    → piecesText (map (fieldText items) (take 3 fields)) ≡ objectText own o ++ 10 ∷ []
+object-line items own o fields e = ap (λ (l : List Field). piecesText (map (fieldText items) l)) e ∙ object-pieces items own o
+
+six : (own : ℕ) (e : Event) → take 6 (eventFieldsOf own e) ≡ eventFieldsOf own e
+unfolding eventFieldsOf
+six own e = refl
+
+pub event-line : (items : List ℕ) (own : ℕ) (e : Event) (fields : List Field) → fields ≡ eventFieldsOf own e → items ≡ valuesIn (e .answer)
+    → piecesText (map (fieldText items) (take 6 fields)) ≡ eventText own e ++ 10 ∷ []
+event-line items own e fields f v =
+    ap (λ (l : List Field). piecesText (map (fieldText items) (take 6 l))) f
+    ∙ ap (λ (l : List Field). piecesText (map (fieldText items) l)) (six own e)
+    ∙ ap (λ (l : List ℕ). piecesText (map (fieldText l) (eventFieldsOf own e))) v
+    ∙ event-pieces own e
+
+-- the values of an answer, as items
+pub items-are : (values items : List ℕ) (n : ℕ) → items ≡ values → take (n - 0) items ≡ take n values
+items-are values items n e = let k : n - 0 ≡ n = omega arith in rw (k, e)

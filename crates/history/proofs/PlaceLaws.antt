@@ -24,8 +24,8 @@ pub record Placed (n : ℕ) (r : HistoryRead) : Type 0 where
 placed-refusal : (n fault line at size : ℕ) → at + size ≤ n → Placed n (refusal fault line at size)
 placed-refusal n fault line at size h =
     by-eq size 0
-      (λ z. record { from = rw (eq-eqb size 0 z) (omega arith); to = rw (eq-eqb size 0 z) (omega arith) })
-      (λ z. record { from = rw (ne-eqb size 0 z) (omega arith); to = rw (ne-eqb size 0 z) (omega arith) })
+    (λ z. record { from = rw (eq-eqb size 0 z) (omega arith); to = rw (eq-eqb size 0 z) (omega arith) })
+    (λ z. record { from = rw (ne-eqb size 0 z) (omega arith); to = rw (ne-eqb size 0 z) (omega arith) })
 
 placed-cond : (n : ℕ) (t : Bool) (r q : HistoryRead) → Placed n r → Placed n q → Placed n (cond t r q)
 placed-cond n true r q p s = p

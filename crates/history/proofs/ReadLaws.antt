@@ -31,20 +31,20 @@ use Rattle.history.specs.ReadHistory.{refusal, readAs, eventsFrom, objec
 -- ---- a line with its line feed: some part follows it
 events-step : (os : List Object) (es : List Event) (line at : ℕ) (p : List ℕ) (l : List (List ℕ)) → 0 < length l
     → eventsFrom os es line at (p ∷ l)
-      ≡ cond (eqb (eventLine (length es) os p .fault) 0)
-        (eventsFrom os (es ++ eventLine (length es) os p .event ∷ []) (line + 1) (at + length p + 1) l)
-        (refusal (eventLine (length es) os p .fault) line at (length p))
+    ≡ cond (eqb (eventLine (length es) os p .fault) 0)
+    (eventsFrom os (es ++ eventLine (length es) os p .event ∷ []) (line + 1) (at + length p + 1) l)
+    (refusal (eventLine (length es) os p .fault) line at (length p))
 unfolding eventsFrom
 events-step os es line at p [] h = absurd (not-suc-le-zero h)
 events-step os es line at p (q ∷ l) h = refl
 
 objects-step : (os : List Object) (line at : ℕ) (p : List ℕ) (l : List (List ℕ)) → 0 < length l
     → objectsFrom os line at (p ∷ l)
-      ≡ cond (same p eventHeading)
-        (eventsFrom os [] (line + 1) (at + length p + 1) l)
-        (cond (eqb (objectLine (length os) p .fault) 0)
-        (objectsFrom (os ++ objectLine (length os) p .object ∷ []) (line + 1) (at + length p + 1) l)
-        (refusal (objectLine (length os) p .fault) line at (length p)))
+    ≡ cond (same p eventHeading)
+    (eventsFrom os [] (line + 1) (at + length p + 1) l)
+    (cond (eqb (objectLine (length os) p .fault) 0)
+    (objectsFrom (os ++ objectLine (length os) p .object ∷ []) (line + 1) (at + length p + 1) l)
+    (refusal (objectLine (length os) p .fault) line at (length p)))
 unfolding objectsFrom
 objects-step os line at p [] h = absurd (not-suc-le-zero h)
 objects-step os line at p (q ∷ l) h = refl
@@ -104,10 +104,10 @@ module _ (line : ℕ) (s : List ℕ) (a e : ℕ) (found : e ≡ a + find 10 (dro
     module _ (h : e < length s) where
       objects-turn : objectsFrom os line a (split 10 (drop a s))
           ≡ cond (same (take (e - a) (drop a s)) eventHeading)
-            (eventsFrom os [] (line + 1) (e + 1) (split 10 (drop (e + 1) s)))
-            (cond (eqb (objectLine (length os) (take (e - a) (drop a s)) .fault) 0)
-            (objectsFrom (os ++ objectLine (length os) (take (e - a) (drop a s)) .object ∷ []) (line + 1) (e + 1) (split 10 (drop (e + 1) s)))
-            (refusal (objectLine (length os) (take (e - a) (drop a s)) .fault) line a (e - a)))
+          (eventsFrom os [] (line + 1) (e + 1) (split 10 (drop (e + 1) s)))
+          (cond (eqb (objectLine (length os) (take (e - a) (drop a s)) .fault) 0)
+          (objectsFrom (os ++ objectLine (length os) (take (e - a) (drop a s)) .object ∷ []) (line + 1) (e + 1) (split 10 (drop (e + 1) s)))
+          (refusal (objectLine (length os) (take (e - a) (drop a s)) .fault) line a (e - a)))
       objects-turn =
           ap (objectsFrom os line a) (cut-more 10 s a e found from h)
           ∙ objects-step os line a (take (e - a) (drop a s)) (split 10 (drop (e + 1) s)) rest-some
@@ -151,20 +151,20 @@ three-own own a k w e = ltb-true own 16 (and-left (ltb own 16) (same w dash || (
 pub event-own : (own : ℕ) (os : List Object) (line : List ℕ) → eventLine own os line .fault ≡ 0 → own < 64
 event-own own os line e =
     by-eq (length (split 32 line)) 6
-      (λ h. six-own own os _ _ _ _ _ _ (sym (six-fault own os _ _ _ _ _ _) ∙ ap (λ (x : EventRead). x .fault) (sym (event-six own os line (split 32 line) refl h)) ∙ e))
-      (λ h. absurd (eqb-false 2 0 refl (ap (λ (x : EventRead). x .fault) (sym (event-count own os line (split 32 line) refl h)) ∙ e)))
+    (λ h. six-own own os _ _ _ _ _ _ (sym (six-fault own os _ _ _ _ _ _) ∙ ap (λ (x : EventRead). x .fault) (sym (event-six own os line (split 32 line) refl h)) ∙ e))
+    (λ h. absurd (eqb-false 2 0 refl (ap (λ (x : EventRead). x .fault) (sym (event-count own os line (split 32 line) refl h)) ∙ e)))
 
 pub object-own : (own : ℕ) (line : List ℕ) → objectLine own line .fault ≡ 0 → own < 16
 object-own own line e =
     by-eq (length (split 32 line)) 3
-      (λ h. three-own own _ _ _ (sym (three-fault own _ _ _) ∙ ap (λ (x : ObjectRead). x .fault) (sym (object-three own line (split 32 line) refl h)) ∙ e))
-      (λ h. absurd (eqb-false 2 0 refl (ap (λ (x : ObjectRead). x .fault) (sym (object-count own line (split 32 line) refl h)) ∙ e)))
+    (λ h. three-own own _ _ _ (sym (three-fault own _ _ _) ∙ ap (λ (x : ObjectRead). x .fault) (sym (object-three own line (split 32 line) refl h)) ∙ e))
+    (λ h. absurd (eqb-false 2 0 refl (ap (λ (x : ObjectRead). x .fault) (sym (object-count own line (split 32 line) refl h)) ∙ e)))
 
 -- ---- the record that was read
 pub history-made : (objects : List Object) (declared : ℕ) (events : List Event) (count : ℕ)
     → objects ≡ pad 16 noObject (take declared objects) → length (take declared objects) ≡ declared → Filled 64 noEvent events count
     → _≡_ {A = History} (record { objects = objects; declared = declared; events = events; count = count })
-      (historyOf (take declared objects) (take count events))
+    (historyOf (take declared objects) (take count events))
 unfolding historyOf
 history-made objects declared events count p d f =
     ap (λ (x : List Object). record { objects = x; declared = declared; events = events; count = count }) p
@@ -184,7 +184,7 @@ module _ (s : List ℕ) (e : ℕ) (found : e ≡ 0 + find 10 (drop 0 s)) (to : e
   module _ (h : e < length s) where
     lines-turn : linesFrom (split 10 s)
         ≡ cond (same (take (e - 0) s) objectHeading) (objectsFrom [] 2 (length (take (e - 0) s) + 1) (split 10 (drop (e + 1) s)))
-          (refusal 2 1 0 (length (take (e - 0) s)))
+        (refusal 2 1 0 (length (take (e - 0) s)))
     lines-turn =
         ap linesFrom (cut-more 10 s 0 e found (omega arith) h)
         ∙ lines-step (take (e - 0) s) (split 10 (drop (e + 1) s)) (split-some 10 (drop (e + 1) s))

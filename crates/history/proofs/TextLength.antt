@@ -46,9 +46,9 @@ width-short : (o : Object) → goodObject o ≡ true → length (cond (isWindow 
 unfolding goodObject
 width-short o g =
     by-bool (isWindow (o .kind))
-      (λ w. rw w (spell-short 0 (o .width)
-        (let h = ltb-true (o .width) 9 (and-right (ltb 0 (o .width)) (ltb (o .width) 9) (rw w at g)) in omega arith)))
-      (λ w. rw w (omega arith))
+    (λ w. rw w (spell-short 0 (o .width)
+    (let h = ltb-true (o .width) 9 (and-right (ltb 0 (o .width)) (ltb (o .width) 9) (rw w at g)) in omega arith)))
+    (λ w. rw w (omega arith))
 
 object-short : (own : ℕ) (o : Object) → own < 16 → goodObject o ≡ true → length (objectText own o) ≤ 13
 unfolding objectText
@@ -74,8 +74,8 @@ value-short : (op : Op) (v : ℕ) → goodValue op v ≡ true → length (cond (
 unfolding goodValue
 value-short op v g =
     by-bool (takesValue op)
-      (λ t. rw t (spell-short 4 v (let h = ltb-true v 65536 (rw t at g) in omega arith)))
-      (λ t. rw t (omega arith))
+    (λ t. rw t (spell-short 4 v (let h = ltb-true v 65536 (rw t at g) in omega arith)))
+    (λ t. rw t (omega arith))
 
 items-short : (xs : List ℕ) → allLess 65536 xs ≡ true → length (join 44 (map spell xs)) ≤ length xs * 6
 unfolding join allLess
@@ -136,8 +136,15 @@ event-short own os e h n g =
     let lw : length w ≤ 5 = op-short (e .op) in
     let lv : length v ≤ 5 = value-short (e .op) (e .value) (and-right b₃ (goodValue (e .op) (e .value)) g₄) in
     let ls : length s ≤ 48 = answer-short x (e .op) (e .answer) (and-right b₄ (goodAnswer x (e .op) (e .answer)) g) in
-    omega (arith, join-more 32 a p (o ∷ w ∷ v ∷ s ∷ []), join-more 32 p o (w ∷ v ∷ s ∷ []), join-more 32 o w (v ∷ s ∷ []),
-           join-more 32 w v (s ∷ []), join-more 32 v s [], join-one 32 s)
+    omega (
+      arith,
+      join-more 32 a p (o ∷ w ∷ v ∷ s ∷ []),
+      join-more 32 p o (w ∷ v ∷ s ∷ []),
+      join-more 32 o w (v ∷ s ∷ []),
+      join-more 32 w v (s ∷ []),
+      join-more 32 v s [],
+      join-one 32 s,
+    )
 
 -- ---- lines, each with its line feed
 line-more : (l : List ℕ) (ls : List (List ℕ)) → length (linesText (l ∷ ls)) ≡ length l + suc (length (linesText ls))

@@ -63,14 +63,14 @@ eventParts own es = eventLines own es ++ [] ∷ []
 abbrev objectParts : ℕ → List Object → List Event → List (List ℕ)
 objectParts own os es = objectLines own os ++ (eventHeading ∷ eventParts 0 es)
 
-text-parts : (os : List Object) (es : List Event) → split 10 (textOf os es) ≡ objectHeading ∷ objectParts 0 os es
+pub text-parts : (os : List Object) (es : List Event) → split 10 (textOf os es) ≡ objectHeading ∷ objectParts 0 os es
 unfolding textOf
 text-parts os es =
     let ls : List (List ℕ) = objectHeading ∷ objectLines 0 os in
     let ms : List (List ℕ) = eventHeading ∷ eventLines 0 es in
     split-lines (ls ++ ms)
-      (without-lines ls ms (headed objectHeading (objectLines 0 os) object-heading-clean (objects-clean 0 os))
-        (headed eventHeading (eventLines 0 es) event-heading-clean (events-clean 0 es)))
+    (without-lines ls ms (headed objectHeading (objectLines 0 os) object-heading-clean (objects-clean 0 os))
+    (headed eventHeading (eventLines 0 es) event-heading-clean (events-clean 0 es)))
     ∙ append-assoc ls ms ([] ∷ [])
 
 -- ---- one line more, which is not the last part
@@ -111,10 +111,10 @@ events-read os es₁ (e ∷ es₂) line at h g =
     let n : length (es₁ ++ e ∷ []) ≡ length es₁ + 1 = length-append es₁ (e ∷ []) in
     let p : List ℕ = eventText (length es₁) e in
     event-step os es₁ line at p (eventParts (length es₁ + 1) es₂) e (more (eventLines (length es₁ + 1) es₂) [] [])
-      (event-written (length es₁) os e (omega arith) (and-left (goodEvent os e) (goodEvents os es₂) g))
+    (event-written (length es₁) os e (omega arith) (and-left (goodEvent os e) (goodEvents os es₂) g))
     ∙ ap (λ (k : ℕ). eventsFrom os (es₁ ++ e ∷ []) (line + 1) (at + length p + 1) (eventParts k es₂)) (sym n)
     ∙ events-read os (es₁ ++ e ∷ []) es₂ (line + 1) (at + length p + 1) (omega arith)
-      (and-right (goodEvent os e) (goodEvents os es₂) g)
+    (and-right (goodEvent os e) (goodEvents os es₂) g)
     ∙ ap (readAs os) (append-assoc es₁ (e ∷ []) es₂)
 
 objects-read : (os₁ os₂ : List Object) (es : List Event) (line at : ℕ) → length os₁ + length os₂ ≤ 16 → length es ≤ 64
@@ -131,11 +131,11 @@ objects-read os₁ (o ∷ os₂) es line at h k g f =
     let p : List ℕ = objectText (length os₁) o in
     let a : (os₁ ++ o ∷ []) ++ os₂ ≡ os₁ ++ o ∷ os₂ = append-assoc os₁ (o ∷ []) os₂ in
     object-step os₁ line at p (objectParts (length os₁ + 1) os₂ es) o
-      (more (objectLines (length os₁ + 1) os₂) eventHeading (eventParts 0 es)) (object-not-heading (length os₁) o)
-      (object-written (length os₁) o (omega arith) (and-left (goodObject o) (goodObjects os₂) g))
+    (more (objectLines (length os₁ + 1) os₂) eventHeading (eventParts 0 es)) (object-not-heading (length os₁) o)
+    (object-written (length os₁) o (omega arith) (and-left (goodObject o) (goodObjects os₂) g))
     ∙ ap (λ (m : ℕ). objectsFrom (os₁ ++ o ∷ []) (line + 1) (at + length p + 1) (objectParts m os₂ es)) (sym n)
     ∙ objects-read (os₁ ++ o ∷ []) os₂ es (line + 1) (at + length p + 1) (omega arith) k
-      (and-right (goodObject o) (goodObjects os₂) g) (ap (λ (os : List Object). goodEvents os es) a ∙ f)
+    (and-right (goodObject o) (goodObjects os₂) g) (ap (λ (os : List Object). goodEvents os es) a ∙ f)
     ∙ ap (λ (os : List Object). readAs os es) a
 
 pub text-read : (os : List Object) (es : List Event) → length os ≤ 16 → length es ≤ 64 → goodObjects os ≡ true
@@ -163,21 +163,21 @@ parts-events os es line at ((x ∷ p) ∷ []) h z =
     absurd (omega arith)
 parts-events os es line at (p ∷ q ∷ ps) h z =
     by-eq (eventLine (length es) os p .fault) 0
-      (λ f.
-        let r = event-read (length es) os p f in
-        let e : Event = eventLine (length es) os p .event in
-        let n : length (es ++ e ∷ []) ≡ length es + 1 = length-append es (e ∷ []) in
-        let o : length es < 64 = r .numbered in
-        let ih = parts-events os (es ++ e ∷ []) (line + 1) (at + length p + 1) (q ∷ ps) (omega arith)
-                   (rw (eq-eqb (eventLine (length es) os p .fault) 0 f) at z) in
-        let l : length (es ++ e ∷ []) + length (ih .rest) ≤ 64 = ih .few in
-        record {
-          rest = e ∷ ih .rest;
-          few = omega arith;
-          good = rw (r .good) (ih .good);
-          says = ap₂ {C = List (List ℕ)} _∷_ (sym (r .says)) (ih .says ∙ ap (λ (k : ℕ). eventParts k (ih .rest)) n)
-        })
-      (λ f. absurd (f (rw (ne-eqb (eventLine (length es) os p .fault) 0 f) at z)))
+    (λ f.
+    let r = event-read (length es) os p f in
+    let e : Event = eventLine (length es) os p .event in
+    let n : length (es ++ e ∷ []) ≡ length es + 1 = length-append es (e ∷ []) in
+    let o : length es < 64 = r .numbered in
+    let ih = parts-events os (es ++ e ∷ []) (line + 1) (at + length p + 1) (q ∷ ps) (omega arith)
+    (rw (eq-eqb (eventLine (length es) os p .fault) 0 f) at z) in
+    let l : length (es ++ e ∷ []) + length (ih .rest) ≤ 64 = ih .few in
+    record {
+      rest = e ∷ ih .rest;
+      few = omega arith;
+      good = rw (r .good) (ih .good);
+      says = ap₂ {C = List (List ℕ)} _∷_ (sym (r .says)) (ih .says ∙ ap (λ (k : ℕ). eventParts k (ih .rest)) n);
+    })
+    (λ f. absurd (f (rw (ne-eqb (eventLine (length es) os p .fault) 0 f) at z)))
 
 record ObjectsRead (os : List Object) (ps : List (List ℕ)) : Type 0 where
   rest : List Object
@@ -195,37 +195,37 @@ parts-objects os line at [] h z = absurd (omega arith)
 parts-objects os line at (p ∷ []) h z = absurd (omega arith)
 parts-objects os line at (p ∷ q ∷ ps) h z =
     by-bool (same p eventHeading)
-      (λ s.
-        let r = parts-events os [] (line + 1) (at + length p + 1) (q ∷ ps) (omega arith) (rw s at z) in
-        let c : length {A = Event} [] + length (r .rest) ≤ 64 = r .few in
-        record {
-          rest = [];
-          events = r .rest;
-          few = omega arith;
-          count = omega arith;
-          good = refl;
-          goods = rw (append-nil os) (r .good);
-          says = ap₂ {C = List (List ℕ)} _∷_ (same-true p eventHeading s) (r .says)
-        })
-      (λ s. by-eq (objectLine (length os) p .fault) 0
-        (λ f.
-          let r = object-read (length os) p f in
-          let o : Object = objectLine (length os) p .object in
-          let n : length (os ++ o ∷ []) ≡ length os + 1 = length-append os (o ∷ []) in
-          let b : length os < 16 = r .numbered in
-          let ih = parts-objects (os ++ o ∷ []) (line + 1) (at + length p + 1) (q ∷ ps) (omega arith)
-                     (rw (s, eq-eqb (objectLine (length os) p .fault) 0 f) at z) in
-          let l : length (os ++ o ∷ []) + length (ih .rest) ≤ 16 = ih .few in
-          record {
-            rest = o ∷ ih .rest;
-            events = ih .events;
-            few = omega arith;
-            count = ih .count;
-            good = rw (r .good) (ih .good);
-            goods = ap (λ (k : List Object). goodEvents k (ih .events)) (sym (append-assoc os (o ∷ []) (ih .rest))) ∙ ih .goods;
-            says = ap₂ {C = List (List ℕ)} _∷_ (sym (r .says)) (ih .says ∙ ap (λ (k : ℕ). objectParts k (ih .rest) (ih .events)) n)
-          })
-        (λ f. absurd (f (rw (s, ne-eqb (objectLine (length os) p .fault) 0 f) at z))))
+    (λ s.
+    let r = parts-events os [] (line + 1) (at + length p + 1) (q ∷ ps) (omega arith) (rw s at z) in
+    let c : length {A = Event} [] + length (r .rest) ≤ 64 = r .few in
+    record {
+      rest = [];
+      events = r .rest;
+      few = omega arith;
+      count = omega arith;
+      good = refl;
+      goods = rw (append-nil os) (r .good);
+      says = ap₂ {C = List (List ℕ)} _∷_ (same-true p eventHeading s) (r .says);
+    })
+    (λ s. by-eq (objectLine (length os) p .fault) 0
+    (λ f.
+    let r = object-read (length os) p f in
+    let o : Object = objectLine (length os) p .object in
+    let n : length (os ++ o ∷ []) ≡ length os + 1 = length-append os (o ∷ []) in
+    let b : length os < 16 = r .numbered in
+    let ih = parts-objects (os ++ o ∷ []) (line + 1) (at + length p + 1) (q ∷ ps) (omega arith)
+    (rw (s, eq-eqb (objectLine (length os) p .fault) 0 f) at z) in
+    let l : length (os ++ o ∷ []) + length (ih .rest) ≤ 16 = ih .few in
+    record {
+      rest = o ∷ ih .rest;
+      events = ih .events;
+      few = omega arith;
+      count = ih .count;
+      good = rw (r .good) (ih .good);
+      goods = ap (λ (k : List Object). goodEvents k (ih .events)) (sym (append-assoc os (o ∷ []) (ih .rest))) ∙ ih .goods;
+      says = ap₂ {C = List (List ℕ)} _∷_ (sym (r .says)) (ih .says ∙ ap (λ (k : ℕ). objectParts k (ih .rest) (ih .events)) n);
+    })
+    (λ f. absurd (f (rw (s, ne-eqb (objectLine (length os) p .fault) 0 f) at z))))
 
 record LinesRead (ps : List (List ℕ)) : Type 0 where
   objects : List Object
@@ -242,19 +242,19 @@ parts-lines [] z = absurd (omega arith)
 parts-lines (p ∷ []) z = absurd (omega arith)
 parts-lines (p ∷ q ∷ ps) z =
     by-bool (same p objectHeading)
-      (λ s.
-        let r = parts-objects [] 2 (length p + 1) (q ∷ ps) (omega arith) (rw s at z) in
-        let b : length {A = Object} [] + length (r .rest) ≤ 16 = r .few in
-        record {
-          objects = r .rest;
-          events = r .events;
-          few = omega arith;
-          count = r .count;
-          good = r .good;
-          goods = r .goods;
-          says = ap₂ {C = List (List ℕ)} _∷_ (same-true p objectHeading s) (r .says)
-        })
-      (λ s. let b : _≡_ {A = ℕ} 2 0 = rw s at z in absurd (omega arith))
+    (λ s.
+    let r = parts-objects [] 2 (length p + 1) (q ∷ ps) (omega arith) (rw s at z) in
+    let b : length {A = Object} [] + length (r .rest) ≤ 16 = r .few in
+    record {
+      objects = r .rest;
+      events = r .events;
+      few = omega arith;
+      count = r .count;
+      good = r .good;
+      goods = r .goods;
+      says = ap₂ {C = List (List ℕ)} _∷_ (same-true p objectHeading s) (r .says);
+    })
+    (λ s. let b : _≡_ {A = ℕ} 2 0 = rw s at z in absurd (omega arith))
 
 -- ---- a text without a fault is the text of good objects and events
 pub record Reads (text : List ℕ) : Type 0 where
@@ -281,5 +281,5 @@ read-text text z =
       good = r .good;
       goods = r .goods;
       says = sym (join-split 10 (textOf os es)) ∙ ap (join 10) same-parts ∙ join-split 10 text;
-      reads = ap linesFrom (sym same-parts) ∙ text-read os es (r .few) (r .count) (r .good) (r .goods)
+      reads = ap linesFrom (sym same-parts) ∙ text-read os es (r .few) (r .count) (r .good) (r .goods);
     }

@@ -33,10 +33,10 @@ no-fault : (text : List ℕ) → readHistory text .fault ≡ 0 → NoFault text
 unfolding readHistory
 no-fault text z =
     by-bool (leb (length text) 16384)
-      (λ t.
-        let s = leb-true (length text) 16384 t in
-        record { short = s; lines = short-lines text s; reads = read-text text (rw t at z) })
-      (λ s. let b : _≡_ {A = ℕ} 1 0 = rw s at z in absurd (omega arith))
+    (λ t.
+    let s = leb-true (length text) 16384 t in
+    record { short = s; lines = short-lines text s; reads = read-text text (rw t at z) })
+    (λ s. let b : _≡_ {A = ℕ} 1 0 = rw s at z in absurd (omega arith))
 
 text-of : {text : List ℕ} (r : Reads text) → historyText (historyOf (r .objects) (r .events)) ≡ text
 unfolding historyText
@@ -54,7 +54,7 @@ unfolding historyText
 within-short h w =
     let l = within-limits h w in
     text-short (objectsIn h) (eventsIn h) (omega (arith, l .few, l .declared)) (omega (arith, l .all, l .count))
-      (l .objects) (l .events)
+    (l .objects) (l .events)
 
 -- written and read back: the same record
 pub written-read : (h : History) → within h ≡ true
@@ -64,7 +64,7 @@ written-read h w =
     let l = within-limits h w in
     short-lines (historyText h) (within-short h w)
     ∙ text-read (objectsIn h) (eventsIn h) (omega (arith, l .few, l .declared)) (omega (arith, l .all, l .count))
-      (l .objects) (l .events)
+    (l .objects) (l .events)
     ∙ ap {B = HistoryRead} (λ (x : History). record { fault = 0; line = 0; start = 0; end = 0; history = x }) (sym (l .blank))
 
 -- read and written back: the same bytes

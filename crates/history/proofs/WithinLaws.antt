@@ -50,8 +50,8 @@ object-is o e =
 event-parts : (p o : ℕ) (op : Op) (v c : ℕ) (vs : List ℕ)
     → p ≡ 0 → o ≡ 0 → op ≡ Write → v ≡ 0 → c ≡ 0 → vs ≡ replicate 8 0
     → _≡_ {A = Event}
-      (record { process = record { 0 = p }; object = o; op = op; value = v; answer = record { count = c; values = vs } })
-      noEvent
+    (record { process = record { 0 = p }; object = o; op = op; value = v; answer = record { count = c; values = vs } })
+    noEvent
 event-parts p o op v c vs h₁ h₂ h₃ h₄ h₅ h₆ = rw (h₁, h₂, h₃, h₄, h₅, h₆)
 
 event-is : (e : Event) → blankEvent e ≡ true → e ≡ noEvent
@@ -69,13 +69,13 @@ event-is e h =
     let h₃ = and-left b₃ (eqb (e .value) 0) h₄ in
     let h₂ = and-left b₂ (isWrite (e .op)) h₃ in
     event-parts (e .process .0) (e .object) (e .op) (e .value) (e .answer .count) vs
-      (eqb-true (e .process .0) 0 (and-left (eqb (e .process .0) 0) (eqb (e .object) 0) h₂))
-      (eqb-true (e .object) 0 (and-right (eqb (e .process .0) 0) (eqb (e .object) 0) h₂))
-      (write-is (e .op) (and-right b₂ (isWrite (e .op)) h₃))
-      (eqb-true (e .value) 0 (and-right b₃ (eqb (e .value) 0) h₄))
-      (eqb-true (e .answer .count) 0 (and-right b₄ (eqb (e .answer .count) 0) h₅))
-      (zero-is vs (and-right b₆ (allZero vs) h)
-       ∙ ap (λ (k : ℕ). replicate k 0) (eqb-true (length vs) 8 (and-right b₅ (eqb (length vs) 8) h₆)))
+    (eqb-true (e .process .0) 0 (and-left (eqb (e .process .0) 0) (eqb (e .object) 0) h₂))
+    (eqb-true (e .object) 0 (and-right (eqb (e .process .0) 0) (eqb (e .object) 0) h₂))
+    (write-is (e .op) (and-right b₂ (isWrite (e .op)) h₃))
+    (eqb-true (e .value) 0 (and-right b₃ (eqb (e .value) 0) h₄))
+    (eqb-true (e .answer .count) 0 (and-right b₄ (eqb (e .answer .count) 0) h₅))
+    (zero-is vs (and-right b₆ (allZero vs) h)
+    ∙ ap (λ (k : ℕ). replicate k 0) (eqb-true (length vs) 8 (and-right b₅ (eqb (length vs) 8) h₆)))
 
 objects-blank : (os : List Object) → blankObjects os ≡ true → os ≡ replicate (length os) noObject
 unfolding blankObjects
@@ -108,7 +108,7 @@ module _ {A : Type 0} (places : ℕ) (blank : A) where
   unfolding pad
   padded xs n l h d =
       let k : length (drop n xs) ≡ places - length (take n xs) =
-          omega (arith, length-drop n xs, length-take-le n xs (omega arith)) in
+      omega (arith, length-drop n xs, length-take-le n xs (omega arith)) in
       sym (take-append-drop n xs)
       ∙ ap (λ (r : List A). take n xs ++ r) (d ∙ ap (λ (m : ℕ). replicate m blank) k)
 
@@ -172,20 +172,30 @@ within-limits h e =
       few = p;
       all = q;
       blank =
-        history-parts os (h .declared) es (h .count) (objectsIn h) (eventsIn h)
+          history-parts os (h .declared) es (h .count) (objectsIn h) (eventsIn h)
           (padded 16 noObject os (h .declared) l d
-            (objects-blank (drop (h .declared) os) (and-right b₆ (blankObjects (drop (h .declared) os)) e₇)))
+          (objects-blank (drop (h .declared) os) (and-right b₆ (blankObjects (drop (h .declared) os)) e₇)))
           p
           (padded 64 noEvent es (h .count) m c
-            (events-blank (drop (h .count) es) (and-right b₇ (blankEvents (drop (h .count) es)) e)))
-          q
+          (events-blank (drop (h .count) es) (and-right b₇ (blankEvents (drop (h .count) es)) e)))
+          q;
     }
 
 pub limits-within : (os : List Object) (es : List Event) → length os ≤ 16 → length es ≤ 64 → goodObjects os ≡ true
     → goodEvents os es ≡ true → within (historyOf os es) ≡ true
 unfolding within historyOf
 limits-within os es h k g f =
-    rw (le-leb (length os) 16 h, le-leb (length es) 64 k, pad-length 16 noObject os h, pad-length 64 noEvent es k,
-        take-pad 16 noObject os, take-pad 64 noEvent es, g, f, drop-pad 16 noObject os, drop-pad 64 noEvent es,
-        blank-objects (16 - length os))
-      (blank-events (64 - length es))
+    rw (
+      le-leb (length os) 16 h,
+      le-leb (length es) 64 k,
+      pad-length 16 noObject os h,
+      pad-length 64 noEvent es k,
+      take-pad 16 noObject os,
+      take-pad 64 noEvent es,
+      g,
+      f,
+      drop-pad 16 noObject os,
+      drop-pad 64 noEvent es,
+      blank-objects (16 - length os),
+    )
+    (blank-events (64 - length es))

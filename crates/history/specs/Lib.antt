@@ -5,3 +5,4 @@ pub mod ReadHistory
 pub mod HistoryText
 pub mod Readable
 pub mod Steps
+pub mod Show

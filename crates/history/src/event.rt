@@ -4,23 +4,23 @@ ghost use Prim.Native.Nat.{_≤_};
 ghost use lib.ListN.{take};
 ghost use Rattle.history.specs.Steps.Fields.{eventJudged};
 ghost use Rattle.history.specs.Faults.{faultyEvent, eventSix, eventLine};
+use crate::answer::AnswerField;
+use crate::answer::answer_field;
+use crate::answer::no_answer;
+use crate::field::NumberField;
+use crate::field::OptionalField;
+use crate::field::first_fault;
+use crate::field::number_field;
+use crate::field::optional_field;
 use crate::record::Event;
 use crate::record::Object;
 use crate::record::Op;
 use crate::record::ProcessNo;
-use crate::answer::AnswerField;
-use crate::answer::no_answer;
-use crate::answer::answer_field;
-use crate::field::NumberField;
-use crate::field::OptionalField;
-use crate::field::number_field;
-use crate::field::optional_field;
-use crate::field::first_fault;
-use crate::word::read_op;
-use crate::word::has_op;
-use crate::word::takes_value;
-use crate::word::fits_dash;
 use crate::word::can_answer;
+use crate::word::fits_dash;
+use crate::word::has_op;
+use crate::word::read_op;
+use crate::word::takes_value;
 use layout::number::is_spelling;
 use layout::split::find_from;
 
@@ -47,7 +47,17 @@ fn faulty_event(fault: u8) -> EventRead
 }
 
 // The event that the fields say, or their first fault.
-fn judge(numbered: bool, own: u32, process: NumberField, number: NumberField, known: bool, op: Op, value: OptionalField, list: AnswerField, object: Object) -> EventRead
+fn judge(
+    numbered: bool,
+    own: u32,
+    process: NumberField,
+    number: NumberField,
+    known: bool,
+    op: Op,
+    value: OptionalField,
+    list: AnswerField,
+    object: Object,
+) -> EventRead
     requires { ⌜ (process .value ≤ 7) × (number .value ≤ 15) × (value .value ≤ 65535) ⌝ }
     ensures { λ r. ⌜ r ≡ eventJudged numbered own process number known op value list object ⌝ }
 {
@@ -75,7 +85,17 @@ fn judge(numbered: bool, own: u32, process: NumberField, number: NumberField, kn
 }
 
 // Reads the six fields of the event whose number is `own`, in a history with the first `declared` of the objects.
-fn read_six(a: &[u8], p: &[u8], o: &[u8], w: &[u8], v: &[u8], s: &[u8], own: u32, objects: [Object; 16], declared: usize) -> EventRead
+fn read_six(
+    a: &[u8],
+    p: &[u8],
+    o: &[u8],
+    w: &[u8],
+    v: &[u8],
+    s: &[u8],
+    own: u32,
+    objects: [Object; 16],
+    declared: usize,
+) -> EventRead
     requires { ⌜ declared ≤ 16 ⌝ }
     ensures { λ r. ⌜ r ≡ eventSix own (take declared objects) (now (a .entry)) (now (p .entry)) (now (o .entry)) (now (w .entry)) (now (v .entry)) (now (s .entry)) ⌝ }
 {
@@ -89,7 +109,17 @@ fn read_six(a: &[u8], p: &[u8], o: &[u8], w: &[u8], v: &[u8], s: &[u8], own: u32
     let op = word.op;
     let at = number.value as usize;
     let object = objects[at];
-    judge(numbered, own, process, number, known, op, value, list, object)
+    judge(
+        numbered,
+        own,
+        process,
+        number,
+        known,
+        op,
+        value,
+        list,
+        object,
+    )
 }
 
 // Reads the line of the event whose number is `own`, without its line feed.
@@ -122,5 +152,15 @@ pub fn read_event(line: &[u8], own: u32, objects: [Object; 16], declared: usize)
     if f != n {
         return faulty_event(2);
     }
-    read_six(&line[0..a], &line[a + 1..b], &line[b + 1..c], &line[c + 1..d], &line[d + 1..e], &line[e + 1..f], own, objects, declared)
+    read_six(
+        &line[0..a],
+        &line[a + 1..b],
+        &line[b + 1..c],
+        &line[c + 1..d],
+        &line[d + 1..e],
+        &line[e + 1..f],
+        own,
+        objects,
+        declared,
+    )
 }

@@ -1,11 +1,12 @@
 // The history text: bytes to a record and back. It knows nothing of criteria.
-pub mod record;
-pub mod word;
-pub mod field;
 pub mod answer;
-pub mod object;
 pub mod event;
-pub mod read;
+pub mod field;
 pub mod limits;
 pub mod line;
+pub mod object;
+pub mod read;
+pub mod record;
+pub mod show;
+pub mod word;
 pub mod write;

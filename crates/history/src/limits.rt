@@ -3,16 +3,16 @@ ghost use mathlib.Core.Path.{_≡_};
 ghost use Prim.Native.Nat.{_≤_};
 ghost use lib.ListN.{take, drop};
 ghost use Rattle.history.specs.Readable.{goodObject, goodObjects, allLess, allZero, goodAnswer, goodValue, goodEvent, goodEvents, isRegister, isWrite, blankObject, blankObjects, blankEvent, blankEvents, within};
-use crate::record::Kind;
-use crate::record::Op;
-use crate::record::Object;
 use crate::record::Answer;
 use crate::record::Event;
 use crate::record::History;
-use crate::word::is_window;
-use crate::word::has_op;
-use crate::word::takes_value;
+use crate::record::Kind;
+use crate::record::Object;
+use crate::record::Op;
 use crate::word::can_answer;
+use crate::word::has_op;
+use crate::word::is_window;
+use crate::word::takes_value;
 
 // Whether a kind is the one of a blank object.
 fn is_register(kind: Kind) -> bool

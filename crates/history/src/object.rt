@@ -1,13 +1,13 @@
 // The line of an object.
 ghost use mathlib.Core.Path.{_≡_};
 ghost use Rattle.history.specs.Faults.{faultyObject, objectThree, objectLine};
+use crate::field::first_fault;
+use crate::field::optional_field;
 use crate::record::Kind;
 use crate::record::Object;
-use crate::field::optional_field;
-use crate::field::first_fault;
-use crate::word::read_kind;
-use crate::word::is_window;
 use crate::word::fits_dash;
+use crate::word::is_window;
+use crate::word::read_kind;
 use layout::number::is_spelling;
 use layout::split::find_from;
 

@@ -6,15 +6,15 @@ ghost use lib.ListN.{length, take, drop, replicate};
 ghost use Rattle.layout.specs.Split.{split};
 ghost use Rattle.history.specs.Record.{pad, noObject, noEvent, noHistory};
 ghost use Rattle.history.specs.ReadHistory.{refusal, eventsFrom, objectsFrom, linesFrom, readHistory, faultyLine};
+use crate::answer::no_answer;
+use crate::event::read_event;
+use crate::object::read_object;
 use crate::record::Event;
 use crate::record::History;
 use crate::record::Kind;
 use crate::record::Object;
 use crate::record::Op;
 use crate::record::ProcessNo;
-use crate::answer::no_answer;
-use crate::event::read_event;
-use crate::object::read_object;
 use layout::split::find_from;
 use layout::word::is_word;
 
@@ -82,7 +82,13 @@ fn refuse(fault: u8, line: usize, start: usize, end: usize) -> HistoryRead
 }
 
 // Reads the lines of the events, from the line with the number `first`, which begins at `from`.
-fn read_events(text: &[u8], from: usize, first: usize, objects: [Object; 16], declared: usize) -> HistoryRead
+fn read_events(
+    text: &[u8],
+    from: usize,
+    first: usize,
+    objects: [Object; 16],
+    declared: usize,
+) -> HistoryRead
     requires { ⌜ (from ≤ length (now text)) × (first ≤ from + 1) × (declared ≤ 16) × (objects ≡ pad 16 noObject (take declared objects)) ⌝ }
     ensures { λ r. ⌜ r ≡ eventsFrom (take declared objects) [] first from (split 10 (drop from (now (text .entry)))) ⌝ }
 {

@@ -3,8 +3,8 @@ ghost use mathlib.Core.Path.{_≡_};
 ghost use Rattle.history.specs.Kinds.{isKind, kindOf, isOp, opOf, isWindow, isShelf, isShelfOp, hasOp, takesValue, readCount, canAnswer};
 ghost use mathlib.Core.Bool.{cond, not};
 use crate::record::Kind;
-use crate::record::Op;
 use crate::record::Object;
+use crate::record::Op;
 use layout::word::is_word;
 
 // What a field is as a kind's word.

@@ -32,7 +32,14 @@ fn object_fields(own: u32, o: Object) -> [Field; 6]
 {
     let kind = o.kind;
     let width = number_or_dash(is_window(kind), o.width as u32);
-    [Field::Number(own), Field::KindWord(kind), width, Field::Dash, Field::Dash, Field::Dash]
+    [
+        Field::Number(own),
+        Field::KindWord(kind),
+        width,
+        Field::Dash,
+        Field::Dash,
+        Field::Dash,
+    ]
 }
 
 // The six fields of an event's line.
@@ -42,7 +49,14 @@ fn event_fields(own: u32, e: Event) -> [Field; 6]
     let op = e.op;
     let process = e.process.0;
     let value = number_or_dash(takes_value(op), e.value as u32);
-    [Field::Number(own), Field::Number(process as u32), Field::Number(e.object as u32), Field::OpWord(op), value, Field::Items]
+    [
+        Field::Number(own),
+        Field::Number(process as u32),
+        Field::Number(e.object as u32),
+        Field::OpWord(op),
+        value,
+        Field::Items,
+    ]
 }
 
 // The values of an answer, as items of a list.

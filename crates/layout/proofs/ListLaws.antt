@@ -425,24 +425,24 @@ module _ (bound max : ℕ) (f : List ℕ) where
   list-not q =
       let ps = itemsOf f in
       by-bool (allNumbers ps)
-        (λ a. by-bool (allBelow bound ps)
-          (λ b. by-bool (leb (length ps) max)
-            (λ l. let t : Listed (length ps) ≡ NotList = rw (a, b, l) at q in let z : _≡_ {A = ℕ} 0 1 = cc in absurd (omega arith))
-            (λ l. let t : Many ≡ NotList = rw (a, b, l) at q in let z : _≡_ {A = ℕ} 0 1 = cc in absurd (omega arith)))
-          (λ b. let t : Over ≡ NotList = rw (a, b) at q in let z : _≡_ {A = ℕ} 0 1 = cc in absurd (omega arith)))
-        (λ a. a)
+      (λ a. by-bool (allBelow bound ps)
+      (λ b. by-bool (leb (length ps) max)
+      (λ l. let t : Listed (length ps) ≡ NotList = rw (a, b, l) at q in let z : _≡_ {A = ℕ} 0 1 = cc in absurd (omega arith))
+      (λ l. let t : Many ≡ NotList = rw (a, b, l) at q in let z : _≡_ {A = ℕ} 0 1 = cc in absurd (omega arith)))
+      (λ b. let t : Over ≡ NotList = rw (a, b) at q in let z : _≡_ {A = ℕ} 0 1 = cc in absurd (omega arith)))
+      (λ a. a)
 
   pub list-over : listOf bound max f ≡ Over → (allNumbers (itemsOf f) ≡ true) × (allBelow bound (itemsOf f) ≡ false)
   unfolding listOf judged
   list-over q =
       let ps = itemsOf f in
       by-bool (allNumbers ps)
-        (λ a. by-bool (allBelow bound ps)
-          (λ b. by-bool (leb (length ps) max)
-            (λ l. let t : Listed (length ps) ≡ Over = rw (a, b, l) at q in let z : _≡_ {A = ℕ} 0 1 = cc in absurd (omega arith))
-            (λ l. let t : Many ≡ Over = rw (a, b, l) at q in let z : _≡_ {A = ℕ} 0 1 = cc in absurd (omega arith)))
-          (λ b. (a, b)))
-        (λ a. let t : NotList ≡ Over = rw a at q in let z : _≡_ {A = ℕ} 0 1 = cc in absurd (omega arith))
+      (λ a. by-bool (allBelow bound ps)
+      (λ b. by-bool (leb (length ps) max)
+      (λ l. let t : Listed (length ps) ≡ Over = rw (a, b, l) at q in let z : _≡_ {A = ℕ} 0 1 = cc in absurd (omega arith))
+      (λ l. let t : Many ≡ Over = rw (a, b, l) at q in let z : _≡_ {A = ℕ} 0 1 = cc in absurd (omega arith)))
+      (λ b. (a, b)))
+      (λ a. let t : NotList ≡ Over = rw a at q in let z : _≡_ {A = ℕ} 0 1 = cc in absurd (omega arith))
 
   pub list-many : listOf bound max f ≡ Many
       → (allNumbers (itemsOf f) ≡ true) × (allBelow bound (itemsOf f) ≡ true) × (leb (length (itemsOf f)) max ≡ false)
@@ -450,12 +450,12 @@ module _ (bound max : ℕ) (f : List ℕ) where
   list-many q =
       let ps = itemsOf f in
       by-bool (allNumbers ps)
-        (λ a. by-bool (allBelow bound ps)
-          (λ b. by-bool (leb (length ps) max)
-            (λ l. let t : Listed (length ps) ≡ Many = rw (a, b, l) at q in let z : _≡_ {A = ℕ} 0 1 = cc in absurd (omega arith))
-            (λ l. (a, b, l)))
-          (λ b. let t : Over ≡ Many = rw (a, b) at q in let z : _≡_ {A = ℕ} 0 1 = cc in absurd (omega arith)))
-        (λ a. let t : NotList ≡ Many = rw a at q in let z : _≡_ {A = ℕ} 0 1 = cc in absurd (omega arith))
+      (λ a. by-bool (allBelow bound ps)
+      (λ b. by-bool (leb (length ps) max)
+      (λ l. let t : Listed (length ps) ≡ Many = rw (a, b, l) at q in let z : _≡_ {A = ℕ} 0 1 = cc in absurd (omega arith))
+      (λ l. (a, b, l)))
+      (λ b. let t : Over ≡ Many = rw (a, b) at q in let z : _≡_ {A = ℕ} 0 1 = cc in absurd (omega arith)))
+      (λ a. let t : NotList ≡ Many = rw a at q in let z : _≡_ {A = ℕ} 0 1 = cc in absurd (omega arith))
 
 -- ---- the numbers of a list
 below-at : (bound : ℕ) (ps : List (List ℕ)) (i : ℕ) → allBelow bound ps ≡ true → i < length ps → getD (map value ps) i 0 < bound

@@ -93,9 +93,9 @@ module _ {b : ℕ} {s : List ℕ} {fs : List (List ℕ)} {a : ℕ} (c : Cut b s 
   pub cut-next : e < length s → Cut b s (fs ++ take (e - a) (drop a s) ∷ []) (e + 1)
   cut-next h = record {
     is =
-      c .is
-      ∙ ap (λ (l : List (List ℕ)). fs ++ l) (cut-more b s a e found ha h)
-      ∙ sym (append-assoc fs (take (e - a) (drop a s) ∷ []) (split b (drop (e + 1) s)))
+        c .is
+        ∙ ap (λ (l : List (List ℕ)). fs ++ l) (cut-more b s a e found ha h)
+        ∙ sym (append-assoc fs (take (e - a) (drop a s) ∷ []) (split b (drop (e + 1) s)));
   }
 
   pub cut-ends : length s ≤ e → split b s ≡ fs ++ take (e - a) (drop a s) ∷ []

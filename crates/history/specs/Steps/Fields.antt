@@ -31,7 +31,7 @@ optionalField bound f =
       dash = same f dash;
       spelt = isOptional f;
       below = same f dash || isBelow bound f;
-      value = cond (same f dash) 0 (cond (isBelow bound f) (value f) 0)
+      value = cond (same f dash) 0 (cond (isBelow bound f) (value f) 0);
     }
 
 -- An answer: whether its items are numbers, also below 65,536, also at most eight; and then its record.
@@ -44,7 +44,7 @@ answerField f =
       spelt = allNumbers (itemsOf f);
       below = allNumbers (itemsOf f) && allBelow 65536 (itemsOf f);
       few = isAnswer f;
-      answer = cond (isAnswer f) (answerOf (numbersOf f)) noAnswer
+      answer = cond (isAnswer f) (answerOf (numbersOf f)) noAnswer;
     }
 
 -- The first fault of the fields kept, as those of an event of this object; and what they are as its line.

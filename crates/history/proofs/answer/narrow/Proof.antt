@@ -46,11 +46,13 @@ loop-again : tie.Need-loop-again Inv-loop μ-loop
 loop-again c =
     let h = c .before .loop in
     let a = c .before .before .args in
-    let l : length (a .t1) ≡ 8 = search needs in
-    (search needs, simp length-set (search needs),
-     rw (h .inv .2)
-       (pad-set 8 0 (take (h .i) (a .t1)) (h .i) (getD (a .t1) (h .i) 0) (sym (length-take-le (h .i) (a .t1) (omega arith))) (omega arith)
-        ∙ ap (pad 8 0) (sym (take-more (a .t1) (h .i) 0 (omega arith)))))
+    let l : length (a .t1) ≡ 8 = search needs in (
+      search needs,
+      simp length-set (search needs),
+      rw (h .inv .2)
+          (pad-set 8 0 (take (h .i) (a .t1)) (h .i) (getD (a .t1) (h .i) 0) (sym (length-take-le (h .i) (a .t1) (omega arith))) (omega arith)
+          ∙ ap (pad 8 0) (sym (take-more (a .t1) (h .i) 0 (omega arith)))),
+    )
 
 returns : tie.Need-returns Inv-loop μ-loop
 unfolding answerOf

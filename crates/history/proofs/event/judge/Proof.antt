@@ -14,7 +14,7 @@ judged c =
     let a = n .before .before .before .before .before .before .before .before .before .before .before .before .before .args in
     c .first-fault .ensures
     ∙ judged-is (a .numbered) (a .own) (a .process) (a .number) (a .known) (a .op) (a .value) (a .list) (a .object) _ _ _ _
-      (n .before .before .before .has-op .ensures) (n .before .before .takes-value .ensures) (n .before .fits-dash .ensures) (n .can-answer .ensures)
+    (n .before .before .before .has-op .ensures) (n .before .before .takes-value .ensures) (n .before .fits-dash .ensures) (n .can-answer .ensures)
 
 has-op-requires : tie.Need-has-op-requires
 has-op-requires c κs = search needs

@@ -145,7 +145,7 @@ returns-6 c =
     let cut = cut-next (fifth (f .before)) _ (f .find-from6 .ensures .0) (search needs) (strict _ _ (f .find-from6 .ensures .2) (c .before .if6 .taken)) in
     c .faulty-event6 .ensures
     ∙ sym (event-count (a .own) _ (a .line .now) _ (cut .is)
-        (λ e. absurd (omega (arith, split-some 32 (drop (f .find-from6 .result + 1) (a .line .now))))))
+    (λ e. absurd (omega (arith, split-some 32 (drop (f .find-from6 .result + 1) (a .line .now))))))
 
 sub-read-six : tie.Need-sub-read-six
 sub-read-six c = search needs

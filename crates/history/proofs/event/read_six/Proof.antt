@@ -50,8 +50,8 @@ returns c =
     let a = z .args in
     c .judge .ensures
     ∙ six-read (a .own) (a .t8) (a .declared) (declared-few z) (a .a .now) (a .p .now) (a .o .now) (a .w .now) (a .v .now) (a .s .now) _ _ _ _ _ _ _ _
-      (n .is-spelling .ensures) (p .number-field .ensures .0) (o .number-field2 .ensures .0) (w .read-op .ensures .0) (w .read-op .ensures .1)
-      (v .optional-field .ensures .0) (l .answer-field .ensures) refl
+    (n .is-spelling .ensures) (p .number-field .ensures .0) (o .number-field2 .ensures .0) (w .read-op .ensures .0) (w .read-op .ensures .1)
+    (v .optional-field .ensures .0) (l .answer-field .ensures) refl
 
 pub read-six-spec : {M : Type 1} → statement M
 read-six-spec =

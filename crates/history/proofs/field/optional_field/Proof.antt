@@ -26,10 +26,11 @@ returns-2 : tie.Need-returns-2
 returns-2 c =
     let i = c .before in
     let a = i .before .before .before .before .args in
-    let n = c .number-field .ensures in
-    (ap (λ (x : NumberField). record { dash = false; spelt = x .spelt; below = x .below; value = x .value }) (n .0)
-     ∙ sym (optional-some (a .bound) (a .field .now) (sym (i .before .is-word .ensures) ∙ i .if1 .left)),
-     n .1)
+    let n = c .number-field .ensures in (
+      ap (λ (x : NumberField). record { dash = false; spelt = x .spelt; below = x .below; value = x .value }) (n .0)
+          ∙ sym (optional-some (a .bound) (a .field .now) (sym (i .before .is-word .ensures) ∙ i .if1 .left)),
+      n .1,
+    )
 
 pub optional-field-spec : {M : Type 1} → statement M
 optional-field-spec =

@@ -39,7 +39,7 @@ returns-3 c =
     let i = o .before in
     let s = i .before .before .before .before in
     within-is (s .args .h) _ _ _ _ (i .before .if1 .left) (i .if2 .left) (objects-long s) (events-long s)
-      (o .good-objects .ensures) (e .good-events .ensures) (u .blank-objects .ensures) (c .blank-events .ensures)
+    (o .good-objects .ensures) (e .good-events .ensures) (u .blank-objects .ensures) (c .blank-events .ensures)
 
 pub is-within-spec : {M : Type 1} → statement M
 is-within-spec =

@@ -1,22 +1,27 @@
 -- `line_len` meets its contract: the bytes counted and those of the fields left are all bytes of the line. Assumes nothing.
+use native.Mathlib.Omega.{arith}
 use borrow.Author.Needs.{needs}
 use Prim.Native.Nat.{_≤_, _+_, _*_, _-_}
 use mathlib.Core.Path.{_≡_, refl, ap}
-use mathlib.Core.List.{map, [], _∷_, _++_}
-use lib.ListN.{length, take, drop, getD, length-append}
+use mathlib.Core.List.{map}
+use lib.ListN.{length, take, drop}
 use Rattle.history.specs.Steps.Lines.{fieldText, piecesText}
 use Rattle.history.proofs.PieceLaws.{pieces-long, pieces-end}
 use Rattle.history.proofs.line.line_len.Statement.{statement}
 use Rattle.history.proofs.line.line_len.Tie as tie
 
 abbrev Inv-loop : tie.InvT-loop
-Inv-loop fields n items total₀ i₀ total i = ?
+Inv-loop n items fields total₀ i₀ total i =
+    (i ≤ n) × (n ≤ length fields) × (total ≤ 705 * i)
+    × (total + length (piecesText (map (fieldText items) (drop i (take n fields)))) ≡ length (piecesText (map (fieldText items) (take n fields))))
 
 abbrev μ-loop : tie.MeasureT-loop
-μ-loop fields n items total₀ i₀ total i = n - i
+μ-loop n items fields total₀ i₀ total i = n - i
 
 loop-holds : tie.Need-loop-holds Inv-loop μ-loop
-loop-holds c = search needs
+loop-holds c =
+    let l : length (c .before .args .t1) ≡ 6 = search needs in
+    (search needs, omega (arith, c .before .pre .0), omega arith, search needs)
 
 mul-f : tie.Need-mul-f Inv-loop μ-loop
 mul-f c = search needs
@@ -40,10 +45,19 @@ loop-less : tie.Need-loop-less Inv-loop μ-loop
 loop-less c = search needs
 
 loop-again : tie.Need-loop-again Inv-loop μ-loop
-loop-again c = search needs
+loop-again c =
+    let f = c .field-len .ensures in
+    let h = c .before .before .before in
+    let a = h .before .before .args in
+    let p = pieces-long (fieldText (a .items .now)) (a .t1) (a .n) (h .loop .i) (h .loop .inv .1) (search needs) in
+    (search needs, h .loop .inv .1, omega (arith, f .1), omega (arith, f .0))
 
 returns : tie.Need-returns Inv-loop μ-loop
-returns c = search needs
+returns c =
+    let l = c .before .loop in
+    let a = c .before .before .before .args in
+    let z = pieces-end (fieldText (a .items .now)) (a .t1) (a .n) (l .i) (l .inv .1) (search needs) in
+    (omega (arith, ap length z), omega arith)
 
 pub line-len-spec : {M : Type 1} → statement M
 line-len-spec =

@@ -41,9 +41,10 @@ returns : tie.Need-returns
 returns c =
     let p = c .before .before in
     let a = p .before .before .before .before .args in
-    let t = fieldText (a .items .now) (a .field) in
-    (omega (arith, p .put-field .ensures .0, length-append t (a .behind ∷ [])),
-     fill-byte t (a .part .now) _ _ (a .behind) (p .put-field .ensures .0) (p .put-field .ensures .1) (room (p .before .before .before .before)))
+    let t = fieldText (a .items .now) (a .field) in (
+      omega (arith, p .put-field .ensures .0, length-append t (a .behind ∷ [])),
+      fill-byte t (a .part .now) _ _ (a .behind) (p .put-field .ensures .0) (p .put-field .ensures .1) (room (p .before .before .before .before)),
+    )
 
 pub put-piece-spec : {M : Type 1} → statement M
 put-piece-spec =

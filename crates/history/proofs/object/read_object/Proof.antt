@@ -66,7 +66,7 @@ returns-3 c =
     let cut = cut-next (second (f .before)) _ (f .find-from3 .ensures .0) (search needs) (search needs) in
     c .faulty-object3 .ensures
     ∙ sym (object-count (a .own) (a .line .now) _ (cut .is)
-        (λ e. absurd (omega (arith, split-some 32 (drop (f .find-from3 .result + 1) (a .line .now))))))
+    (λ e. absurd (omega (arith, split-some 32 (drop (f .find-from3 .result + 1) (a .line .now))))))
 
 sub-read-three : tie.Need-sub-read-three
 sub-read-three c = search needs

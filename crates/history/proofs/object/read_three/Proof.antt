@@ -14,8 +14,8 @@ judged c =
     let a = o .before .before .before .before .before .before .args in
     c .first-fault .ensures
     ∙ object-judged (a .own) (a .a .now) (a .k .now) (a .w .now) _ _ _ _ _ _ (o .before .before .is-spelling .ensures)
-      (o .before .read-kind .ensures .0) (o .before .read-kind .ensures .1) (o .optional-field .ensures .0)
-      (c .before .before .before .before .before .before .is-window .ensures) (c .before .fits-dash .ensures)
+    (o .before .read-kind .ensures .0) (o .before .read-kind .ensures .1) (o .optional-field .ensures .0)
+    (c .before .before .before .before .before .before .is-window .ensures) (c .before .fits-dash .ensures)
 
 is-spelling-requires : tie.Need-is-spelling-requires
 is-spelling-requires c κs = search needs

@@ -23,7 +23,7 @@ abbrev Inv-loop : tie.InvT-loop
 Inv-loop text from first objects declared events₀ count₀ line₀ a₀ events count line a =
     (a ≤ length text) × (line ≤ a + 1) × Filled 64 noEvent events count
     × (eventsFrom (take declared objects) [] first from (split 10 (drop from text))
-       ≡ eventsFrom (take declared objects) (take count events) line a (split 10 (drop a text)))
+    ≡ eventsFrom (take declared objects) (take count events) line a (split 10 (drop a text)))
 
 abbrev μ-loop : tie.MeasureT-loop
 μ-loop text from first objects declared events₀ count₀ line₀ a₀ events count line a = length text - a
@@ -47,7 +47,7 @@ same-event c =
     let a = f .before .before .before .before .args in
     c .read-event .ensures
     ∙ ap (λ (n : ℕ). eventLine n (take (a .declared) (a .objects)) (take (f .find-from .result - l .a) (drop (l .a) (a .text .now))))
-        (sym (filled-count (l .inv .2)))
+    (sym (filled-count (l .inv .2)))
 
 no-fault : (c : tie.Else3 Inv-loop μ-loop) → c .before .read-event .result .fault ≡ 0
 no-fault c = search needs
@@ -73,7 +73,7 @@ returns c =
     let z = f .before .before .before .before in
     let a = z .args in
     ap (λ (h : History). record { fault = 0; line = 0; start = 0; end = 0; history = h })
-      (history-made (a .objects) (a .declared) (l .events) (l .count) (z .pre .3) (declared-long z) (l .inv .2))
+    (history-made (a .objects) (a .declared) (l .events) (l .count) (z .pre .3) (declared-long z) (l .inv .2))
     ∙ sym (l .inv .3 ∙ events-done (l .line) (a .text .now) (l .a) (f .find-from .result) (f .find-from .ensures .0) (search needs) (search needs) _ _ (search needs) (c .if2 .taken))
 
 refuse-requires : tie.Need-refuse-requires Inv-loop μ-loop
@@ -114,7 +114,7 @@ returns-3 c =
     let a = f .before .before .before .before .args in
     c .refuse2 .ensures
     ∙ sym (l .inv .3
-      ∙ events-bad (l .line) (a .text .now) (l .a) (f .find-from .result) (f .find-from .ensures .0) (search needs) (search needs) _ _ (r .read-event .result) (same-event r) (short r) (c .before .if3 .taken))
+    ∙ events-bad (l .line) (a .text .now) (l .a) (f .find-from .result) (f .find-from .ensures .0) (search needs) (search needs) _ _ (r .read-event .result) (same-event r) (short r) (c .before .if3 .taken))
 
 mul-events : tie.Need-mul-events Inv-loop μ-loop
 mul-events c = search needs
@@ -141,12 +141,15 @@ loop-again c =
     let l = f .before .loop in
     let a = f .before .before .before .before .args in
     let h = own-few (c .before) in
-    let v = r .read-event .result .event in
-    (omega (arith, short r), search needs, filled-more (l .inv .2) v h,
-     l .inv .3
-     ∙ events-more (l .line) (a .text .now) (l .a) (f .find-from .result) (f .find-from .ensures .0) (search needs) (search needs) _ _ (r .read-event .result) (same-event r) (short r) (no-fault (c .before))
-     ∙ ap (λ (es : List Event). eventsFrom (take (a .declared) (a .objects)) es (l .line + 1) (f .find-from .result + 1) (split 10 (drop (f .find-from .result + 1) (a .text .now))))
-         (sym (filled-take (l .inv .2) v h)))
+    let v = r .read-event .result .event in (
+      omega (arith, short r),
+      search needs,
+      filled-more (l .inv .2) v h,
+      l .inv .3
+          ∙ events-more (l .line) (a .text .now) (l .a) (f .find-from .result) (f .find-from .ensures .0) (search needs) (search needs) _ _ (r .read-event .result) (same-event r) (short r) (no-fault (c .before))
+          ∙ ap (λ (es : List Event). eventsFrom (take (a .declared) (a .objects)) es (l .line + 1) (f .find-from .result + 1) (split 10 (drop (f .find-from .result + 1) (a .text .now))))
+          (sym (filled-take (l .inv .2) v h)),
+    )
 
 pub read-events-spec : {M : Type 1} → statement M
 read-events-spec =

@@ -38,7 +38,7 @@ same-object c =
     let l = f .before .loop in
     c .read-object .ensures
     ∙ ap (λ (n : ℕ). objectLine n (take (f .find-from .result - l .a) (drop (l .a) (f .before .before .before .before .args .text .now))))
-        (sym (filled-count (l .inv .2)))
+    (sym (filled-count (l .inv .2)))
 
 no-fault : (c : tie.Else3 Inv-loop μ-loop) → c .before .read-object .result .fault ≡ 0
 no-fault c = search needs
@@ -105,7 +105,7 @@ returns-2 c =
     let a = f .before .before .before .before .args in
     c .read-events .ensures
     ∙ sym (l .inv .3
-      ∙ objects-heading (l .line) (a .text .now) (l .a) (f .find-from .result) (f .find-from .ensures .0) (search needs) (search needs) _ (less w) (sym (w .is-word .ensures) ∙ c .before .if2 .taken))
+    ∙ objects-heading (l .line) (a .text .now) (l .a) (f .find-from .result) (f .find-from .ensures .0) (search needs) (search needs) _ (less w) (sym (w .is-word .ensures) ∙ c .before .if2 .taken))
 
 sub-read-object : tie.Need-sub-read-object Inv-loop μ-loop
 sub-read-object c = search needs
@@ -134,7 +134,7 @@ returns-3 c =
     let a = f .before .before .before .before .args in
     c .refuse2 .ensures
     ∙ sym (l .inv .3
-      ∙ objects-bad (l .line) (a .text .now) (l .a) (f .find-from .result) (f .find-from .ensures .0) (search needs) (search needs) _ (less w) (sym (w .is-word .ensures) ∙ r .before .before .if2 .left) (r .read-object .result) (same-object r) (c .before .if3 .taken))
+    ∙ objects-bad (l .line) (a .text .now) (l .a) (f .find-from .result) (f .find-from .ensures .0) (search needs) (search needs) _ (less w) (sym (w .is-word .ensures) ∙ r .before .before .if2 .left) (r .read-object .result) (same-object r) (c .before .if3 .taken))
 
 mul-objects : tie.Need-mul-objects Inv-loop μ-loop
 mul-objects c = search needs
@@ -162,12 +162,15 @@ loop-again c =
     let l = f .before .loop in
     let a = f .before .before .before .before .args in
     let h = own-few (c .before) in
-    let v = r .read-object .result .object in
-    (omega (arith, less w), search needs, filled-more (l .inv .2) v h,
-     l .inv .3
-     ∙ objects-more (l .line) (a .text .now) (l .a) (f .find-from .result) (f .find-from .ensures .0) (search needs) (search needs) _ (less w) (sym (w .is-word .ensures) ∙ r .before .before .if2 .left) (r .read-object .result) (same-object r) (no-fault (c .before))
-     ∙ ap (λ (os : List Object). objectsFrom os (l .line + 1) (f .find-from .result + 1) (split 10 (drop (f .find-from .result + 1) (a .text .now))))
-         (sym (filled-take (l .inv .2) v h)))
+    let v = r .read-object .result .object in (
+      omega (arith, less w),
+      search needs,
+      filled-more (l .inv .2) v h,
+      l .inv .3
+          ∙ objects-more (l .line) (a .text .now) (l .a) (f .find-from .result) (f .find-from .ensures .0) (search needs) (search needs) _ (less w) (sym (w .is-word .ensures) ∙ r .before .before .if2 .left) (r .read-object .result) (same-object r) (no-fault (c .before))
+          ∙ ap (λ (os : List Object). objectsFrom os (l .line + 1) (f .find-from .result + 1) (split 10 (drop (f .find-from .result + 1) (a .text .now))))
+          (sym (filled-take (l .inv .2) v h)),
+    )
 
 pub read-objects-spec : {M : Type 1} → statement M
 read-objects-spec =
