@@ -71,3 +71,44 @@ fn widen(values: [u16; 8]) -> [u32; 8]
     }
     items
 }
+
+// How many bytes an object's line has, its line feed too.
+fn object_len(own: u32, o: Object) -> usize
+    ensures { λ r. ⌜ (r ≡ length (objectText own o ++ 10 ∷ [])) × (r ≤ 4230) ⌝ }
+{
+    let none = [0u32; 8];
+    line_len(object_fields(own, o), 3, &none[0..0])
+}
+
+// Writes an object's line and its line feed into a part that has room.
+fn put_object(part: &mut [u8], own: u32, o: Object) -> usize
+    requires { ⌜ length (objectText own o ++ 10 ∷ []) ≤ length (now part) ⌝ }
+    ensures { λ r. ⌜ (r ≡ length (objectText own o ++ 10 ∷ [])) × (now (part .exit) ≡ fill (objectText own o ++ 10 ∷ []) (now (part .entry))) ⌝ }
+{
+    let none = [0u32; 8];
+    put_line(part, object_fields(own, o), 3, &none[0..0])
+}
+
+// How many bytes an event's line has, its line feed too.
+fn event_len(own: u32, e: Event) -> usize
+    requires { ⌜ e .answer .count ≤ 8 ⌝ }
+    ensures { λ r. ⌜ (r ≡ length (eventText own e ++ 10 ∷ [])) × (r ≤ 4230) ⌝ }
+{
+    let answer = e.answer;
+    let n = answer.count;
+    let values = answer.values;
+    let items = widen(values);
+    line_len(event_fields(own, e), 6, &items[0..n])
+}
+
+// Writes an event's line and its line feed into a part that has room.
+fn put_event(part: &mut [u8], own: u32, e: Event) -> usize
+    requires { ⌜ (e .answer .count ≤ 8) × (length (eventText own e ++ 10 ∷ []) ≤ length (now part)) ⌝ }
+    ensures { λ r. ⌜ (r ≡ length (eventText own e ++ 10 ∷ [])) × (now (part .exit) ≡ fill (eventText own e ++ 10 ∷ []) (now (part .entry))) ⌝ }
+{
+    let answer = e.answer;
+    let n = answer.count;
+    let values = answer.values;
+    let items = widen(values);
+    put_line(part, event_fields(own, e), 6, &items[0..n])
+}
