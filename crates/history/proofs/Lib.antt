@@ -3,15 +3,4 @@ pub mod FaultLaws
 pub mod ObjectLaws
 pub mod AnswerLaws
 pub mod EventLaws
-pub mod ReadLaws
-pub mod PlaceLaws
-pub mod LineRound
-pub mod ObjectRound
-pub mod EventRound
-pub mod PieceLaws
 pub mod WithinLaws
-pub mod TextRound
-pub mod TextLength
-pub mod Theorems
-pub mod LimitLaws
-pub mod ShowLaws

@@ -1,8 +1,6 @@
 pub mod Record
 pub mod Kinds
 pub mod Faults
-pub mod ReadHistory
 pub mod HistoryText
 pub mod Readable
 pub mod Steps
-pub mod Show

@@ -1,3 +1,2 @@
--- How the functions do it, a field or a line at a time. Only private functions' contracts and proofs cite these.
+-- How the functions do it, a field at a time. Only private functions' contracts and proofs cite these.
 pub mod Fields
-pub mod Lines

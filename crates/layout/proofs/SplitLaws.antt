@@ -7,10 +7,10 @@ use mathlib.Core.Path.{_≡_, refl, sym, ap, _∙_}
 use mathlib.Core.Bool.{Bool, true, false, cond, not, _&&_}
 use mathlib.Core.List.{List, [], _∷_, _++_, append-assoc}
 use lib.ListN.{length, getD, take, drop, length-drop, drop-of-length-le}
-use lib.Seq.{drop-cons, drop-drop, take-all}
+use lib.Seq.{drop-cons, drop-drop, take-all, length-take-le}
 use lib.Dec.{eqb}
-use borrow.Author.Tests.{eq-eqb, ne-eqb, not-true}
-use Rattle.layout.specs.Split.{find, onFirst, split, join}
+use borrow.Author.Tests.{eq-eqb, ne-eqb, not-true, lt-ltb, le-ltb}
+use Rattle.layout.specs.Split.{find, onFirst, split, join, partStart}
 use Rattle.layout.proofs.Cases.{by-eq, by-lt, and-left, and-right}
 
 -- ---- a loop that looks for b, at the place i
@@ -148,6 +148,52 @@ module _ (b : ℕ) (s : List ℕ) (a e : ℕ) (found : e ≡ a + find b (drop a 
       ap (λ (l : List (List ℕ)). getD l j []) (cut-last b s a e found ha h)
       ∙ getD-pred (take (e - a) (drop a s)) [] j pos
       ∙ getD-none (j - 1)
+
+-- ---- where a part begins
+pred-suc : (j : ℕ) → 0 < j → j ≡ suc (j - 1)
+pred-suc j h = omega arith
+
+pub start-first : (b : ℕ) (s : List ℕ) → partStart b 0 s ≡ 0
+unfolding partStart
+start-first b s = refl
+
+module _ (b : ℕ) (s : List ℕ) (a e : ℕ) (found : e ≡ a + find b (drop a s)) (ha : a ≤ length s) (j : ℕ) (pos : 0 < j) where
+  pub start-next : e < length s → a + partStart b j (drop a s) ≡ e + 1 + partStart b (j - 1) (drop (e + 1) s)
+  unfolding partStart
+  start-next h =
+      let f : find b (drop a s) ≡ e - a = omega arith in
+      let k : a + (e - a + 1) ≡ e + 1 = omega arith in
+      let p : partStart b (suc (j - 1)) (drop a s) ≡ e - a + 1 + partStart b (j - 1) (drop (e + 1) s) =
+      rw (lt-ltb (find b (drop a s)) (length (drop a s)) (omega (arith, length-drop a s)), f, drop-drop (e - a + 1) a s, k) in
+      ap (λ (n : ℕ). a + partStart b n (drop a s)) (pred-suc j pos) ∙ omega (arith, p)
+
+  pub start-none : length s ≤ e → a + partStart b j (drop a s) ≡ length s
+  unfolding partStart
+  start-none h =
+      let p : partStart b (suc (j - 1)) (drop a s) ≡ length (drop a s) =
+      rw (le-ltb (find b (drop a s)) (length (drop a s)) (omega (arith, length-drop a s))) in
+      ap (λ (n : ℕ). a + partStart b n (drop a s)) (pred-suc j pos) ∙ omega (arith, p, length-drop a s)
+
+-- nothing is left at the end
+pub part-end : (b : ℕ) (s : List ℕ) (a : ℕ) → length s ≤ a → getD (split b (drop a s)) 0 [] ≡ []
+unfolding split
+part-end b s a h = ap (λ (l : List ℕ). getD (split b l) 0 []) (drop-of-length-le s h)
+
+-- the part with the number k is what stands from its beginning to its end
+pub part-begins : (b k : ℕ) (s : List ℕ) → getD (split b s) k [] ≡ take (length (getD (split b s) k [])) (drop (partStart b k s) s)
+unfolding partStart
+part-begins b zero s =
+    let z : find b s - 0 ≡ find b s = omega arith in
+    let p : getD (split b s) 0 [] ≡ take (find b s) s = part-here b s 0 (find b s) (omega arith) zero-le ∙ ap (λ (m : ℕ). take m s) z in
+    let n : length (getD (split b s) 0 []) ≡ find b s = ap length p ∙ length-take-le (find b s) s (find-le b s) in
+    p ∙ ap (λ (m : ℕ). take m s) (sym n)
+part-begins b (suc k) s =
+    by-lt (find b s) (length s)
+    (λ h.
+    let n : split b s ≡ take (find b s) s ∷ split b (drop (find b s + 1) s) = rw (add-one (find b s)) (split-more b s h) in
+    rw (n, lt-ltb (find b s) (length s) h, ← drop-drop (partStart b k (drop (find b s + 1) s)) (find b s + 1) s)
+    (part-begins b k (drop (find b s + 1) s)))
+    (λ h. rw (split-last b s h, getD-none k))
 
 -- ---- `split` and `join` are inverse
 -- b is no byte of the part

@@ -1,0 +1,111 @@
+-- Laws of showing an event: how many objects were read, and the answer in each case. Assumes nothing.
+use Prim.Native.Nat.{ℕ, _+_, _-_, _≤_, _<_}
+use native.Mathlib.Omega.{arith}
+use mathlib.Core.Path.{_≡_, refl, sym, ap, _∙_}
+use mathlib.Core.Bool.{Bool, true, false, cond}
+use mathlib.Core.List.{List, [], _∷_, _++_}
+use lib.ListN.{length, getD, take, drop, length-append, length-drop}
+use lib.Seq.{length-take-le}
+use lib.Dec.{eqb, ltb, leb}
+use borrow.Author.Tests.{eq-eqb, ne-eqb, eqb-true, lt-ltb, le-ltb}
+use Rattle.layout.specs.Split.{find, split, partStart}
+use Rattle.layout.specs.Word.{same, objectHeading, eventHeading}
+use Rattle.layout.proofs.Cases.{by-bool}
+use Rattle.layout.proofs.SplitLaws.{part-here}
+use Rattle.history.specs.declared.record.Object.{Object}
+use Rattle.history.specs.declared.record.Event.{Event}
+use Rattle.history.specs.Record.{historyOf}
+use Rattle.history.specs.Faults.{objectLine, eventLine}
+use Rattle.history_reader.specs.declared.read.HistoryRead.{HistoryRead}
+use Rattle.history_reader.specs.declared.show.Shown.{Shown}
+use Rattle.history_reader.specs.ReadHistory.{refusal, readAs, eventsFrom, objectsFrom, linesFrom, readHistory}
+use Rattle.history_reader.specs.Show.{lineShown, shownOf, shown}
+use Rattle.history_reader.proofs.ReadLaws.{object-own}
+
+-- ---- at most 16 objects are read
+record Few (r : HistoryRead) : Type 0 where
+  at-most : r .history .declared ≤ 16
+
+few-refusal : (fault line at size : ℕ) → Few (refusal fault line at size)
+few-refusal fault line at size = record { at-most = omega arith }
+
+few-read : (os : List Object) (es : List Event) → length os ≤ 16 → Few (readAs os es)
+unfolding historyOf
+few-read os es h = record { at-most = h }
+
+few-cond : (t : Bool) (r q : HistoryRead) → (t ≡ true → Few r) → Few q → Few (cond t r q)
+few-cond true r q p s = p refl
+few-cond false r q p s = s
+
+few-events : (os : List Object) (es : List Event) (line at : ℕ) (ps : List (List ℕ)) → length os ≤ 16 → Few (eventsFrom os es line at ps)
+unfolding eventsFrom
+few-events os es line at [] h = few-refusal 2 line at 0
+few-events os es line at (p ∷ []) h =
+    few-cond (eqb (length p) 0) (readAs os es) (refusal 2 line at (length p)) (λ z. few-read os es h) (few-refusal 2 line at (length p))
+few-events os es line at (p ∷ q ∷ ps) h =
+    let x = eventLine (length es) os p in
+    few-cond (eqb (x .fault) 0)
+    (eventsFrom os (es ++ x .event ∷ []) (line + 1) (at + length p + 1) (q ∷ ps))
+    (refusal (x .fault) line at (length p))
+    (λ z. few-events os (es ++ eventLine (length es) os p .event ∷ []) (line + 1) (at + length p + 1) (q ∷ ps) h)
+    (few-refusal (x .fault) line at (length p))
+
+few-objects : (os : List Object) (line at : ℕ) (ps : List (List ℕ)) → length os ≤ 16 → Few (objectsFrom os line at ps)
+unfolding objectsFrom
+few-objects os line at [] h = few-refusal 2 line at 0
+few-objects os line at (p ∷ []) h = few-refusal 2 line at (length p)
+few-objects os line at (p ∷ q ∷ ps) h =
+    let x = objectLine (length os) p in
+    let more = objectsFrom (os ++ x .object ∷ []) (line + 1) (at + length p + 1) (q ∷ ps) in
+    let bad = refusal (x .fault) line at (length p) in
+    few-cond (same p eventHeading) (eventsFrom os [] (line + 1) (at + length p + 1) (q ∷ ps)) (cond (eqb (x .fault) 0) more bad)
+    (λ w. few-events os [] (line + 1) (at + length p + 1) (q ∷ ps) h)
+    (few-cond (eqb (x .fault) 0) more bad
+    (λ z.
+    let own : length os < 16 = object-own (length os) p (eqb-true (objectLine (length os) p .fault) 0 z) in
+    few-objects (os ++ objectLine (length os) p .object ∷ []) (line + 1) (at + length p + 1) (q ∷ ps)
+    (omega (arith, length-append os (objectLine (length os) p .object ∷ []))))
+    (few-refusal (x .fault) line at (length p)))
+
+few-lines : (ps : List (List ℕ)) → Few (linesFrom ps)
+unfolding linesFrom
+few-lines [] = few-refusal 2 1 0 0
+few-lines (p ∷ []) = few-refusal 2 1 0 (length p)
+few-lines (p ∷ q ∷ ps) =
+    few-cond (same p objectHeading) (objectsFrom [] 2 (length p + 1) (q ∷ ps)) (refusal 2 1 0 (length p))
+    (λ w. few-objects [] 2 (length p + 1) (q ∷ ps) (omega arith))
+    (few-refusal 2 1 0 (length p))
+
+pub few-declared : (text : List ℕ) → readHistory text .history .declared ≤ 16
+unfolding readHistory
+few-declared text =
+    few-cond (leb (length text) 16384) (linesFrom (split 10 text)) (refusal 1 0 0 0) (λ z. few-lines (split 10 text)) (few-refusal 1 0 0 0)
+    .at-most
+
+-- ---- the answer in each case, of a reading x of the text
+module _ (text : List ℕ) (e : ℕ) (x : HistoryRead) (q : x ≡ readHistory text) where
+  shown-as : shownOf text e x ≡ shown text e
+  unfolding shown
+  shown-as = ap (shownOf text e) q
+
+  pub show-bad : (x .fault ≡ 0 → ⊥)
+      → _≡_ {A = Shown} (record { number = x .fault; line = x .line; start = x .start; end = x .end }) (shown text e)
+  show-bad n = sym (rw (ne-eqb (x .fault) 0 n)) ∙ shown-as
+
+  pub show-line : x .fault ≡ 0 → e < x .history .count → lineShown text (x .history .declared + 2 + e) ≡ shown text e
+  show-line z h = sym (rw (eq-eqb (x .fault) 0 z, lt-ltb e (x .history .count) h)) ∙ shown-as
+
+  pub show-none : x .fault ≡ 0 → x .history .count ≤ e
+      → _≡_ {A = Shown} (record { number = 19; line = 0; start = 0; end = 0 }) (shown text e)
+  show-none z h = sym (rw (eq-eqb (x .fault) 0 z, le-ltb e (x .history .count) h)) ∙ shown-as
+
+-- the line that begins at a place and goes up to its line feed
+pub line-places : (text : List ℕ) (k a b : ℕ) → a ≡ partStart 10 k text → a ≤ length text → b ≡ a + find 10 (drop a text) → b ≤ length text
+    → getD (split 10 text) k [] ≡ getD (split 10 (drop a text)) 0 []
+    → _≡_ {A = Shown} (record { number = 0; line = 0; start = a; end = b }) (lineShown text k)
+line-places text k a b from ha to hb first =
+    let l : length (getD (split 10 text) k []) ≡ b - a =
+    ap length (first ∙ part-here 10 text a b to ha) ∙ length-take-le (b - a) (drop a text) (omega (arith, length-drop a text)) in
+    let m : b ≡ partStart 10 k text + length (getD (split 10 text) k []) = omega arith in
+    ap (λ (y : ℕ). record { number = 0; line = 0; start = y; end = b }) from
+    ∙ ap (λ (y : ℕ). record { number = 0; line = 0; start = partStart 10 k text; end = y }) m

@@ -1,0 +1,37 @@
+-- `faulty_line` meets its contract: the place that a refusal names lies within the text. Assumes nothing.
+use Prim.Native.Nat.{ℕ, _≤_, _-_}
+use mathlib.Core.Path.{_≡_, sym, ap, _∙_}
+use mathlib.Core.List.{List}
+use lib.ListN.{length, take, drop}
+use Rattle.history_reader.specs.declared.read.HistoryRead.{HistoryRead}
+use Rattle.history_reader.specs.ReadHistory.{readHistory, faultyLine}
+use Rattle.history_reader.proofs.PlaceLaws.{Placed, placed-history}
+use borrow.Author.Needs.{needs}
+use Rattle.history_reader.proofs.read.faulty_line.Statement.{statement}
+use Rattle.history_reader.proofs.read.faulty_line.Tie as tie
+
+placed : (c : tie.After-read-history) → Placed (length (c .before .before .args .text .now)) (c .read-history .result)
+placed c = rw (c .read-history .ensures) (placed-history (c .before .before .args .text .now))
+
+read-history-requires : tie.Need-read-history-requires
+read-history-requires c κs = search needs
+
+sub-result : tie.Need-sub-result
+sub-result c = placed c .from
+
+part-result-start : tie.Need-part-result-start
+part-result-start c = placed c .from
+
+part-result-end : tie.Need-part-result-end
+part-result-end c = placed c .to
+
+returns : tie.Need-returns
+unfolding faultyLine
+returns c =
+    let r = c .before in
+    let s = r .before .before .args .text .now in
+    ap (λ (h : HistoryRead). take (h .end - h .start) (drop (h .start) s)) (r .read-history .ensures)
+
+pub faulty-line-spec : {M : Type 1} → statement M
+faulty-line-spec =
+    tie.close (tie.spec read-history-requires sub-result part-result-start part-result-end returns)

@@ -1,0 +1,2 @@
+pub mod ReadHistory
+pub mod Show

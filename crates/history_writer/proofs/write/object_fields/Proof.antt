@@ -1,0 +1,22 @@
+-- `object_fields` meets its contract. Assumes nothing.
+use Rattle.history_writer.specs.Steps.Lines.{objectFieldsOf}
+use borrow.Author.Needs.{needs}
+use Rattle.history_writer.proofs.write.object_fields.Statement.{statement}
+use Rattle.history_writer.proofs.write.object_fields.Tie as tie
+
+is-window-requires : tie.Need-is-window-requires
+is-window-requires c κs = search needs
+
+cast-number-or-dash : tie.Need-cast-number-or-dash
+cast-number-or-dash c = search needs
+
+number-or-dash-requires : tie.Need-number-or-dash-requires
+number-or-dash-requires c κs = search needs
+
+returns : tie.Need-returns
+unfolding objectFieldsOf
+returns c = rw (c .number-or-dash .ensures, c .before .before .is-window .ensures)
+
+pub object-fields-spec : {M : Type 1} → statement M
+object-fields-spec =
+    tie.close (tie.spec is-window-requires cast-number-or-dash number-or-dash-requires returns)

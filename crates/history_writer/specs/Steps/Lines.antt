@@ -1,0 +1,34 @@
+-- The fields of a line as they are written.
+use Prim.Native.Nat.{ℕ}
+use mathlib.Core.Bool.{cond}
+use mathlib.Core.List.{List, [], _∷_, _++_, map}
+use Rattle.layout.specs.Word.{dash}
+use Rattle.layout.specs.Number.{spell}
+use Rattle.layout.specs.List.{listText}
+use Rattle.history.specs.Kinds.{kindWord, opWord, isWindow, takesValue}
+use Rattle.history.specs.declared.record.Object.{Object}
+use Rattle.history.specs.declared.record.Event.{Event}
+use Rattle.history_writer.specs.declared.line.Field.{Field}
+use Rattle.history_writer.specs.declared.line.Field.the-variants.{Dash, Number, KindWord, OpWord, Items}
+
+-- The text of a field; the items are those of its line.
+unfoldable pub fieldText : List ℕ → Field → List ℕ
+fieldText items Dash = dash
+fieldText items (Number n) = spell n
+fieldText items (KindWord k) = kindWord k
+fieldText items (OpWord o) = opWord o
+fieldText items Items = listText items
+
+-- Fields with a space behind each but the last, and a line feed behind that.
+unfoldable pub piecesText : List (List ℕ) → List ℕ
+piecesText [] = []
+piecesText (f ∷ []) = f ++ 10 ∷ []
+piecesText (f ∷ g ∷ fs) = f ++ 32 ∷ piecesText (g ∷ fs)
+
+-- The fields of an object's line and of an event's line.
+unfoldable pub objectFieldsOf : ℕ → Object → List Field
+objectFieldsOf own o = Number own ∷ KindWord (o .kind) ∷ cond (isWindow (o .kind)) (Number (o .width)) Dash ∷ []
+
+unfoldable pub eventFieldsOf : ℕ → Event → List Field
+eventFieldsOf own e =
+    Number own ∷ Number (e .process .0) ∷ Number (e .object) ∷ OpWord (e .op) ∷ cond (takesValue (e .op)) (Number (e .value)) Dash ∷ Items ∷ []
