@@ -95,11 +95,11 @@ fn read_events(
     let mut events = no_events();
     let mut count: usize = 0;
     let mut line = first;
-    let mut a = from;
+    let mut at = from;
     loop {
-        let e = find_from(text, a, 10);
+        let e = find_from(text, at, 10);
         if e == text.len() {
-            if a == e {
+            if at == e {
                 let history = History {
                     objects,
                     declared,
@@ -114,18 +114,18 @@ fn read_events(
                     history,
                 };
             }
-            return refuse(2, line, a, e);
+            return refuse(2, line, at, e);
         }
-        let r = read_event(&text[a..e], count as u32, objects, declared);
+        let r = read_event(&text[at..e], count as u32, objects, declared);
         let fault = r.fault;
         if fault != 0 {
-            return refuse(fault, line, a, e);
+            return refuse(fault, line, at, e);
         }
         let event = r.event;
         events[count] = event;
         count += 1;
         line += 1;
-        a = e + 1;
+        at = e + 1;
     }
 }
 

@@ -5,3 +5,4 @@ pub mod TextRound
 pub mod TextLength
 pub mod Theorems
 pub mod ShowTheorem
+pub mod Guarantees

@@ -1,20 +1,31 @@
 // Writing a history: the text of a record in the first bytes of a lent buffer.
 ghost use mathlib.Core.Path.{_≡_};
-ghost use Prim.Native.Nat.{ℕ, _+_, _≤_, _<_};
+ghost use Prim.Native.Nat.{_≤_};
 ghost use mathlib.Core.List.{[], _∷_, _++_};
-ghost use mathlib.Core.Bool.{cond};
-ghost use lib.ListN.{length, take, getD};
+ghost use mathlib.Core.Bool.{true, cond};
+ghost use lib.ListN.{length, take};
 ghost use Rattle.layout.specs.Fill.{fill};
-ghost use Rattle.history.specs.Record.{noEvent};
-ghost use Rattle.history.specs.HistoryText.{linesText, objectText, eventText, objectLines, eventLines};
-ghost use Rattle.history_writer.specs.Steps.Lines.{objectFieldsOf, eventFieldsOf};
+ghost use Rattle.layout.specs.Word.{objectHeading, eventHeading};
+ghost use Rattle.history.specs.HistoryText.{linesText, objectText, eventText, objectLines, eventLines, historyText};
+ghost use Rattle.history.specs.Readable.{within};
+ghost use Rattle.history_writer.specs.Steps.Lines.{objectFieldsOf, eventFieldsOf, shortAnswers};
+ghost use Rattle.history_writer.specs.WriteHistory.{historyWritten, historyAfter};
+use crate::limits::is_within;
 use crate::line::Field;
 use crate::line::line_len;
 use crate::line::put_line;
 use history::record::Event;
+use history::record::History;
 use history::record::Object;
 use history::word::is_window;
 use history::word::takes_value;
+use layout::fill::put_bytes;
+
+// The answer's number, and the length of the text or 0.
+pub struct HistoryWritten {
+    pub number: u8,
+    pub length: usize,
+}
 
 // The number, or `-`.
 fn number_or_dash(wanted: bool, n: u32) -> Field
@@ -111,4 +122,139 @@ fn put_event(part: &mut [u8], own: u32, e: Event) -> usize
     let values = answer.values;
     let items = widen(values);
     put_line(part, event_fields(own, e), 6, &items[0..n])
+}
+
+// How many bytes the lines of the first n objects have.
+fn objects_len(objects: [Object; 16], n: usize) -> usize
+    requires { ⌜ n ≤ 16 ⌝ }
+    ensures { λ r. ⌜ (r ≡ length (linesText (objectLines 0 (take n objects)))) × (r ≤ 67680) ⌝ }
+{
+    let mut total: usize = 0;
+    let mut i = 0;
+    while i < n {
+        let o = objects[i];
+        total += object_len(i as u32, o);
+        i += 1;
+    }
+    total
+}
+
+// How many bytes the lines of the first n events have.
+fn events_len(events: [Event; 64], n: usize) -> usize
+    requires { ⌜ (n ≤ 64) × (shortAnswers (take n events) ≡ true) ⌝ }
+    ensures { λ r. ⌜ (r ≡ length (linesText (eventLines 0 (take n events)))) × (r ≤ 270720) ⌝ }
+{
+    let mut total: usize = 0;
+    let mut i = 0;
+    while i < n {
+        let e = events[i];
+        total += event_len(i as u32, e);
+        i += 1;
+    }
+    total
+}
+
+// Writes the lines of the first n objects into a part that has room.
+fn put_objects(part: &mut [u8], objects: [Object; 16], n: usize) -> usize
+    requires { ⌜ (n ≤ 16) × (length (linesText (objectLines 0 (take n objects))) ≤ length (now part)) ⌝ }
+    ensures { λ r. ⌜ (r ≡ length (linesText (objectLines 0 (take n objects)))) × (now (part .exit) ≡ fill (linesText (objectLines 0 (take n objects))) (now (part .entry))) ⌝ }
+{
+    let mut at: usize = 0;
+    let mut i = 0;
+    while i < n {
+        let o = objects[i];
+        let k = put_object(&mut part[at..], i as u32, o);
+        at += k;
+        i += 1;
+    }
+    at
+}
+
+// Writes the lines of the first n events into a part that has room.
+fn put_events(part: &mut [u8], events: [Event; 64], n: usize) -> usize
+    requires { ⌜ (n ≤ 64) × (shortAnswers (take n events) ≡ true) × (length (linesText (eventLines 0 (take n events))) ≤ length (now part)) ⌝ }
+    ensures { λ r. ⌜ (r ≡ length (linesText (eventLines 0 (take n events)))) × (now (part .exit) ≡ fill (linesText (eventLines 0 (take n events))) (now (part .entry))) ⌝ }
+{
+    let mut at: usize = 0;
+    let mut i = 0;
+    while i < n {
+        let e = events[i];
+        let k = put_event(&mut part[at..], i as u32, e);
+        at += k;
+        i += 1;
+    }
+    at
+}
+
+// How many bytes the text of a record within its limits has.
+fn history_len(h: History) -> usize
+    requires { ⌜ within h ≡ true ⌝ }
+    ensures { λ r. ⌜ r ≡ length (historyText h) ⌝ }
+{
+    let objects = h.objects;
+    let declared = h.declared;
+    let events = h.events;
+    let count = h.count;
+    let first = objects_len(objects, declared);
+    let second = events_len(events, count);
+    first + second + 55
+}
+
+// Writes the heading of the objects and their lines.
+fn put_object_half(part: &mut [u8], objects: [Object; 16], n: usize) -> usize
+    requires { ⌜ (n ≤ 16) × (length (linesText (objectHeading ∷ objectLines 0 (take n objects))) ≤ length (now part)) ⌝ }
+    ensures { λ r. ⌜ (r ≡ length (linesText (objectHeading ∷ objectLines 0 (take n objects)))) × (now (part .exit) ≡ fill (linesText (objectHeading ∷ objectLines 0 (take n objects))) (now (part .entry))) ⌝ }
+{
+    let k = put_bytes(part, b"object kind width\n");
+    let m = put_objects(&mut part[k..], objects, n);
+    k + m
+}
+
+// Writes the heading of the events and their lines.
+fn put_event_half(part: &mut [u8], events: [Event; 64], n: usize) -> usize
+    requires { ⌜ (n ≤ 64) × (shortAnswers (take n events) ≡ true) × (length (linesText (eventHeading ∷ eventLines 0 (take n events))) ≤ length (now part)) ⌝ }
+    ensures { λ r. ⌜ (r ≡ length (linesText (eventHeading ∷ eventLines 0 (take n events)))) × (now (part .exit) ≡ fill (linesText (eventHeading ∷ eventLines 0 (take n events))) (now (part .entry))) ⌝ }
+{
+    let k = put_bytes(part, b"event process object op value answer\n");
+    let m = put_events(&mut part[k..], events, n);
+    k + m
+}
+
+// Writes the text of a record within its limits into a part that has room.
+fn put_history(part: &mut [u8], h: History) -> usize
+    requires { ⌜ (within h ≡ true) × (length (historyText h) ≤ length (now part)) ⌝ }
+    ensures { λ r. ⌜ (r ≡ length (historyText h)) × (now (part .exit) ≡ fill (historyText h) (now (part .entry))) ⌝ }
+{
+    let objects = h.objects;
+    let declared = h.declared;
+    let events = h.events;
+    let count = h.count;
+    let k = put_object_half(part, objects, declared);
+    let m = put_event_half(&mut part[k..], events, count);
+    k + m
+}
+
+// Writes the text of a record into the first bytes of a buffer. A record outside its limits (9) and a buffer that is too
+// short (18) are refused, and the buffer stays as it was.
+pub fn write_history(buf: &mut [u8], h: History) -> HistoryWritten
+    ensures { λ r. ⌜ (r ≡ historyWritten h (now (buf .entry))) × (now (buf .exit) ≡ historyAfter h (now (buf .entry))) ⌝ }
+{
+    if is_within(h) {
+        let n = history_len(h);
+        if buf.len() < n {
+            return HistoryWritten {
+                number: 18,
+                length: 0,
+            };
+        }
+        put_history(buf, h);
+        return HistoryWritten {
+            number: 0,
+            length: n,
+        };
+    }
+    HistoryWritten {
+        number: 9,
+        length: 0,
+    }
 }

@@ -1,7 +1,8 @@
 -- The fields of a line as they are written.
 use Prim.Native.Nat.{ℕ}
-use mathlib.Core.Bool.{cond}
+use mathlib.Core.Bool.{Bool, true, cond, _&&_}
 use mathlib.Core.List.{List, [], _∷_, _++_, map}
+use lib.Dec.{leb}
 use Rattle.layout.specs.Word.{dash}
 use Rattle.layout.specs.Number.{spell}
 use Rattle.layout.specs.List.{listText}
@@ -32,3 +33,8 @@ objectFieldsOf own o = Number own ∷ KindWord (o .kind) ∷ cond (isWindow (o .
 unfoldable pub eventFieldsOf : ℕ → Event → List Field
 eventFieldsOf own e =
     Number own ∷ Number (e .process .0) ∷ Number (e .object) ∷ OpWord (e .op) ∷ cond (takesValue (e .op)) (Number (e .value)) Dash ∷ Items ∷ []
+
+-- Every answer has at most eight values.
+unfoldable pub shortAnswers : List Event → Bool
+shortAnswers [] = true
+shortAnswers (e ∷ es) = leb (e .answer .count) 8 && shortAnswers es

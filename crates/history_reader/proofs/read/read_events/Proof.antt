@@ -20,13 +20,13 @@ use Rattle.history_reader.proofs.read.read_events.Statement.{statement}
 use Rattle.history_reader.proofs.read.read_events.Tie as tie
 
 abbrev Inv-loop : tie.InvT-loop
-Inv-loop text from first objects declared events₀ count₀ line₀ a₀ events count line a =
-    (a ≤ length text) × (line ≤ a + 1) × Filled 64 noEvent events count
+Inv-loop text from first objects declared events₀ count₀ line₀ at₀ events count line at =
+    (at ≤ length text) × (line ≤ at + 1) × Filled 64 noEvent events count
     × (eventsFrom (take declared objects) [] first from (split 10 (drop from text))
-    ≡ eventsFrom (take declared objects) (take count events) line a (split 10 (drop a text)))
+    ≡ eventsFrom (take declared objects) (take count events) line at (split 10 (drop at text)))
 
 abbrev μ-loop : tie.MeasureT-loop
-μ-loop text from first objects declared events₀ count₀ line₀ a₀ events count line a = length text - a
+μ-loop text from first objects declared events₀ count₀ line₀ at₀ events count line at = length text - at
 
 declared-long : (c : tie.Start Inv-loop μ-loop) → length (take (c .args .declared) (c .args .objects)) ≡ c .args .declared
 declared-long c =
@@ -40,13 +40,13 @@ short c = strict _ _ (c .before .before .before .find-from .ensures .2) (c .befo
 -- what was read is the line of the next event
 same-event : (c : tie.After-read-event Inv-loop μ-loop) → let f = c .before .before .before in let l = f .before .loop in let a = f .before .before .before .before .args in
     c .read-event .result
-    ≡ eventLine (length (take (l .count) (l .events))) (take (a .declared) (a .objects)) (take (f .find-from .result - l .a) (drop (l .a) (a .text .now)))
+    ≡ eventLine (length (take (l .count) (l .events))) (take (a .declared) (a .objects)) (take (f .find-from .result - l .at) (drop (l .at) (a .text .now)))
 same-event c =
     let f = c .before .before .before in
     let l = f .before .loop in
     let a = f .before .before .before .before .args in
     c .read-event .ensures
-    ∙ ap (λ (n : ℕ). eventLine n (take (a .declared) (a .objects)) (take (f .find-from .result - l .a) (drop (l .a) (a .text .now))))
+    ∙ ap (λ (n : ℕ). eventLine n (take (a .declared) (a .objects)) (take (f .find-from .result - l .at) (drop (l .at) (a .text .now))))
     (sym (filled-count (l .inv .2)))
 
 no-fault : (c : tie.Else3 Inv-loop μ-loop) → c .before .read-event .result .fault ≡ 0
@@ -74,7 +74,7 @@ returns c =
     let a = z .args in
     ap (λ (h : History). record { fault = 0; line = 0; start = 0; end = 0; history = h })
     (history-made (a .objects) (a .declared) (l .events) (l .count) (z .pre .3) (declared-long z) (l .inv .2))
-    ∙ sym (l .inv .3 ∙ events-done (l .line) (a .text .now) (l .a) (f .find-from .result) (f .find-from .ensures .0) (search needs) (search needs) _ _ (search needs) (c .if2 .taken))
+    ∙ sym (l .inv .3 ∙ events-done (l .line) (a .text .now) (l .at) (f .find-from .result) (f .find-from .ensures .0) (search needs) (search needs) _ _ (search needs) (c .if2 .taken))
 
 refuse-requires : tie.Need-refuse-requires Inv-loop μ-loop
 refuse-requires c κs = search needs
@@ -86,7 +86,7 @@ returns-2 c =
     let l = f .before .loop in
     let a = f .before .before .before .before .args in
     c .refuse .ensures
-    ∙ sym (l .inv .3 ∙ events-cut (l .line) (a .text .now) (l .a) (f .find-from .result) (f .find-from .ensures .0) (search needs) (search needs) _ _ (search needs) (i .if2 .left))
+    ∙ sym (l .inv .3 ∙ events-cut (l .line) (a .text .now) (l .at) (f .find-from .result) (f .find-from .ensures .0) (search needs) (search needs) _ _ (search needs) (i .if2 .left))
 
 sub-read-event : tie.Need-sub-read-event Inv-loop μ-loop
 sub-read-event c = search needs
@@ -114,7 +114,7 @@ returns-3 c =
     let a = f .before .before .before .before .args in
     c .refuse2 .ensures
     ∙ sym (l .inv .3
-    ∙ events-bad (l .line) (a .text .now) (l .a) (f .find-from .result) (f .find-from .ensures .0) (search needs) (search needs) _ _ (r .read-event .result) (same-event r) (short r) (c .before .if3 .taken))
+    ∙ events-bad (l .line) (a .text .now) (l .at) (f .find-from .result) (f .find-from .ensures .0) (search needs) (search needs) _ _ (r .read-event .result) (same-event r) (short r) (c .before .if3 .taken))
 
 mul-events : tie.Need-mul-events Inv-loop μ-loop
 mul-events c = search needs
@@ -128,8 +128,8 @@ add-count c = omega (arith, own-few (c .before))
 add-line : tie.Need-add-line Inv-loop μ-loop
 add-line c = search needs
 
-add-a : tie.Need-add-a Inv-loop μ-loop
-add-a c = search needs
+add-at : tie.Need-add-at Inv-loop μ-loop
+add-at c = search needs
 
 loop-less : tie.Need-loop-less Inv-loop μ-loop
 loop-less c = search needs
@@ -146,7 +146,7 @@ loop-again c =
       search needs,
       filled-more (l .inv .2) v h,
       l .inv .3
-          ∙ events-more (l .line) (a .text .now) (l .a) (f .find-from .result) (f .find-from .ensures .0) (search needs) (search needs) _ _ (r .read-event .result) (same-event r) (short r) (no-fault (c .before))
+          ∙ events-more (l .line) (a .text .now) (l .at) (f .find-from .result) (f .find-from .ensures .0) (search needs) (search needs) _ _ (r .read-event .result) (same-event r) (short r) (no-fault (c .before))
           ∙ ap (λ (es : List Event). eventsFrom (take (a .declared) (a .objects)) es (l .line + 1) (f .find-from .result + 1) (split 10 (drop (f .find-from .result + 1) (a .text .now))))
           (sym (filled-take (l .inv .2) v h)),
     )
@@ -174,6 +174,6 @@ read-events-spec =
     array-set-from-events
     add-count
     add-line
-    add-a
+    add-at
     loop-less
     loop-again)
