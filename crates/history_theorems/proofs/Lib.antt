@@ -6,3 +6,4 @@ pub mod TextLength
 pub mod Theorems
 pub mod ShowTheorem
 pub mod Guarantees
+pub mod WriteTheorems
