@@ -6,7 +6,7 @@ use native.Mathlib.Omega.{arith}
 use mathlib.Core.Path.{_≡_, refl, sym, ap, ap₂, _∙_}
 use mathlib.Core.Bool.{Bool, true, false, cond}
 use mathlib.Core.List.{List, [], _∷_, _++_, map, append-assoc, append-nil}
-use lib.ListN.{length, getD, take, drop, length-append, length-take, length-drop, drop-of-length-le}
+use lib.ListN.{length, getD, take, drop, length-append, length-take, length-drop, length-map, drop-of-length-le}
 use lib.Seq.{slice-cons, length-take-le}
 use lib.Dec.{eqb}
 use borrow.Author.Tests.{eq-eqb, ne-eqb}
@@ -31,10 +31,6 @@ pieces-step f [] = sym (append-nil (f ++ 10 ∷ []))
 pieces-step f (g ∷ fs) =
     rw (ne-eqb (length (g ∷ fs)) 0 (λ z. absurd (omega arith))) (sym (append-assoc f (32 ∷ []) (piecesText (g ∷ fs))))
 
-length-map′ : (g : Field → List ℕ) (l : List Field) → length (map g l) ≡ length l
-length-map′ g [] = refl
-length-map′ g (x ∷ l) = ap suc (length-map′ g l)
-
 pieces-none : piecesText [] ≡ []
 unfolding piecesText
 pieces-none = refl
@@ -46,7 +42,7 @@ module _ (g : Field → List ℕ) (fields : List Field) (n i : ℕ) (few : n ≤
 
   last-is : i < n → eqb (length (map g (drop (i + 1) (take n fields)))) 0 ≡ eqb (i + 1) n
   last-is h =
-      let many : length (map g (drop (i + 1) (take n fields))) ≡ n - (i + 1) = length-map′ g (drop (i + 1) (take n fields)) ∙ left-long in
+      let many : length (map g (drop (i + 1) (take n fields))) ≡ n - (i + 1) = length-map (drop (i + 1) (take n fields)) g ∙ left-long in
       by-eq (i + 1) n
       (λ e. eq-eqb (length (map g (drop (i + 1) (take n fields)))) 0 (omega arith) ∙ sym (eq-eqb (i + 1) n e))
       (λ e. ne-eqb (length (map g (drop (i + 1) (take n fields)))) 0 (λ z. e (omega arith)) ∙ sym (ne-eqb (i + 1) n e))
