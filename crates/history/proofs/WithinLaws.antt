@@ -21,7 +21,7 @@ use Rattle.history.specs.Readable.{goodObjects, goodEvents, allZero, isR
 use Rattle.history.proofs.PadLaws.{pad-length, take-pad}
 
 -- ---- what is not used is blank
-zero-is : (xs : List ℕ) → allZero xs ≡ true → xs ≡ replicate (length xs) 0
+pub zero-is : (xs : List ℕ) → allZero xs ≡ true → xs ≡ replicate (length xs) 0
 unfolding allZero
 zero-is [] e = refl
 zero-is (x ∷ xs) e =
@@ -103,7 +103,7 @@ blank-events (suc n) = blank-events n
 
 -- ---- an array whose places from n on are blank is its first n elements in an array
 module _ {A : Type 0} (places : ℕ) (blank : A) where
-  padded : (xs : List A) (n : ℕ) → length xs ≡ places → n ≤ places
+  pub padded : (xs : List A) (n : ℕ) → length xs ≡ places → n ≤ places
       → drop n xs ≡ replicate (length (drop n xs)) blank → xs ≡ pad places blank (take n xs)
   unfolding pad
   padded xs n l h d =
@@ -112,7 +112,7 @@ module _ {A : Type 0} (places : ℕ) (blank : A) where
       sym (take-append-drop n xs)
       ∙ ap (λ (r : List A). take n xs ++ r) (d ∙ ap (λ (m : ℕ). replicate m blank) k)
 
-  drop-pad : (xs : List A) → drop (length xs) (pad places blank xs) ≡ replicate (places - length xs) blank
+  pub drop-pad : (xs : List A) → drop (length xs) (pad places blank xs) ≡ replicate (places - length xs) blank
   unfolding pad
   drop-pad xs = drop-append-seam xs (replicate (places - length xs) blank)
 

@@ -183,7 +183,7 @@ spells-below bound (x ∷ xs) e =
     rw (value-spell x, and-left (ltb x bound) (allLess bound xs) e)
     (spells-below bound xs (and-right (ltb x bound) (allLess bound xs) e))
 
-values-less : (bound : ℕ) (ps : List (List ℕ)) → allBelow bound ps ≡ true → allLess bound (map value ps) ≡ true
+pub values-less : (bound : ℕ) (ps : List (List ℕ)) → allBelow bound ps ≡ true → allLess bound (map value ps) ≡ true
 unfolding allBelow allLess
 values-less bound [] e = refl
 values-less bound (p ∷ ps) e =

@@ -147,15 +147,15 @@ event-short own os e h n g =
     )
 
 -- ---- lines, each with its line feed
-line-more : (l : List ℕ) (ls : List (List ℕ)) → length (linesText (l ∷ ls)) ≡ length l + suc (length (linesText ls))
+pub line-more : (l : List ℕ) (ls : List (List ℕ)) → length (linesText (l ∷ ls)) ≡ length l + suc (length (linesText ls))
 unfolding linesText
 line-more l ls = length-append l (10 ∷ linesText ls)
 
-line-none : length (linesText []) ≡ 0
+pub line-none : length (linesText []) ≡ 0
 unfolding linesText
 line-none = refl
 
-lines-append : (ls ms : List (List ℕ)) → length (linesText (ls ++ ms)) ≡ length (linesText ls) + length (linesText ms)
+pub lines-append : (ls ms : List (List ℕ)) → length (linesText (ls ++ ms)) ≡ length (linesText ls) + length (linesText ms)
 lines-append [] ms = omega (arith, line-none)
 lines-append (l ∷ ls) ms =
     let ih = lines-append ls ms in

@@ -1,0 +1,4 @@
+pub mod CriterionLaws
+pub mod NumberingLaws
+pub mod ListLineLaws
+pub mod FitsLaws

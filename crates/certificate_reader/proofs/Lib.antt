@@ -1,0 +1,4 @@
+pub mod ReadLaws
+pub mod KeepLaws
+pub mod PlaceLaws
+pub mod TwoTextLaws

@@ -1,0 +1,2 @@
+pub mod ReadCertificate
+pub mod Steps

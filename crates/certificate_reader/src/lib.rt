@@ -1,0 +1,2 @@
+// Reading a certificate text, given its history text.
+pub mod read;

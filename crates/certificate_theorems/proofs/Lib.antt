@@ -1,0 +1,5 @@
+pub mod ListRound
+pub mod TextRound
+pub mod TextLength
+pub mod Theorems
+pub mod Guarantees

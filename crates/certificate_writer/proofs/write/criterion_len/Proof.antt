@@ -1,0 +1,56 @@
+-- `criterion_len` meets its contract. Assumes nothing.
+use Rattle.certificate.specs.Criteria.{wordOf}
+use Rattle.certificate.specs.CertificateText.{criterionText}
+use borrow.Author.Needs.{needs}
+use Rattle.certificate_writer.proofs.write.criterion_len.Statement.{statement}
+use Rattle.certificate_writer.proofs.write.criterion_len.Tie as tie
+
+enum-told : tie.Need-enum-told
+enum-told c = search needs
+
+enum-told-2 : tie.Need-enum-told-2
+enum-told-2 c = search needs
+
+enum-told-3 : tie.Need-enum-told-3
+enum-told-3 c = search needs
+
+enum-told-4 : tie.Need-enum-told-4
+enum-told-4 c = search needs
+
+enum-told-5 : tie.Need-enum-told-5
+enum-told-5 c = search needs
+
+returns : tie.Need-returns
+unfolding criterionText wordOf
+returns c = (rw (c .enum-told .given .1), search needs)
+
+returns-2 : tie.Need-returns-2
+unfolding criterionText wordOf
+returns-2 c = (rw (c .enum-told2 .given .1), search needs)
+
+returns-3 : tie.Need-returns-3
+unfolding criterionText wordOf
+returns-3 c = (rw (c .enum-told3 .given .1), search needs)
+
+returns-4 : tie.Need-returns-4
+unfolding criterionText wordOf
+returns-4 c = (rw (c .enum-told4 .given .1), search needs)
+
+returns-5 : tie.Need-returns-5
+unfolding criterionText wordOf
+returns-5 c = (rw (c .enum-told5 .given .1), search needs)
+
+pub criterion-len-spec : {M : Type 1} → statement M
+criterion-len-spec =
+    tie.close
+    (tie.spec
+    enum-told
+    enum-told-2
+    enum-told-3
+    enum-told-4
+    enum-told-5
+    returns
+    returns-2
+    returns-3
+    returns-4
+    returns-5)
