@@ -148,9 +148,9 @@ fn read_views(
         line += 1;
         at = e + 1;
     }
-    let e = find_from(text, at, 10);
-    if e == text.len() {
-        if at == e {
+    let end = find_from(text, at, 10);
+    if end == text.len() {
+        if at == end {
             put_rows(rows, read);
             let certificate = Certificate {
                 criterion,
@@ -165,9 +165,9 @@ fn read_views(
                 certificate,
             };
         }
-        return refuse(2, line, at, e);
+        return refuse(2, line, at, end);
     }
-    refuse(2, line, at, e)
+    refuse(2, line, at, end)
 }
 
 // Reads the heading of the views and their lines.

@@ -1,0 +1,9 @@
+pub mod Lists
+pub mod Orders
+pub mod Replay
+pub mod Check
+pub mod Meeting
+pub mod Weaken
+pub mod Loops
+pub mod RecordLaws
+pub mod Samples

@@ -1,0 +1,106 @@
+-- Document 01's samples marked (p), at the level of records: theorems by computation. Assumes nothing.
+use mathlib.Core.Path.{_≡_, refl}
+use mathlib.Core.List.{List, [], _∷_}
+use mathlib.Core.Option.{none, some}
+use Prim.Native.Nat.{ℕ}
+use Rattle.history.specs.declared.record.Kind.the-variants.{Register, Queue, Window}
+use Rattle.history.specs.declared.record.Op.{Op}
+use Rattle.history.specs.declared.record.Op.the-variants.{Write, Read, Push, Pop}
+use Rattle.certificate.specs.declared.record.Criterion.{Criterion}
+use Rattle.certificate.specs.declared.record.Criterion.the-variants.{Sequential, Pram, Weak, Causal, Converge}
+use Rattle.criteria.specs.History.{History, Event, own, programOrder}
+use Rattle.criteria.specs.Replay.{start, Replays}
+use Rattle.criteria.specs.Certificate.{Certificate, processes}
+use Rattle.criteria.specs.Check.{fault11, fault12, fault14, fault16, lacksOwn, lacksPast, notItsSet, against, right, check}
+use Rattle.criteria.proofs.Replay.{none-wrong}
+
+-- process, object, operation, answer
+abbrev pub ev : ℕ → ℕ → Op → ℕ → List ℕ → Event
+ev p o op v a = record { process = p; object = o; op = op; value = v; answer = a }
+
+abbrev pub claim : Criterion → List (List ℕ) → List (List ℕ) → Certificate
+claim w ps vs = record { criterion = w; pasts = ps; views = vs }
+
+abbrev pub Q : History
+Q = record {
+  objects = record { kind = Queue; width = 0 } ∷ [];
+  events = ev 0 0 Push 7 [] ∷ ev 1 0 Pop 0 (7 ∷ []) ∷ [];
+}
+
+pub Q-sequential : check Q (claim Sequential [] ((0 ∷ 1 ∷ []) ∷ [])) ≡ none
+unfolding lacksOwn lacksPast notItsSet against right check programOrder processes
+Q-sequential = refl
+
+pub Q-turned : check Q (claim Sequential [] ((1 ∷ 0 ∷ []) ∷ [])) ≡ some (fault16 0 1)
+unfolding lacksOwn lacksPast notItsSet against right check programOrder processes
+Q-turned = refl
+
+pub Q-short : check Q (claim Sequential [] ((0 ∷ []) ∷ [])) ≡ some (fault14 0)
+unfolding lacksOwn lacksPast notItsSet against right check programOrder processes
+Q-short = refl
+
+pub Q-pram : check Q (claim Pram [] ((0 ∷ 1 ∷ []) ∷ (0 ∷ 1 ∷ []) ∷ [])) ≡ none
+unfolding lacksOwn lacksPast notItsSet against right check programOrder processes
+Q-pram = refl
+
+-- pram numbers its views by process: here processes 1 and 3
+abbrev pub P : History
+P = record {
+  objects = record { kind = Queue; width = 0 } ∷ [];
+  events = ev 1 0 Push 7 [] ∷ ev 3 0 Pop 0 (7 ∷ []) ∷ [];
+}
+
+pub P-pram : check P (claim Pram [] ((0 ∷ 1 ∷ []) ∷ (1 ∷ 0 ∷ []) ∷ [])) ≡ some (fault16 3 1)
+unfolding lacksOwn lacksPast notItsSet against right check programOrder processes
+P-pram = refl
+
+abbrev pub W : History
+W = record {
+  objects = record { kind = Window; width = 2 } ∷ [];
+  events = ev 0 0 Write 4 [] ∷ ev 0 0 Read 0 (9 ∷ 4 ∷ []) ∷ ev 1 0 Write 9 [] ∷ ev 1 0 Read 0 (4 ∷ 9 ∷ []) ∷ [];
+}
+
+pub W-causal : check W
+    (claim Causal ([] ∷ (0 ∷ 2 ∷ []) ∷ [] ∷ (0 ∷ 2 ∷ []) ∷ [])
+    ((0 ∷ []) ∷ (2 ∷ 0 ∷ 1 ∷ []) ∷ (2 ∷ []) ∷ (0 ∷ 2 ∷ 3 ∷ []) ∷ [])) ≡ none
+unfolding lacksOwn lacksPast notItsSet against right check programOrder processes
+W-causal = refl
+
+pub W-past : (vs : List (List ℕ)) → check W (claim Causal ([] ∷ (2 ∷ []) ∷ [] ∷ (0 ∷ 2 ∷ []) ∷ []) vs) ≡ some (fault11 1)
+unfolding lacksOwn lacksPast notItsSet against right check programOrder processes
+W-past vs = refl
+
+abbrev pub C : History
+C = record {
+  objects = record { kind = Window; width = 2 } ∷ [];
+  events = ev 0 0 Write 4 [] ∷ ev 1 0 Write 9 [] ∷ ev 1 0 Read 0 (0 ∷ 9 ∷ []) ∷ ev 1 0 Read 0 (4 ∷ 9 ∷ []) ∷ [];
+}
+
+pub C-converge : check C (claim Converge ([] ∷ [] ∷ (1 ∷ []) ∷ (0 ∷ 1 ∷ 2 ∷ []) ∷ []) ((0 ∷ 1 ∷ 2 ∷ 3 ∷ []) ∷ [])) ≡ none
+unfolding lacksOwn lacksPast notItsSet against right check programOrder processes
+C-converge = refl
+
+abbrev pub R : History
+R = record {
+  objects = record { kind = Register; width = 0 } ∷ [];
+  events = ev 0 0 Write 3 [] ∷ ev 1 0 Write 8 [] ∷ ev 2 0 Read 0 (3 ∷ []) ∷ ev 2 0 Read 0 (8 ∷ []) ∷ ev 2 0 Read 0 (3 ∷ []) ∷ [];
+}
+
+pub R-inside : (vs : List (List ℕ))
+    → check R (claim Weak ([] ∷ [] ∷ [] ∷ (0 ∷ 1 ∷ 2 ∷ 3 ∷ []) ∷ (0 ∷ 1 ∷ 2 ∷ 3 ∷ []) ∷ []) vs) ≡ some (fault12 3)
+unfolding lacksOwn lacksPast notItsSet against right check programOrder processes
+R-inside vs = refl
+
+abbrev pub M : History
+M = record {
+  objects = record { kind = Register; width = 0 } ∷ record { kind = Register; width = 0 } ∷ [];
+  events = ev 0 0 Write 5 [] ∷ ev 1 0 Read 0 (5 ∷ []) ∷ ev 1 1 Write 6 [] ∷ ev 2 1 Read 0 (6 ∷ []) ∷ ev 2 0 Read 0 (0 ∷ []) ∷ [];
+}
+
+pub M-replays : Replays M (own M 2) (start M) (1 ∷ 2 ∷ 3 ∷ 4 ∷ 0 ∷ [])
+unfolding right
+M-replays = none-wrong M (own M 2) (start M) (1 ∷ 2 ∷ 3 ∷ 4 ∷ 0 ∷ []) refl
+
+pub empty-sequential : check record { objects = []; events = [] } (claim Sequential [] ([] ∷ [])) ≡ none
+unfolding lacksOwn lacksPast notItsSet against right check programOrder processes
+empty-sequential = refl

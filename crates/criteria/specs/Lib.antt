@@ -1,0 +1,9 @@
+pub mod Tests
+pub mod Object
+pub mod History
+pub mod Replay
+pub mod Criteria
+pub mod Certificate
+pub mod Check
+pub mod Weaken
+pub mod Records
