@@ -3,3 +3,4 @@ pub mod TextRound
 pub mod TextLength
 pub mod Theorems
 pub mod Guarantees
+pub mod WriteTheorems

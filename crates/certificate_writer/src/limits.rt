@@ -4,11 +4,17 @@ ghost use Prim.Native.Nat.{_≤_};
 ghost use mathlib.Core.Bool.{_&&_};
 ghost use lib.ListN.{length, take, drop};
 ghost use lib.Dec.{eqb};
+ghost use Rattle.history.specs.Record.{eventsIn};
 ghost use Rattle.history.specs.Readable.{allLess, allZero};
 ghost use Rattle.certificate.specs.Record.{entriesIn};
 ghost use Rattle.certificate.specs.Faults.{rising};
-ghost use Rattle.certificate.specs.Readable.{goodRow, goodPasts, blankLists, goodRows, blankRows};
+ghost use Rattle.certificate.specs.Readable.{goodRow, goodPasts, blankLists, goodRows, blankRows, fits};
+ghost use Rattle.certificate_writer.specs.Steps.Lines.{partsFit};
+use certificate::criterion::has_pasts;
+use certificate::numbers::view_numbers;
+use certificate::record::Certificate;
 use certificate::record::EventList;
+use history::record::History;
 
 // Whether each of the first n events of a row is below the count.
 fn all_less(row: [u8; 64], n: usize, count: usize) -> bool
@@ -149,10 +155,10 @@ fn good_rows(lengths: [u8; 64], rows: &[[u8; 64]; 64], m: usize, count: usize) -
     true
 }
 
-// Whether each row from the place m on holds zeros.
+// Whether each of the 64 rows from the place m on holds zeros.
 fn blank_rows(rows: &[[u8; 64]; 64], m: usize) -> bool
     requires { ⌜ m ≤ 64 ⌝ }
-    ensures { λ r. ⌜ r ≡ blankRows (drop m (now (rows .entry))) ⌝ }
+    ensures { λ r. ⌜ (r ≡ blankRows (drop m (now (rows .entry)))) × (length (now (rows .entry)) ≡ 64) ⌝ }
 {
     // as a slice the rows tell how many they are
     let all = &rows[..];
@@ -165,4 +171,35 @@ fn blank_rows(rows: &[[u8; 64]; 64], m: usize) -> bool
         i += 1;
     }
     true
+}
+
+// Whether the first k pasts and the first m rows of a record are good, and its other lists and rows blank.
+fn parts_fit(c: Certificate, rows: &[[u8; 64]; 64], k: usize, m: usize, count: usize) -> bool
+    requires { ⌜ (k ≤ 64) × (m ≤ 64) × (count ≤ 64) ⌝ }
+    ensures { λ r. ⌜ r ≡ partsFit count k m c (now (rows .entry)) ⌝ }
+{
+    let pasts = c.pasts;
+    let lengths = c.lengths;
+    let used = good_pasts(pasts, k, count);
+    let said = good_rows(lengths, rows, m, count);
+    let unused = blank_lists(pasts, k);
+    let unsaid = all_zero(lengths, m);
+    let blank = blank_rows(rows, m);
+    used & said & unused & unsaid & blank
+}
+
+// Whether a record and its rows are within the limits that a history sets.
+pub(crate) fn fits_history(h: History, c: Certificate, rows: &[[u8; 64]; 64]) -> bool
+    requires { ⌜ h .count ≤ 64 ⌝ }
+    ensures { λ r. ⌜ r ≡ fits (eventsIn h) c (now (rows .entry)) ⌝ }
+{
+    let criterion = c.criterion;
+    let events = h.events;
+    let count = h.count;
+    let views = view_numbers(criterion, events, count);
+    let m = views.count;
+    if has_pasts(criterion) {
+        return parts_fit(c, rows, count, m, count);
+    }
+    parts_fit(c, rows, 0, m, count)
 }

@@ -7,19 +7,34 @@ ghost use lib.ListN.{length, take};
 ghost use Rattle.layout.specs.Fill.{fill};
 ghost use Rattle.layout.specs.Number.{spell};
 ghost use Rattle.layout.specs.List.{listText};
+ghost use Rattle.history.specs.Record.{eventsIn};
 ghost use Rattle.history.specs.HistoryText.{linesText};
 ghost use Rattle.history.specs.Readable.{allLess};
 ghost use Rattle.certificate.specs.Record.{entriesIn, beginnings};
 ghost use Rattle.certificate.specs.Criteria.{countFrom};
-ghost use Rattle.certificate.specs.CertificateText.{listLine, listLines, criterionText, pastPart, viewPart};
+ghost use Rattle.certificate.specs.CertificateText.{listLine, listLines, criterionText, pastPart, viewPart, certificateText};
+ghost use Rattle.certificate.specs.Readable.{fits};
+ghost use Rattle.certificate_writer.specs.WriteCertificate.{certificateWritten, certificateAfter};
 ghost use Rattle.certificate_writer.specs.Steps.Lines.{shortLists};
+use crate::limits::fits_history;
+use certificate::criterion::has_pasts;
+use certificate::numbers::view_numbers;
+use certificate::record::Certificate;
 use certificate::record::Criterion;
 use certificate::record::EventList;
+use history::record::History;
+use history_writer::limits::is_within;
 use layout::fill::put_bytes;
 use layout::list::list_len;
 use layout::list::put_list;
 use layout::number::number_len;
 use layout::number::put_number;
+
+// The answer's number, and the length of the text or 0.
+pub struct CertificateWritten {
+    pub number: u8,
+    pub length: usize,
+}
 
 // The events of a row, as items of a list.
 fn widen(row: [u8; 64]) -> [u32; 64]
@@ -207,4 +222,102 @@ fn put_view_part(
     let h = put_bytes(part, b"view order\n");
     let w = put_views(&mut part[h..], numbers, lengths, rows, m);
     h + w
+}
+
+// Writes the part of the pasts and the part of the views behind it into a part that has room.
+fn put_both_parts(
+    part: &mut [u8],
+    pasts: [EventList; 64],
+    k: usize,
+    numbers: [u8; 64],
+    lengths: [u8; 64],
+    rows: &[[u8; 64]; 64],
+    m: usize,
+) -> usize
+    requires { ⌜ (k ≤ 64) × (shortLists (take k pasts) ≡ true) × (m ≤ 64) × (allLess 65 (take m lengths) ≡ true) × (length (linesText (pastPart (map entriesIn (take k pasts)) ++ viewPart (take m numbers) (beginnings (take m lengths) (take m (now rows))))) ≤ length (now part)) ⌝ }
+    ensures { λ r. ⌜ (r ≡ length (linesText (pastPart (map entriesIn (take k pasts)) ++ viewPart (take m numbers) (beginnings (take m lengths) (take m (now (rows .entry))))))) × (now (part .exit) ≡ fill (linesText (pastPart (map entriesIn (take k pasts)) ++ viewPart (take m numbers) (beginnings (take m lengths) (take m (now (rows .entry)))))) (now (part .entry))) ⌝ }
+{
+    let a = put_past_part(part, pasts, k);
+    let b = put_view_part(&mut part[a..], numbers, lengths, rows, m);
+    a + b
+}
+
+// How many bytes the text of a record and its rows within their limits has.
+fn certificate_len(h: History, c: Certificate, rows: &[[u8; 64]; 64]) -> usize
+    requires { ⌜ (h .count ≤ 64) × (fits (eventsIn h) c (now rows) ≡ true) ⌝ }
+    ensures { λ r. ⌜ r ≡ length (certificateText (eventsIn h) c (now (rows .entry))) ⌝ }
+{
+    let criterion = c.criterion;
+    let pasts = c.pasts;
+    let lengths = c.lengths;
+    let events = h.events;
+    let count = h.count;
+    let views = view_numbers(criterion, events, count);
+    let m = views.count;
+    let numbers = views.numbers;
+    let first = criterion_len(criterion);
+    let last = views_len(numbers, lengths, rows, m);
+    if has_pasts(criterion) {
+        let middle = pasts_len(pasts, count);
+        return first + middle + last + 22;
+    }
+    first + last + 11
+}
+
+// Writes the text of a record and its rows within their limits into a part that has room.
+fn put_certificate(part: &mut [u8], h: History, c: Certificate, rows: &[[u8; 64]; 64]) -> usize
+    requires { ⌜ (h .count ≤ 64) × (fits (eventsIn h) c (now rows) ≡ true) × (length (certificateText (eventsIn h) c (now rows)) ≤ length (now part)) ⌝ }
+    ensures { λ r. ⌜ (r ≡ length (certificateText (eventsIn h) c (now (rows .entry)))) × (now (part .exit) ≡ fill (certificateText (eventsIn h) c (now (rows .entry))) (now (part .entry))) ⌝ }
+{
+    let criterion = c.criterion;
+    let pasts = c.pasts;
+    let lengths = c.lengths;
+    let events = h.events;
+    let count = h.count;
+    let views = view_numbers(criterion, events, count);
+    let m = views.count;
+    let numbers = views.numbers;
+    let a = put_criterion(part, criterion);
+    if has_pasts(criterion) {
+        let b = put_both_parts(&mut part[a..], pasts, count, numbers, lengths, rows, m);
+        return a + b;
+    }
+    let b = put_view_part(&mut part[a..], numbers, lengths, rows, m);
+    a + b
+}
+
+// Writes the text of a certificate of a history into the first bytes of a buffer. A record that is not within its limits or whose
+// history is not (9) and a buffer that is too short (18) are refused, and the buffer stays as it was.
+pub fn write_certificate(
+    buf: &mut [u8],
+    h: History,
+    c: Certificate,
+    rows: &[[u8; 64]; 64],
+) -> CertificateWritten
+    ensures { λ r. ⌜ (r ≡ certificateWritten h c (now (rows .entry)) (now (buf .entry))) × (now (buf .exit) ≡ certificateAfter h c (now (rows .entry)) (now (buf .entry))) ⌝ }
+{
+    if !is_within(h) {
+        return CertificateWritten {
+            number: 9,
+            length: 0,
+        };
+    }
+    if !fits_history(h, c, rows) {
+        return CertificateWritten {
+            number: 9,
+            length: 0,
+        };
+    }
+    let n = certificate_len(h, c, rows);
+    if buf.len() < n {
+        return CertificateWritten {
+            number: 18,
+            length: 0,
+        };
+    }
+    put_certificate(buf, h, c, rows);
+    CertificateWritten {
+        number: 0,
+        length: n,
+    }
 }

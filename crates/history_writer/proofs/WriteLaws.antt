@@ -48,7 +48,7 @@ pub lines-more : (l : List ℕ) (ls : List (List ℕ)) → linesText (l ∷ ls) 
 unfolding linesText
 lines-more l ls = sym (append-assoc l (10 ∷ []) (linesText ls))
 
-lines-append : (ls ms : List (List ℕ)) → linesText (ls ++ ms) ≡ linesText ls ++ linesText ms
+pub lines-append : (ls ms : List (List ℕ)) → linesText (ls ++ ms) ≡ linesText ls ++ linesText ms
 unfolding linesText
 lines-append [] ms = refl
 lines-append (l ∷ ls) ms =

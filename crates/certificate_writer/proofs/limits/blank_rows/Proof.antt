@@ -35,7 +35,7 @@ returns c =
     let g = c .before in
     let h = g .before .before .before .loop in
     let a = g .before .before .before .before .before .args in
-    sym (h .inv .2 ∙ rest-fails every-blank-row (a .rows .now) (h .i) _ (omega arith) (sym (g .blank-row .ensures) ∙ not-true _ (c .if1 .taken)))
+    (sym (h .inv .2 ∙ rest-fails every-blank-row (a .rows .now) (h .i) _ (omega arith) (sym (g .blank-row .ensures) ∙ not-true _ (c .if1 .taken))), h .inv .1)
 
 add-i : tie.Need-add-i Inv-loop μ-loop
 add-i c = search needs
@@ -54,7 +54,7 @@ returns-2 : tie.Need-returns-2 Inv-loop μ-loop
 returns-2 c =
     let h = c .before .loop in
     let a = c .before .before .before .args in
-    sym (h .inv .2 ∙ rest-ends every-blank-row (a .rows .now) (h .i) (omega arith))
+    (sym (h .inv .2 ∙ rest-ends every-blank-row (a .rows .now) (h .i) (omega arith)), h .inv .1)
 
 pub blank-rows-spec : {M : Type 1} → statement M
 blank-rows-spec =

@@ -1,0 +1,161 @@
+// Reads certificates of two histories, good and damaged, and writes a line for each: whether it was read and is written back as
+// the same bytes; or the refusal with its text and line.
+use certificate_reader::read::Text;
+use certificate_reader::read::faulty_line;
+use certificate_reader::read::read_certificate;
+use certificate_writer::write::write_certificate;
+use layout::word::is_word;
+use libc::STDOUT_FILENO;
+
+fn say(bytes: &[u8]) {
+    io::write_all(STDOUT_FILENO, bytes);
+}
+
+fn say_number(n: u64) {
+    io::print_decimal(STDOUT_FILENO, n);
+}
+
+fn say_text(which: Text) {
+    match which {
+        Text::Neither => say(b"-"),
+        Text::HistoryText => say(b"history"),
+        Text::CertificateText => say(b"certificate"),
+    }
+}
+
+// Writes the records of the two texts back into a buffer with room for 256 bytes, and compares.
+fn say_back(history: &[u8], text: &[u8]) {
+    let mut rows = [[0u8; 64]; 64];
+    let r = read_certificate(history, text, &mut rows);
+    let h = r.history;
+    let c = r.certificate;
+    let mut buffer = [46u8; 256];
+    let w = write_certificate(&mut buffer, h, c, &rows);
+    let n = w.length;
+    say(b"read, written back ");
+    say_number(w.number as u64);
+    if n <= 256 {
+        if is_word(&buffer[0..n], text) {
+            say(b" as the same bytes\n");
+        } else {
+            say(b" as other bytes\n");
+        }
+    }
+}
+
+fn case<'a>(name: &[u8], history: &'a [u8], text: &'a [u8]) {
+    say(name);
+    say(b": ");
+    let mut rows = [[0u8; 64]; 64];
+    let r = read_certificate(history, text, &mut rows);
+    let fault = r.fault;
+    let which = r.text;
+    if fault == 0 {
+        say_back(history, text);
+    } else {
+        say(b"refused ");
+        say_number(fault as u64);
+        say(b", text ");
+        say_text(which);
+        say(b", line ");
+        say_number(r.line as u64);
+        say(b": [");
+        say(faulty_line(history, text));
+        say(b"]\n");
+    }
+}
+
+// A certificate of Q: a queue, process 0 pushes 7 and process 1 pops it.
+fn of_queue(name: &[u8], text: &[u8]) {
+    case(
+        name,
+        b"object kind width\n0 queue -\nevent process object op value answer\n0 0 0 push 7 -\n1 1 0 pop - 7\n",
+        text,
+    );
+}
+
+// A certificate of the empty history.
+fn of_nothing(name: &[u8], text: &[u8]) {
+    case(
+        name,
+        b"object kind width\nevent process object op value answer\n",
+        text,
+    );
+}
+
+fn main() {
+    of_queue(b"sequential", b"criterion sequential\nview order\n0 0,1\n");
+    of_queue(b"pram", b"criterion pram\nview order\n0 0,1\n1 0,1\n");
+    of_queue(
+        b"weak",
+        b"criterion weak\nevent past\n0 -\n1 0\nview order\n0 0\n1 0,1\n",
+    );
+    of_queue(
+        b"converge",
+        b"criterion converge\nevent past\n0 -\n1 0\nview order\n0 0,1\n",
+    );
+    of_queue(
+        b"repeats in a view",
+        b"criterion sequential\nview order\n0 1,1\n",
+    );
+    of_queue(
+        b"unknown criterion",
+        b"criterion strict\nview order\n0 0,1\n",
+    );
+    of_queue(
+        b"past not rising",
+        b"criterion weak\nevent past\n0 1,0\n1 0\nview order\n0 0\n1 0,1\n",
+    );
+    of_queue(
+        b"no such event",
+        b"criterion weak\nevent past\n0 2,1\n1 0\nview order\n0 0\n1 0,1\n",
+    );
+    of_queue(
+        b"too many entries",
+        b"criterion weak\nevent past\n0 1,1,1\n1 0\nview order\n0 0\n1 0,1\n",
+    );
+    of_queue(
+        b"wrong own number",
+        b"criterion pram\nview order\n0 0,1\n2 0,1\n",
+    );
+    of_queue(b"a line too few", b"criterion pram\nview order\n0 0,1\n");
+    of_queue(
+        b"a heading too early",
+        b"criterion weak\nevent past\n0 -\nview order\n0 0\n1 0,1\n",
+    );
+    of_queue(
+        b"a line too many",
+        b"criterion sequential\nview order\n0 0,1\n1 0,1\n",
+    );
+    of_queue(
+        b"an empty line too many",
+        b"criterion sequential\nview order\n0 0,1\n\n",
+    );
+    of_queue(
+        b"no final line feed",
+        b"criterion sequential\nview order\n0 0,1",
+    );
+    of_queue(b"empty text", b"");
+    of_nothing(
+        b"nothing, sequential",
+        b"criterion sequential\nview order\n0 -\n",
+    );
+    of_nothing(
+        b"nothing, converge",
+        b"criterion converge\nevent past\nview order\n0 -\n",
+    );
+    of_nothing(b"nothing, pram", b"criterion pram\nview order\n");
+    of_nothing(
+        b"nothing, causal",
+        b"criterion causal\nevent past\nview order\n",
+    );
+    of_nothing(
+        b"nothing, pram with a view",
+        b"criterion pram\nview order\n0 -\n",
+    );
+    case(
+        b"faulty history",
+        b"object kind width\n0 queue 3\n",
+        b"criterion strict\n",
+    );
+}
