@@ -180,12 +180,12 @@ fn parts_fit(c: Certificate, rows: &[[u8; 64]; 64], k: usize, m: usize, count: u
 {
     let pasts = c.pasts;
     let lengths = c.lengths;
-    let used = good_pasts(pasts, k, count);
-    let said = good_rows(lengths, rows, m, count);
-    let unused = blank_lists(pasts, k);
-    let unsaid = all_zero(lengths, m);
-    let blank = blank_rows(rows, m);
-    used & said & unused & unsaid & blank
+    let pasts_good = good_pasts(pasts, k, count);
+    let views_good = good_rows(lengths, rows, m, count);
+    let pasts_blank = blank_lists(pasts, k);
+    let lengths_blank = all_zero(lengths, m);
+    let rows_blank = blank_rows(rows, m);
+    pasts_good & views_good & pasts_blank & lengths_blank & rows_blank
 }
 
 // Whether a record and its rows are within the limits that a history sets.

@@ -45,10 +45,10 @@ cast-n : tie.Need-cast-n Inv-loop μ-loop
 cast-n c = search needs
 
 sub-put-list-line : tie.Need-sub-put-list-line Inv-loop μ-loop
-sub-put-list-line c = writing-from (c .before .before .loop .inv .4)
+sub-put-list-line c = omega (arith, writing-from (c .before .before .loop .inv .4))
 
 part-put-list-line-start : tie.Need-part-put-list-line-start Inv-loop μ-loop
-part-put-list-line-start c = writing-from (c .before .before .loop .inv .4)
+part-put-list-line-start c = let h = writing-from (c .before .before .loop .inv .4) in search needs
 
 part-put-list-line-end : tie.Need-part-put-list-line-end Inv-loop μ-loop
 part-put-list-line-end c = search needs
