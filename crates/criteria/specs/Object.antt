@@ -1,8 +1,8 @@
 -- The four kinds of object (document 01, "Objects"): what one holds at first, what an op makes of it and what it answers. What it
--- holds is a list of values, oldest first; of a stack newest first.
+-- holds is a list of values, oldest first.
 use mathlib.Core.List.{List, [], _∷_, _++_}
-use Prim.Native.Nat.{ℕ}
-use lib.ListN.{take, drop, replicate}
+use Prim.Native.Nat.{ℕ, _-_}
+use lib.ListN.{length, take, drop, replicate}
 use Rattle.history.specs.declared.record.Kind.{Kind}
 use Rattle.history.specs.declared.record.Kind.the-variants.{Register, Queue, Stack, Window}
 use Rattle.history.specs.declared.record.Op.{Op}
@@ -19,21 +19,28 @@ freshOf Window width = replicate width 0
 abbrev pub fresh : Object → List ℕ
 fresh o = freshOf (o .kind) (o .width)
 
--- `push v`: a queue takes a value behind the others, a stack in front of them. (Registers and windows have no push.)
-abbrev pub pushed : Kind → ℕ → List ℕ → List ℕ
-pushed Register v s = s
-pushed Queue v s = s ++ (v ∷ [])
-pushed Stack v s = v ∷ s
-pushed Window v s = s
+-- "The oldest in a queue, the newest in a stack": the value that pop takes, as a list of one, or none of an empty object; and
+-- what is left without it. (Registers and windows have no pop.)
+abbrev pub top : Kind → List ℕ → List ℕ
+top Register s = take 1 s
+top Queue s = take 1 s
+top Stack s = drop (length s - 1) s
+top Window s = take 1 s
+
+abbrev pub untop : Kind → List ℕ → List ℕ
+untop Register s = drop 1 s
+untop Queue s = drop 1 s
+untop Stack s = take (length s - 1) s
+untop Window s = drop 1 s
 
 -- What an op with its value makes of what the object holds. `write v`: "drops the oldest value and adds v"; of a register, which
--- holds one value, that is the new value. `pop`: "removes one value: the oldest in a queue, the newest in a stack"; "on an empty
--- object" it "changes nothing". `read` and `peek` change nothing.
+-- holds one value, that is the new value. `push v` adds v. `pop`: "removes one value"; "on an empty object" it "changes nothing".
+-- `read` and `peek` change nothing.
 abbrev pub after : Object → Op → ℕ → List ℕ → List ℕ
 after o Write v s = drop 1 s ++ (v ∷ [])
-after o Push v s = pushed (o .kind) v s
+after o Push v s = s ++ (v ∷ [])
 after o Read v s = s
-after o Pop v s = drop 1 s
+after o Pop v s = untop (o .kind) s
 after o Peek v s = s
 
 -- What an op answers. `write` and `push`: "the empty list". `read`: "the one value held", "the k values, oldest first". `pop` and
@@ -42,5 +49,5 @@ abbrev pub gives : Object → Op → List ℕ → List ℕ
 gives o Write s = []
 gives o Push s = []
 gives o Read s = s
-gives o Pop s = take 1 s
-gives o Peek s = take 1 s
+gives o Pop s = top (o .kind) s
+gives o Peek s = top (o .kind) s
