@@ -1,5 +1,5 @@
 -- Laws of the lines of a certificate as they are written, for a loop over an array, and of the whole text. Assumes nothing.
-use Prim.Native.Nat.{ℕ, zero, suc, _+_, _-_, _≤_, _<_}
+use Prim.Native.Nat.{ℕ, zero, suc, _+_, _≤_, _<_}
 use native.Mathlib.Nat.{not-suc-le-zero}
 use native.Mathlib.Numerals.{add-one}
 use native.Mathlib.Omega.{arith}
@@ -140,7 +140,7 @@ module _ (h : History) (c : Certificate) (rows : List (List ℕ)) (long : length
 
   view-lines : viewLines c rows v ≡ viewPart (viewNumbers (c .criterion) (eventsIn h)) (viewsIn (length (viewNumbers (c .criterion) (eventsIn h))) c rows)
   unfolding viewNumbersOf
-  view-lines = rw (numbers-are) (rw are refl)
+  view-lines = rw (numbers-are, are)
 
   pub text-with : hasPasts (c .criterion) ≡ true
       → certificateText (eventsIn h) c rows ≡ (criterionText (c .criterion) ++ 10 ∷ []) ++ linesText (pastPart (pastsIn (h .count) c) ++ viewLines c rows v)

@@ -4,7 +4,7 @@ use Prim.Native.Nat.{_≤_, _-_}
 use mathlib.Core.Path.{_≡_}
 use mathlib.Core.List.{[], _∷_, _++_}
 use lib.ListN.{length, getD, take}
-use Rattle.layout.proofs.FillLaws.{Writing, writing-begins, writing-from, writing-room, writing-sum, writing-part, writing-ends}
+use Rattle.layout.proofs.FillLaws.{Writing, part-room, writing-begins, writing-from, writing-sum, writing-part, writing-ends}
 use Rattle.certificate.specs.CertificateText.{listLine}
 use Rattle.certificate_writer.proofs.WriteLaws.{viewsFrom, views-at, views-end, less-at}
 use borrow.Author.Needs.{needs}
@@ -48,7 +48,7 @@ sub-put-list-line : tie.Need-sub-put-list-line Inv-loop μ-loop
 sub-put-list-line c = omega (arith, writing-from (c .before .before .loop .inv .4))
 
 part-put-list-line-start : tie.Need-part-put-list-line-start Inv-loop μ-loop
-part-put-list-line-start c = let h = writing-from (c .before .before .loop .inv .4) in search needs
+part-put-list-line-start c = omega (arith, writing-from (c .before .before .loop .inv .4))
 
 part-put-list-line-end : tie.Need-part-put-list-line-end Inv-loop μ-loop
 part-put-list-line-end c = search needs
@@ -58,9 +58,11 @@ put-list-line-requires c κs =
     let l = c .before .before .before .loop in
     let s = c .before .before .before .before .before .before in
     let a = s .args in
-    let v = listLine (getD (a .t2) (l .i) 0) (take (getD (a .t3) (l .i) 0) (getD (a .rows .now) (l .i) [])) ++ 10 ∷ [] in (
+    let v = listLine (getD (a .t2) (l .i) 0) (take (getD (a .t3) (l .i) 0) (getD (a .rows .now) (l .i) [])) ++ 10 ∷ [] in
+    let sum =
+    writing-sum (l .inv .4) v _ (views-at (a .t2) (a .t3) (a .rows .now) (a .m) (l .i) (l .inv .1) (l .inv .2) (l .inv .3) 0 0 [] (search needs)) in (
       omega (arith, less-at 65 (a .t3) (a .m) (l .i) 0 (l .inv .2) (search needs) (s .pre .1)),
-      writing-room (l .inv .4) v _ (views-at (a .t2) (a .t3) (a .rows .now) (a .m) (l .i) (l .inv .1) (l .inv .2) (l .inv .3) 0 0 [] (search needs)),
+      part-room _ v (l .part) (omega (arith, l .inv .4 .long, sum)),
     )
 
 add-at : tie.Need-add-at Inv-loop μ-loop

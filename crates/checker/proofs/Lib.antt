@@ -1,0 +1,4 @@
+pub mod TextTheorems
+pub mod WeakenTheorems
+pub mod ByteLaws
+pub mod Samples

@@ -1,0 +1,133 @@
+-- Document 01's (p) cases on the texts, one list, by computation. Assumes nothing.
+use Prim.Native.Nat.{ℕ}
+use mathlib.Core.Path.{_≡_, refl}
+use mathlib.Core.List.{List, [], _∷_}
+use mathlib.Core.Option.{Option, none, some}
+use Rattle.certificate.specs.declared.record.Criterion.{Criterion}
+use Rattle.certificate.specs.declared.record.Criterion.the-variants.{Pram, Weak, Causal, Converge, Sequential}
+use Rattle.certificate_reader.specs.declared.read.Text.the-variants.{Neither}
+use Rattle.criteria.specs.History.{own}
+use Rattle.criteria.specs.Replay.{start, Replays}
+use Rattle.criteria.proofs.Replay.{none-wrong}
+use Rattle.checker.specs.CheckText.{Verdict, historyRead, checkText}
+use Rattle.layout.specs.Split as layout-split
+use Rattle.layout.specs.Word as layout-word
+use Rattle.layout.specs.Number as layout-number
+use Rattle.layout.specs.List as layout-list
+use Rattle.history.specs.Record as history-record
+use Rattle.history.specs.Kinds as history-kinds
+use Rattle.history.specs.Faults as history-faults
+use Rattle.history_reader.specs.ReadHistory as history-reader-readhistory
+use Rattle.certificate.specs.Record as certificate-record
+use Rattle.certificate.specs.Criteria as certificate-criteria
+use Rattle.certificate.specs.Faults as certificate-faults
+use Rattle.certificate_reader.specs.ReadCertificate as certificate-reader-readcertificate
+use Rattle.criteria.specs.History as criteria-history
+use Rattle.criteria.specs.Certificate as criteria-certificate
+use Rattle.criteria.specs.Check as criteria-check
+use Rattle.criteria.specs.Records as criteria-records
+use Rattle.checker.specs.CheckText as checker-checktext
+
+-- The answer's number, view and event, with no text, line or part.
+abbrev pub answer : Criterion → ℕ → Option ℕ → Option ℕ → Verdict
+answer c n v e = record { number = n; criterion = some c; text = Neither; line = none; start = 0; end = 0; view = v; event = e }
+
+-- ---- the histories
+-- A queue; process 0 pushes 7, process 1 pops 7.
+abbrev pub Q : List ℕ
+Q = 111 ∷ 98 ∷ 106 ∷ 101 ∷ 99 ∷ 116 ∷ 32 ∷ 107 ∷ 105 ∷ 110 ∷ 100 ∷ 32 ∷ 119 ∷ 105 ∷ 100 ∷ 116 ∷ 104 ∷ 10 ∷ 48 ∷ 32 ∷ 113 ∷ 117 ∷ 101 ∷ 117 ∷ 101 ∷ 32 ∷ 45 ∷ 10 ∷ 101 ∷ 118 ∷ 101 ∷ 110 ∷ 116 ∷ 32 ∷ 112 ∷ 114 ∷ 111 ∷ 99 ∷ 101 ∷ 115 ∷ 115 ∷ 32 ∷ 111 ∷ 98 ∷ 106 ∷ 101 ∷ 99 ∷ 116 ∷ 32 ∷ 111 ∷ 112 ∷ 32 ∷ 118 ∷ 97 ∷ 108 ∷ 117 ∷ 101 ∷ 32 ∷ 97 ∷ 110 ∷ 115 ∷ 119 ∷ 101 ∷ 114 ∷ 10 ∷ 48 ∷ 32 ∷ 48 ∷ 32 ∷ 48 ∷ 32 ∷ 112 ∷ 117 ∷ 115 ∷ 104 ∷ 32 ∷ 55 ∷ 32 ∷ 45 ∷ 10 ∷ 49 ∷ 32 ∷ 49 ∷ 32 ∷ 48 ∷ 32 ∷ 112 ∷ 111 ∷ 112 ∷ 32 ∷ 45 ∷ 32 ∷ 55 ∷ 10 ∷ []
+
+-- A window of 2; process 0 writes 4 and reads 9,4, process 1 writes 9 and reads 4,9.
+abbrev pub W : List ℕ
+W = 111 ∷ 98 ∷ 106 ∷ 101 ∷ 99 ∷ 116 ∷ 32 ∷ 107 ∷ 105 ∷ 110 ∷ 100 ∷ 32 ∷ 119 ∷ 105 ∷ 100 ∷ 116 ∷ 104 ∷ 10 ∷ 48 ∷ 32 ∷ 119 ∷ 105 ∷ 110 ∷ 100 ∷ 111 ∷ 119 ∷ 32 ∷ 50 ∷ 10 ∷ 101 ∷ 118 ∷ 101 ∷ 110 ∷ 116 ∷ 32 ∷ 112 ∷ 114 ∷ 111 ∷ 99 ∷ 101 ∷ 115 ∷ 115 ∷ 32 ∷ 111 ∷ 98 ∷ 106 ∷ 101 ∷ 99 ∷ 116 ∷ 32 ∷ 111 ∷ 112 ∷ 32 ∷ 118 ∷ 97 ∷ 108 ∷ 117 ∷ 101 ∷ 32 ∷ 97 ∷ 110 ∷ 115 ∷ 119 ∷ 101 ∷ 114 ∷ 10 ∷ 48 ∷ 32 ∷ 48 ∷ 32 ∷ 48 ∷ 32 ∷ 119 ∷ 114 ∷ 105 ∷ 116 ∷ 101 ∷ 32 ∷ 52 ∷ 32 ∷ 45 ∷ 10 ∷ 49 ∷ 32 ∷ 48 ∷ 32 ∷ 48 ∷ 32 ∷ 114 ∷ 101 ∷ 97 ∷ 100 ∷ 32 ∷ 45 ∷ 32 ∷ 57 ∷ 44 ∷ 52 ∷ 10 ∷ 50 ∷ 32 ∷ 49 ∷ 32 ∷ 48 ∷ 32 ∷ 119 ∷ 114 ∷ 105 ∷ 116 ∷ 101 ∷ 32 ∷ 57 ∷ 32 ∷ 45 ∷ 10 ∷ 51 ∷ 32 ∷ 49 ∷ 32 ∷ 48 ∷ 32 ∷ 114 ∷ 101 ∷ 97 ∷ 100 ∷ 32 ∷ 45 ∷ 32 ∷ 52 ∷ 44 ∷ 57 ∷ 10 ∷ []
+
+-- A window of 2; process 0 writes 4, process 1 writes 9 and reads 0,9 and 4,9.
+abbrev pub C : List ℕ
+C = 111 ∷ 98 ∷ 106 ∷ 101 ∷ 99 ∷ 116 ∷ 32 ∷ 107 ∷ 105 ∷ 110 ∷ 100 ∷ 32 ∷ 119 ∷ 105 ∷ 100 ∷ 116 ∷ 104 ∷ 10 ∷ 48 ∷ 32 ∷ 119 ∷ 105 ∷ 110 ∷ 100 ∷ 111 ∷ 119 ∷ 32 ∷ 50 ∷ 10 ∷ 101 ∷ 118 ∷ 101 ∷ 110 ∷ 116 ∷ 32 ∷ 112 ∷ 114 ∷ 111 ∷ 99 ∷ 101 ∷ 115 ∷ 115 ∷ 32 ∷ 111 ∷ 98 ∷ 106 ∷ 101 ∷ 99 ∷ 116 ∷ 32 ∷ 111 ∷ 112 ∷ 32 ∷ 118 ∷ 97 ∷ 108 ∷ 117 ∷ 101 ∷ 32 ∷ 97 ∷ 110 ∷ 115 ∷ 119 ∷ 101 ∷ 114 ∷ 10 ∷ 48 ∷ 32 ∷ 48 ∷ 32 ∷ 48 ∷ 32 ∷ 119 ∷ 114 ∷ 105 ∷ 116 ∷ 101 ∷ 32 ∷ 52 ∷ 32 ∷ 45 ∷ 10 ∷ 49 ∷ 32 ∷ 49 ∷ 32 ∷ 48 ∷ 32 ∷ 119 ∷ 114 ∷ 105 ∷ 116 ∷ 101 ∷ 32 ∷ 57 ∷ 32 ∷ 45 ∷ 10 ∷ 50 ∷ 32 ∷ 49 ∷ 32 ∷ 48 ∷ 32 ∷ 114 ∷ 101 ∷ 97 ∷ 100 ∷ 32 ∷ 45 ∷ 32 ∷ 48 ∷ 44 ∷ 57 ∷ 10 ∷ 51 ∷ 32 ∷ 49 ∷ 32 ∷ 48 ∷ 32 ∷ 114 ∷ 101 ∷ 97 ∷ 100 ∷ 32 ∷ 45 ∷ 32 ∷ 52 ∷ 44 ∷ 57 ∷ 10 ∷ []
+
+-- A register; processes 0 and 1 write 3 and 8, process 2 reads 3, 8, 3.
+abbrev pub R : List ℕ
+R = 111 ∷ 98 ∷ 106 ∷ 101 ∷ 99 ∷ 116 ∷ 32 ∷ 107 ∷ 105 ∷ 110 ∷ 100 ∷ 32 ∷ 119 ∷ 105 ∷ 100 ∷ 116 ∷ 104 ∷ 10 ∷ 48 ∷ 32 ∷ 114 ∷ 101 ∷ 103 ∷ 105 ∷ 115 ∷ 116 ∷ 101 ∷ 114 ∷ 32 ∷ 45 ∷ 10 ∷ 101 ∷ 118 ∷ 101 ∷ 110 ∷ 116 ∷ 32 ∷ 112 ∷ 114 ∷ 111 ∷ 99 ∷ 101 ∷ 115 ∷ 115 ∷ 32 ∷ 111 ∷ 98 ∷ 106 ∷ 101 ∷ 99 ∷ 116 ∷ 32 ∷ 111 ∷ 112 ∷ 32 ∷ 118 ∷ 97 ∷ 108 ∷ 117 ∷ 101 ∷ 32 ∷ 97 ∷ 110 ∷ 115 ∷ 119 ∷ 101 ∷ 114 ∷ 10 ∷ 48 ∷ 32 ∷ 48 ∷ 32 ∷ 48 ∷ 32 ∷ 119 ∷ 114 ∷ 105 ∷ 116 ∷ 101 ∷ 32 ∷ 51 ∷ 32 ∷ 45 ∷ 10 ∷ 49 ∷ 32 ∷ 49 ∷ 32 ∷ 48 ∷ 32 ∷ 119 ∷ 114 ∷ 105 ∷ 116 ∷ 101 ∷ 32 ∷ 56 ∷ 32 ∷ 45 ∷ 10 ∷ 50 ∷ 32 ∷ 50 ∷ 32 ∷ 48 ∷ 32 ∷ 114 ∷ 101 ∷ 97 ∷ 100 ∷ 32 ∷ 45 ∷ 32 ∷ 51 ∷ 10 ∷ 51 ∷ 32 ∷ 50 ∷ 32 ∷ 48 ∷ 32 ∷ 114 ∷ 101 ∷ 97 ∷ 100 ∷ 32 ∷ 45 ∷ 32 ∷ 56 ∷ 10 ∷ 52 ∷ 32 ∷ 50 ∷ 32 ∷ 48 ∷ 32 ∷ 114 ∷ 101 ∷ 97 ∷ 100 ∷ 32 ∷ 45 ∷ 32 ∷ 51 ∷ 10 ∷ []
+
+-- Two registers.
+abbrev pub M : List ℕ
+M = 111 ∷ 98 ∷ 106 ∷ 101 ∷ 99 ∷ 116 ∷ 32 ∷ 107 ∷ 105 ∷ 110 ∷ 100 ∷ 32 ∷ 119 ∷ 105 ∷ 100 ∷ 116 ∷ 104 ∷ 10 ∷ 48 ∷ 32 ∷ 114 ∷ 101 ∷ 103 ∷ 105 ∷ 115 ∷ 116 ∷ 101 ∷ 114 ∷ 32 ∷ 45 ∷ 10 ∷ 49 ∷ 32 ∷ 114 ∷ 101 ∷ 103 ∷ 105 ∷ 115 ∷ 116 ∷ 101 ∷ 114 ∷ 32 ∷ 45 ∷ 10 ∷ 101 ∷ 118 ∷ 101 ∷ 110 ∷ 116 ∷ 32 ∷ 112 ∷ 114 ∷ 111 ∷ 99 ∷ 101 ∷ 115 ∷ 115 ∷ 32 ∷ 111 ∷ 98 ∷ 106 ∷ 101 ∷ 99 ∷ 116 ∷ 32 ∷ 111 ∷ 112 ∷ 32 ∷ 118 ∷ 97 ∷ 108 ∷ 117 ∷ 101 ∷ 32 ∷ 97 ∷ 110 ∷ 115 ∷ 119 ∷ 101 ∷ 114 ∷ 10 ∷ 48 ∷ 32 ∷ 48 ∷ 32 ∷ 48 ∷ 32 ∷ 119 ∷ 114 ∷ 105 ∷ 116 ∷ 101 ∷ 32 ∷ 53 ∷ 32 ∷ 45 ∷ 10 ∷ 49 ∷ 32 ∷ 49 ∷ 32 ∷ 48 ∷ 32 ∷ 114 ∷ 101 ∷ 97 ∷ 100 ∷ 32 ∷ 45 ∷ 32 ∷ 53 ∷ 10 ∷ 50 ∷ 32 ∷ 49 ∷ 32 ∷ 49 ∷ 32 ∷ 119 ∷ 114 ∷ 105 ∷ 116 ∷ 101 ∷ 32 ∷ 54 ∷ 32 ∷ 45 ∷ 10 ∷ 51 ∷ 32 ∷ 50 ∷ 32 ∷ 49 ∷ 32 ∷ 114 ∷ 101 ∷ 97 ∷ 100 ∷ 32 ∷ 45 ∷ 32 ∷ 54 ∷ 10 ∷ 52 ∷ 32 ∷ 50 ∷ 32 ∷ 48 ∷ 32 ∷ 114 ∷ 101 ∷ 97 ∷ 100 ∷ 32 ∷ 45 ∷ 32 ∷ 48 ∷ 10 ∷ []
+
+-- No objects and no events.
+abbrev pub Nothing : List ℕ
+Nothing = 111 ∷ 98 ∷ 106 ∷ 101 ∷ 99 ∷ 116 ∷ 32 ∷ 107 ∷ 105 ∷ 110 ∷ 100 ∷ 32 ∷ 119 ∷ 105 ∷ 100 ∷ 116 ∷ 104 ∷ 10 ∷ 101 ∷ 118 ∷ 101 ∷ 110 ∷ 116 ∷ 32 ∷ 112 ∷ 114 ∷ 111 ∷ 99 ∷ 101 ∷ 115 ∷ 115 ∷ 32 ∷ 111 ∷ 98 ∷ 106 ∷ 101 ∷ 99 ∷ 116 ∷ 32 ∷ 111 ∷ 112 ∷ 32 ∷ 118 ∷ 97 ∷ 108 ∷ 117 ∷ 101 ∷ 32 ∷ 97 ∷ 110 ∷ 115 ∷ 119 ∷ 101 ∷ 114 ∷ 10 ∷ []
+
+-- ---- the certificates
+-- Of Q: `criterion sequential`, `view order`, `0 0,1`.
+abbrev pub q-sequential-text : List ℕ
+q-sequential-text = 99 ∷ 114 ∷ 105 ∷ 116 ∷ 101 ∷ 114 ∷ 105 ∷ 111 ∷ 110 ∷ 32 ∷ 115 ∷ 101 ∷ 113 ∷ 117 ∷ 101 ∷ 110 ∷ 116 ∷ 105 ∷ 97 ∷ 108 ∷ 10 ∷ 118 ∷ 105 ∷ 101 ∷ 119 ∷ 32 ∷ 111 ∷ 114 ∷ 100 ∷ 101 ∷ 114 ∷ 10 ∷ 48 ∷ 32 ∷ 48 ∷ 44 ∷ 49 ∷ 10 ∷ []
+
+-- Of Q: `criterion sequential`, `view order`, `0 1,0`.
+abbrev pub q-turned-text : List ℕ
+q-turned-text = 99 ∷ 114 ∷ 105 ∷ 116 ∷ 101 ∷ 114 ∷ 105 ∷ 111 ∷ 110 ∷ 32 ∷ 115 ∷ 101 ∷ 113 ∷ 117 ∷ 101 ∷ 110 ∷ 116 ∷ 105 ∷ 97 ∷ 108 ∷ 10 ∷ 118 ∷ 105 ∷ 101 ∷ 119 ∷ 32 ∷ 111 ∷ 114 ∷ 100 ∷ 101 ∷ 114 ∷ 10 ∷ 48 ∷ 32 ∷ 49 ∷ 44 ∷ 48 ∷ 10 ∷ []
+
+-- Of Q: `criterion sequential`, `view order`, `0 0`.
+abbrev pub q-short-text : List ℕ
+q-short-text = 99 ∷ 114 ∷ 105 ∷ 116 ∷ 101 ∷ 114 ∷ 105 ∷ 111 ∷ 110 ∷ 32 ∷ 115 ∷ 101 ∷ 113 ∷ 117 ∷ 101 ∷ 110 ∷ 116 ∷ 105 ∷ 97 ∷ 108 ∷ 10 ∷ 118 ∷ 105 ∷ 101 ∷ 119 ∷ 32 ∷ 111 ∷ 114 ∷ 100 ∷ 101 ∷ 114 ∷ 10 ∷ 48 ∷ 32 ∷ 48 ∷ 10 ∷ []
+
+-- Of Q: `criterion pram`, `view order`, `0 0,1`, `1 0,1`.
+abbrev pub q-pram-text : List ℕ
+q-pram-text = 99 ∷ 114 ∷ 105 ∷ 116 ∷ 101 ∷ 114 ∷ 105 ∷ 111 ∷ 110 ∷ 32 ∷ 112 ∷ 114 ∷ 97 ∷ 109 ∷ 10 ∷ 118 ∷ 105 ∷ 101 ∷ 119 ∷ 32 ∷ 111 ∷ 114 ∷ 100 ∷ 101 ∷ 114 ∷ 10 ∷ 48 ∷ 32 ∷ 48 ∷ 44 ∷ 49 ∷ 10 ∷ 49 ∷ 32 ∷ 48 ∷ 44 ∷ 49 ∷ 10 ∷ []
+
+-- Of W: `criterion causal`, `event past`, `0 -`, `1 0,2`, `2 -`, `3 0,2`, `view order`, `0 0`, `1 2,0,1`, `2 2`, `3 0,2,3`.
+abbrev pub w-causal-text : List ℕ
+w-causal-text = 99 ∷ 114 ∷ 105 ∷ 116 ∷ 101 ∷ 114 ∷ 105 ∷ 111 ∷ 110 ∷ 32 ∷ 99 ∷ 97 ∷ 117 ∷ 115 ∷ 97 ∷ 108 ∷ 10 ∷ 101 ∷ 118 ∷ 101 ∷ 110 ∷ 116 ∷ 32 ∷ 112 ∷ 97 ∷ 115 ∷ 116 ∷ 10 ∷ 48 ∷ 32 ∷ 45 ∷ 10 ∷ 49 ∷ 32 ∷ 48 ∷ 44 ∷ 50 ∷ 10 ∷ 50 ∷ 32 ∷ 45 ∷ 10 ∷ 51 ∷ 32 ∷ 48 ∷ 44 ∷ 50 ∷ 10 ∷ 118 ∷ 105 ∷ 101 ∷ 119 ∷ 32 ∷ 111 ∷ 114 ∷ 100 ∷ 101 ∷ 114 ∷ 10 ∷ 48 ∷ 32 ∷ 48 ∷ 10 ∷ 49 ∷ 32 ∷ 50 ∷ 44 ∷ 48 ∷ 44 ∷ 49 ∷ 10 ∷ 50 ∷ 32 ∷ 50 ∷ 10 ∷ 51 ∷ 32 ∷ 48 ∷ 44 ∷ 50 ∷ 44 ∷ 51 ∷ 10 ∷ []
+
+-- Of W: `criterion causal`, `event past`, `0 -`, `1 2`, `2 -`, `3 0,2`, `view order`, `0 0`, `1 2,0,1`, `2 2`, `3 0,2,3`.
+abbrev pub w-past-text : List ℕ
+w-past-text = 99 ∷ 114 ∷ 105 ∷ 116 ∷ 101 ∷ 114 ∷ 105 ∷ 111 ∷ 110 ∷ 32 ∷ 99 ∷ 97 ∷ 117 ∷ 115 ∷ 97 ∷ 108 ∷ 10 ∷ 101 ∷ 118 ∷ 101 ∷ 110 ∷ 116 ∷ 32 ∷ 112 ∷ 97 ∷ 115 ∷ 116 ∷ 10 ∷ 48 ∷ 32 ∷ 45 ∷ 10 ∷ 49 ∷ 32 ∷ 50 ∷ 10 ∷ 50 ∷ 32 ∷ 45 ∷ 10 ∷ 51 ∷ 32 ∷ 48 ∷ 44 ∷ 50 ∷ 10 ∷ 118 ∷ 105 ∷ 101 ∷ 119 ∷ 32 ∷ 111 ∷ 114 ∷ 100 ∷ 101 ∷ 114 ∷ 10 ∷ 48 ∷ 32 ∷ 48 ∷ 10 ∷ 49 ∷ 32 ∷ 50 ∷ 44 ∷ 48 ∷ 44 ∷ 49 ∷ 10 ∷ 50 ∷ 32 ∷ 50 ∷ 10 ∷ 51 ∷ 32 ∷ 48 ∷ 44 ∷ 50 ∷ 44 ∷ 51 ∷ 10 ∷ []
+
+-- Of C: `criterion converge`, `event past`, `0 -`, `1 -`, `2 1`, `3 0,1,2`, `view order`, `0 0,1,2,3`.
+abbrev pub c-converge-text : List ℕ
+c-converge-text = 99 ∷ 114 ∷ 105 ∷ 116 ∷ 101 ∷ 114 ∷ 105 ∷ 111 ∷ 110 ∷ 32 ∷ 99 ∷ 111 ∷ 110 ∷ 118 ∷ 101 ∷ 114 ∷ 103 ∷ 101 ∷ 10 ∷ 101 ∷ 118 ∷ 101 ∷ 110 ∷ 116 ∷ 32 ∷ 112 ∷ 97 ∷ 115 ∷ 116 ∷ 10 ∷ 48 ∷ 32 ∷ 45 ∷ 10 ∷ 49 ∷ 32 ∷ 45 ∷ 10 ∷ 50 ∷ 32 ∷ 49 ∷ 10 ∷ 51 ∷ 32 ∷ 48 ∷ 44 ∷ 49 ∷ 44 ∷ 50 ∷ 10 ∷ 118 ∷ 105 ∷ 101 ∷ 119 ∷ 32 ∷ 111 ∷ 114 ∷ 100 ∷ 101 ∷ 114 ∷ 10 ∷ 48 ∷ 32 ∷ 48 ∷ 44 ∷ 49 ∷ 44 ∷ 50 ∷ 44 ∷ 51 ∷ 10 ∷ []
+
+-- Of R: `criterion weak`, `event past`, `0 -`, `1 -`, `2 -`, `3 0,1,2,3`, `4 0,1,2,3`, `view order`, `0 0`, `1 1`, `2 0,2`, `3 0,1,3`, `4 1,0,4`.
+abbrev pub r-inside-text : List ℕ
+r-inside-text = 99 ∷ 114 ∷ 105 ∷ 116 ∷ 101 ∷ 114 ∷ 105 ∷ 111 ∷ 110 ∷ 32 ∷ 119 ∷ 101 ∷ 97 ∷ 107 ∷ 10 ∷ 101 ∷ 118 ∷ 101 ∷ 110 ∷ 116 ∷ 32 ∷ 112 ∷ 97 ∷ 115 ∷ 116 ∷ 10 ∷ 48 ∷ 32 ∷ 45 ∷ 10 ∷ 49 ∷ 32 ∷ 45 ∷ 10 ∷ 50 ∷ 32 ∷ 45 ∷ 10 ∷ 51 ∷ 32 ∷ 48 ∷ 44 ∷ 49 ∷ 44 ∷ 50 ∷ 44 ∷ 51 ∷ 10 ∷ 52 ∷ 32 ∷ 48 ∷ 44 ∷ 49 ∷ 44 ∷ 50 ∷ 44 ∷ 51 ∷ 10 ∷ 118 ∷ 105 ∷ 101 ∷ 119 ∷ 32 ∷ 111 ∷ 114 ∷ 100 ∷ 101 ∷ 114 ∷ 10 ∷ 48 ∷ 32 ∷ 48 ∷ 10 ∷ 49 ∷ 32 ∷ 49 ∷ 10 ∷ 50 ∷ 32 ∷ 48 ∷ 44 ∷ 50 ∷ 10 ∷ 51 ∷ 32 ∷ 48 ∷ 44 ∷ 49 ∷ 44 ∷ 51 ∷ 10 ∷ 52 ∷ 32 ∷ 49 ∷ 44 ∷ 48 ∷ 44 ∷ 52 ∷ 10 ∷ []
+
+-- Of Nothing: `criterion sequential`, `view order`, `0 -`.
+abbrev pub nothing-sequential-text : List ℕ
+nothing-sequential-text = 99 ∷ 114 ∷ 105 ∷ 116 ∷ 101 ∷ 114 ∷ 105 ∷ 111 ∷ 110 ∷ 32 ∷ 115 ∷ 101 ∷ 113 ∷ 117 ∷ 101 ∷ 110 ∷ 116 ∷ 105 ∷ 97 ∷ 108 ∷ 10 ∷ 118 ∷ 105 ∷ 101 ∷ 119 ∷ 32 ∷ 111 ∷ 114 ∷ 100 ∷ 101 ∷ 114 ∷ 10 ∷ 48 ∷ 32 ∷ 45 ∷ 10 ∷ []
+
+pub record Samples : Type 0 where
+  -- "(p) sequential view 0,1 accepted."
+  pub q-sequential : checkText Q q-sequential-text ≡ answer Sequential 0 none none
+  -- "(p) view 1,0: 16, view 0, event 1."
+  pub q-turned : checkText Q q-turned-text ≡ answer Sequential 16 (some 0) (some 1)
+  -- "(p) view 0 as 0 only: 14, view 0."
+  pub q-short : checkText Q q-short-text ≡ answer Sequential 14 (some 0) none
+  -- "(p) pram, view 0 as 0,1 and view 1 as 0,1 accepted."
+  pub q-pram : checkText Q q-pram-text ≡ answer Pram 0 none none
+  -- "(p) causal accepted with pasts -; 0,2; -; 0,2 and views 0; 2,0,1; 2; 0,2,3."
+  pub w-causal : checkText W w-causal-text ≡ answer Causal 0 none none
+  -- "(p) past of 1 as 2 only: 11, event 1."
+  pub w-past : checkText W w-past-text ≡ answer Causal 11 none (some 1)
+  -- "(p) converge accepted with pasts -; -; 1; 0,1,2 and view 0,1,2,3."
+  pub c-converge : checkText C c-converge-text ≡ answer Converge 0 none none
+  -- "(p) weak with pasts -; -; -; 0,1,2,3; 0,1,2,3 and any views that read: 12, event 3."
+  pub r-inside : checkText R r-inside-text ≡ answer Weak 12 none (some 3)
+  -- "(p) empty history, sequential view `0 -` accepted"
+  pub nothing-sequential : checkText Nothing nothing-sequential-text ≡ answer Sequential 0 none none
+  -- "(p) p2's view 1,2,3,4,0 replays."
+  pub m-replays : Replays (historyRead M) (own (historyRead M) 2) (start (historyRead M)) (1 ∷ 2 ∷ 3 ∷ 4 ∷ 0 ∷ [])
+
+pub samples : Samples
+unfolding layout-split.find layout-split.onFirst layout-split.split layout-split.join layout-split.partStart layout-word.same layout-number.isDigit layout-number.allDigits layout-number.startsWell layout-number.isNumber layout-number.valueFrom layout-number.below layout-number.numberOf layout-number.spellWithin layout-number.spellBefore layout-list.itemsOf layout-list.allNumbers layout-list.allBelow layout-list.judged layout-list.listOf layout-list.numbersOf layout-list.leading layout-list.listText history-record.pad history-record.answerOf history-record.historyOf history-kinds.kindWord history-kinds.opWord history-kinds.isKind history-kinds.kindOf history-kinds.isOp history-kinds.opOf history-faults.firstFault history-faults.isOptional history-faults.optional history-faults.objectLayout history-faults.objectLimits history-faults.objectFits history-faults.objectFault history-faults.objectThree history-faults.objectFields history-faults.objectLine history-faults.eventLayout history-faults.eventLimits history-faults.eventFits history-faults.eventLong history-faults.eventFault history-faults.eventSaid history-faults.eventSix history-faults.eventFields history-faults.eventLine history-reader-readhistory.eventsFrom history-reader-readhistory.objectsFrom history-reader-readhistory.linesFrom history-reader-readhistory.readHistory history-reader-readhistory.faultyLine certificate-record.eventListOf certificate-record.rowOf certificate-record.certificateOf certificate-record.rowsOf certificate-record.beginnings certificate-criteria.wordOf certificate-criteria.isCriterion certificate-criteria.criterionOf certificate-criteria.countFrom certificate-criteria.hasEvents certificate-criteria.processesFrom certificate-criteria.viewNumbers certificate-faults.rising certificate-faults.criterionLine certificate-faults.listLayout certificate-faults.listLimits certificate-faults.pairFault certificate-faults.listFault certificate-faults.listSaid certificate-reader-readcertificate.endFrom certificate-reader-readcertificate.headingFrom certificate-reader-readcertificate.listsFrom certificate-reader-readcertificate.viewsFrom certificate-reader-readcertificate.pastsFrom certificate-reader-readcertificate.bodyFrom certificate-reader-readcertificate.linesFrom certificate-reader-readcertificate.readLines certificate-reader-readcertificate.readCertificate certificate-reader-readcertificate.rowsRead certificate-reader-readcertificate.faultyLine criteria-history.programOrder criteria-certificate.processes criteria-check.lacksOwn criteria-check.lacksPast criteria-check.notItsSet criteria-check.against criteria-check.right criteria-check.check criteria-records.eventOf criteria-records.historyOf criteria-records.certificateOf checker-checktext.historyRead checker-checktext.certificateRead checker-checktext.checkText
+samples =
+    record {
+      q-sequential = refl;
+      q-turned = refl;
+      q-short = refl;
+      q-pram = refl;
+      w-causal = refl;
+      w-past = refl;
+      c-converge = refl;
+      r-inside = refl;
+      nothing-sequential = refl;
+      m-replays = none-wrong (historyRead M) (own (historyRead M) 2) (start (historyRead M)) (1 ∷ 2 ∷ 3 ∷ 4 ∷ 0 ∷ []) refl;
+    }

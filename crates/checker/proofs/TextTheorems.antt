@@ -1,0 +1,205 @@
+-- The theorems of the check on texts: what acceptance means; no history is accepted under a criterion that it breaks; and one that
+-- meets a criterion has an accepted certificate text. Assumes nothing.
+use Prim.Native.Nat.{ℕ, zero, suc, _≤_, _<_}
+use native.Mathlib.Omega.{arith}
+use mathlib.Core.Path.{_≡_, refl, sym, ap, ap₂, _∙_, subst}
+use mathlib.Core.Bool.{Bool, true, false, cond, not, _&&_, _||_, false≢true}
+use mathlib.Core.List.{List, [], _∷_}
+use mathlib.Core.Option.{Option, none, some}
+use lib.ListN.{length, getD, replicate}
+use lib.Dec.{eqb, leb, ltb}
+use borrow.Author.Tests.{eq-eqb, ne-eqb, le-leb, lt-ltb}
+use Rattle.layout.proofs.Cases.{by-eq}
+use Rattle.history.specs.Record.{eventsIn}
+use Rattle.history.specs.Readable.{allLess}
+use Rattle.history_reader.specs.ReadHistory.{readHistory}
+use Rattle.history_theorems.proofs.Guarantees as history-guarantees
+use Rattle.certificate.specs.declared.record.Criterion.{Criterion}
+use Rattle.certificate.specs.Record.{noRow, pastsIn, viewsIn}
+use Rattle.certificate.specs.Record as text-record
+use Rattle.certificate.specs.Criteria as text
+use Rattle.certificate.specs.Faults.{rising}
+use Rattle.certificate.specs.CertificateText.{certificateText}
+use Rattle.certificate.specs.Readable.{goodLists, fits}
+use Rattle.certificate.proofs.FitsLaws.{facts-fit, pasts-in, views-in}
+use Rattle.certificate_reader.specs.declared.read.Text.the-variants.{Neither}
+use Rattle.certificate_reader.specs.declared.read.CertificateRead.{CertificateRead}
+use Rattle.certificate_reader.specs.ReadCertificate.{readCertificate, rowsRead}
+use Rattle.certificate_theorems.proofs.Theorems.{eventsOf, few-events, no-fault-history, written-read, written-rows}
+use Rattle.certificate_theorems.proofs.Guarantees as certificate-guarantees
+use Rattle.criteria.specs.Tests.{mem, RisingFrom, Rising}
+use Rattle.criteria.specs.History.{History, size}
+use Rattle.criteria.specs.Criteria.{Meets}
+use Rattle.criteria.specs.Certificate.{Certificate, pastCount, viewCount, EventsOf, Readable}
+use Rattle.criteria.specs.Check.{Fault, fault11, fault12, fault13, fault14, fault15, fault16, answerOf, check}
+use Rattle.criteria.specs.Records.{historyOf, certificateOf}
+use Rattle.criteria.proofs.Lists.{true-or-left, true-or-right}
+use Rattle.criteria.proofs.Meeting.{sound, complete}
+use Rattle.criteria.proofs.RecordLaws.{size-is, past-count, view-count, few-processes, readable}
+use Rattle.checker.specs.CheckText.{Verdict, refused, checked, historyRead, rowsOf, certificateRead, checkText, Accepted, Names}
+
+-- ---- 0 is acceptance, and only then
+none-of : (x : Option Fault) → answerOf x .number ≡ 0 → x ≡ none
+none-of none e = refl
+none-of (some (fault11 e)) n = absurd (omega arith)
+none-of (some (fault12 e)) n = absurd (omega arith)
+none-of (some (fault13 e)) n = absurd (omega arith)
+none-of (some (fault14 e)) n = absurd (omega arith)
+none-of (some (fault15 e)) n = absurd (omega arith)
+none-of (some (fault16 v e)) n = absurd (omega arith)
+
+module _ (history text : List ℕ) where
+  -- both texts are read
+  checked-as : readCertificate history text .fault ≡ 0
+      → checkText history text ≡ checked (certificateRead history text .criterion) (answerOf (check (historyRead history) (certificateRead history text)))
+  unfolding checkText
+  checked-as z = rw (eq-eqb (readCertificate history text .fault) 0 z)
+
+  refused-as : (readCertificate history text .fault ≡ 0 → ⊥) → checkText history text ≡ refused (readCertificate history text)
+  unfolding checkText
+  refused-as n = rw (ne-eqb (readCertificate history text .fault) 0 n)
+
+  -- a certificate text is accepted exactly when both texts are readable and the check of their lists finds nothing
+  pub accepted-read : Accepted history text → readCertificate history text .fault ≡ 0
+  unfolding Accepted
+  accepted-read a =
+      by-eq (readCertificate history text .fault) 0 (λ z. z) (λ n. sym (ap (λ (v : Verdict). v .number) (refused-as n)) ∙ a)
+
+  pub accepted-passes : Accepted history text → check (historyRead history) (certificateRead history text) ≡ none
+  unfolding Accepted
+  accepted-passes a =
+      none-of (check (historyRead history) (certificateRead history text))
+      (sym (ap (λ (v : Verdict). v .number) (checked-as (accepted-read a))) ∙ a)
+
+  pub passes-accepted : readCertificate history text .fault ≡ 0 → check (historyRead history) (certificateRead history text) ≡ none
+      → Accepted history text
+  unfolding Accepted
+  passes-accepted z e = ap (λ (v : Verdict). v .number) (checked-as z) ∙ ap (λ (x : Option Fault). answerOf x .number) e
+
+  pub accepted-names : Accepted history text → Names history text (certificateRead history text .criterion)
+  unfolding Names
+  accepted-names a = ap (λ (v : Verdict). v .criterion) (checked-as (accepted-read a))
+
+  -- what reading guarantees of the lists
+  pub lists-readable : readCertificate history text .fault ≡ 0 → Readable (historyRead history) (certificateRead history text)
+  unfolding historyRead certificateRead
+  lists-readable z =
+      readable (readHistory history .history) (readCertificate history text .certificate) (rowsOf history text)
+      (certificate-guarantees.read-sound history text (replicate 64 noRow) z)
+
+  -- whatever certificate text somebody writes, no history is accepted under a criterion that it breaks
+  pub accepted-meets : Accepted history text → Meets (certificateRead history text .criterion) (historyRead history)
+  unfolding historyRead
+  accepted-meets a =
+      let z = accepted-read a in
+      sound (historyRead history) (certificateRead history text)
+      (few-processes (readHistory history .history) (history-guarantees.read-sound history (no-fault-history history text z)))
+      (lists-readable z)
+      (accepted-passes a)
+
+-- ---- lists that reading allows are those of a record within its limits
+less-from : (n : ℕ) (l : List ℕ) → ((e : ℕ) → mem e l ≡ true → e < n) → allLess n l ≡ true
+unfolding allLess
+less-from n [] f = refl
+less-from n (x ∷ l) f =
+    rw (lt-ltb x n (f x (true-or-left (mem x l) (eq-eqb x x refl)))) (less-from n l (λ e t. f e (true-or-right (eqb e x) t)))
+
+rising-is : (b : ℕ) (l : List ℕ) → RisingFrom b l → rising l ≡ true
+unfolding rising
+rising-is b [] r = refl
+rising-is b (x ∷ []) r = refl
+rising-is b (x ∷ y ∷ l) r = rw (lt-ltb x y (r .1 .0)) (rising-is (suc x) (y ∷ l) (r .1))
+
+rising-by : (past : Bool) (l : List ℕ) → (past ≡ true → Rising l) → not past || rising l ≡ true
+rising-by true l f = rising-is zero l (f refl)
+rising-by false l f = refl
+
+good-from : (past : Bool) (n : ℕ) (ls : List (List ℕ)) → ((k : ℕ) → EventsOf n (getD ls k [])) → (past ≡ true → (k : ℕ) → Rising (getD ls k []))
+    → goodLists past n ls ≡ true
+unfolding goodLists
+good-from past n [] f g = refl
+good-from past n (l ∷ ls) f g =
+    rw (le-leb (length l) n (f zero .1), less-from n l (f zero .0), rising-by past l (λ t. g t zero))
+    (good-from past n ls (λ k. f (suc k)) (λ t k. g t (suc k)))
+
+-- ---- the text of a certificate of a readable history text
+module _ (history : List ℕ) (z : readHistory history .fault ≡ 0) (c : Certificate) (r : Readable (historyRead history) c) where
+  abbrev pub text-of : List ℕ
+  text-of =
+      certificateText (eventsOf history) (text-record.certificateOf (c .criterion) (c .pasts) (c .views)) (text-record.rowsOf (c .views))
+
+  past-long : length (c .pasts) ≡ text.pastCount (c .criterion) (eventsOf history)
+  unfolding historyRead
+  past-long = r .pastsListed ∙ past-count (c .criterion) (readHistory history .history)
+
+  view-long : length (c .views) ≡ length (text.viewNumbers (c .criterion) (eventsOf history))
+  unfolding historyRead
+  view-long = r .viewsListed ∙ view-count (c .criterion) (readHistory history .history)
+
+  same-size : size (historyRead history) ≡ length (eventsOf history)
+  unfolding historyRead
+  same-size = size-is (readHistory history .history)
+
+  within-limits : fits (eventsOf history) (text-record.certificateOf (c .criterion) (c .pasts) (c .views)) (text-record.rowsOf (c .views)) ≡ true
+  within-limits =
+      facts-fit (c .criterion) (eventsOf history) (c .pasts) (c .views) (few-events history z) past-long view-long
+      (rw same-size at (good-from true (size (historyRead history)) (c .pasts) (r .past) (λ t. r .rising)))
+      (rw same-size at (good-from false (size (historyRead history)) (c .views) (r .view) (λ t. absurd (false≢true t))))
+
+  text-read : readCertificate history text-of
+      ≡ record {
+        fault = 0;
+        text = Neither;
+        line = 0;
+        start = 0;
+        end = 0;
+        history = readHistory history .history;
+        certificate = text-record.certificateOf (c .criterion) (c .pasts) (c .views);
+      }
+  text-read =
+      written-read history z (text-record.certificateOf (c .criterion) (c .pasts) (c .views)) (text-record.rowsOf (c .views)) within-limits
+
+  rows-back : rowsOf history text-of ≡ text-record.rowsOf (c .views)
+  rows-back =
+      written-rows history z (text-record.certificateOf (c .criterion) (c .pasts) (c .views)) (text-record.rowsOf (c .views)) within-limits
+      (replicate 64 noRow)
+
+  pub pasts-back : pastsIn (text.pastCount (c .criterion) (eventsOf history)) (text-record.certificateOf (c .criterion) (c .pasts) (c .views)) ≡ c .pasts
+  pasts-back =
+      ap (λ (k : ℕ). pastsIn k (text-record.certificateOf (c .criterion) (c .pasts) (c .views))) (sym past-long)
+      ∙ pasts-in (c .criterion) (c .pasts) (c .views)
+
+  pub views-back : viewsIn (length (text.viewNumbers (c .criterion) (eventsOf history))) (text-record.certificateOf (c .criterion) (c .pasts) (c .views)) (text-record.rowsOf (c .views)) ≡ c .views
+  views-back =
+      ap (λ (k : ℕ). viewsIn k (text-record.certificateOf (c .criterion) (c .pasts) (c .views)) (text-record.rowsOf (c .views))) (sym view-long)
+      ∙ views-in (c .criterion) (c .pasts) (c .views)
+
+  -- it is read as that certificate
+  pub text-is : certificateRead history text-of ≡ c
+  unfolding certificateRead certificateOf text-record.certificateOf
+  text-is =
+      ap₂ (λ (x : CertificateRead) (rows : List (List ℕ)). certificateOf (readHistory history .history) (x .certificate) rows) text-read rows-back
+      ∙ ap₂ {C = Certificate} (λ (ps vs : List (List ℕ)). record { criterion = c .criterion; pasts = ps; views = vs }) pasts-back views-back
+
+  pub text-accepted : check (historyRead history) c ≡ none → Accepted history text-of × Names history text-of (c .criterion)
+  text-accepted e =
+      let a : Accepted history text-of =
+      passes-accepted history text-of (ap (λ (x : CertificateRead). x .fault) text-read)
+      (ap (check (historyRead history)) text-is ∙ e) in
+      (a, rw text-is at (accepted-names history text-of a))
+
+-- a readable history that meets a criterion has a certificate text that names it and is accepted
+pub record Certified (history : List ℕ) (w : Criterion) : Type 0 where
+  pub text : List ℕ
+  pub accepted : Accepted history text
+  pub names : Names history text w
+
+pub meets-certified : (history : List ℕ) → readHistory history .fault ≡ 0 → (w : Criterion) → Meets w (historyRead history) → Certified history w
+meets-certified history z w m =
+    let x = complete (historyRead history) w m in
+    let p = text-accepted history z (x .0) (x .2) (x .3) in
+    record {
+      text = text-of history z (x .0) (x .2);
+      accepted = p .0;
+      names = subst (λ (k : Criterion). Names history (text-of history z (x .0) (x .2)) k) (x .1) (p .1);
+    }

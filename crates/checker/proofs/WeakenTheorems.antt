@@ -1,0 +1,105 @@
+-- The weakened text of an accepted certificate text is accepted and names the criterion wanted; to itself it is the text unchanged.
+-- Assumes nothing.
+use Prim.Native.Nat.{ℕ}
+use mathlib.Core.Path.{_≡_, refl, sym, ap, ap₂, _∙_, subst}
+use mathlib.Core.Bool.{Bool, true, false, false≢true}
+use mathlib.Core.List.{List}
+use mathlib.Core.Option.{Option, none, some}
+use lib.ListN.{length, replicate}
+use Rattle.history.specs.declared.record.Event.{Event}
+use Rattle.history.specs.Record.{eventsIn}
+use Rattle.history_reader.specs.ReadHistory.{readHistory}
+use Rattle.certificate.specs.declared.record.Criterion.{Criterion}
+use Rattle.certificate.specs.declared.record.Criterion.the-variants.{Pram, Weak, Causal, Converge, Sequential}
+use Rattle.certificate.specs.Record.{noRow}
+use Rattle.certificate.specs.Record as text-record
+use Rattle.certificate.specs.Criteria as text
+use Rattle.certificate.specs.CertificateText.{textOf, certificateText}
+use Rattle.certificate_reader.specs.ReadCertificate.{readCertificate, rowsRead}
+use Rattle.certificate_theorems.proofs.Theorems.{eventsOf, no-fault-history, read-written}
+use Rattle.criteria.specs.History.{History}
+use Rattle.criteria.specs.Certificate.{Certificate, Readable}
+use Rattle.criteria.specs.Check.{check}
+use Rattle.criteria.specs.Weaken.{isPair, weakenedFrom, weakened}
+use Rattle.criteria.specs.Records.{certificateOf}
+use Rattle.criteria.proofs.Weaken as on-lists
+use Rattle.checker.specs.CheckText.{Verdict, historyRead, rowsOf, certificateRead, checkText, Accepted, Names}
+use Rattle.checker.specs.WeakenText.{textOfLists, textIfSome, weakenedText}
+use Rattle.checker.proofs.TextTheorems.{accepted-read, accepted-passes, accepted-names, lists-readable, text-of, text-accepted, pasts-back, views-back}
+
+-- the text of a certificate's record is the text of its lists
+text-is-lists : (history : List ℕ) (z : readHistory history .fault ≡ 0) (d : Certificate) (r : Readable (historyRead history) d)
+    → text-of history z d r ≡ textOfLists (eventsOf history) d
+unfolding certificateText text-record.certificateOf
+text-is-lists history z d r =
+    ap₂ (λ (ps vs : List (List ℕ)). textOf (d .criterion) (text.viewNumbers (d .criterion) (eventsOf history)) ps vs) (pasts-back history z d r) (views-back history z d r)
+
+record Some (o : Option Certificate) (t : List ℕ) (es : List Event) : Type 0 where
+  lists : Certificate
+  found : o ≡ some lists
+  says : textOfLists es lists ≡ t
+
+unwrap : {t u : List ℕ} → _≡_ {A = Option (List ℕ)} (some t) (some u) → t ≡ u
+unwrap e = cc
+
+abbrev hasText : Option (List ℕ) → Bool
+hasText none = false
+hasText (some t) = true
+
+some-of : (es : List Event) (o : Option Certificate) (t : List ℕ) → textIfSome es o ≡ some t → Some o t es
+some-of es (some d) t e = record { lists = d; found = refl; says = unwrap e }
+some-of es none t e = absurd (false≢true (ap hasText e))
+
+module _ (history text : List ℕ) (a : Accepted history text) where
+  z : readHistory history .fault ≡ 0
+  z = no-fault-history history text (accepted-read history text a)
+
+  -- for every pair, the weakened text is accepted and names the criterion wanted
+  pub weakened-accepted : (w : Criterion) (t : List ℕ) → weakenedText history text w ≡ some t → Accepted history t × Names history t w
+  unfolding weakenedText
+  weakened-accepted w t e =
+      let s = some-of (eventsOf history) (weakened w (historyRead history) (certificateRead history text)) t e in
+      let d = on-lists.weaken-accepted (historyRead history) w (certificateRead history text) (s .lists)
+      (lists-readable history text (accepted-read history text a)) (accepted-passes history text a) (s .found) in
+      let p = text-accepted history z (s .lists) (d .readable) (d .passes) in
+      let q : text-of history z (s .lists) (d .readable) ≡ t = text-is-lists history z (s .lists) (d .readable) ∙ s .says in
+      (rw q at (p .0), subst (λ (k : Criterion). Names history t k) (d .named) (rw q at (p .1)))
+
+  -- there is one exactly for the pairs
+  pub weakened-pair : (w : Criterion) → isPair (certificateRead history text .criterion) w ≡ true → (t : List ℕ) × (weakenedText history text w ≡ some t)
+  unfolding weakenedText
+  weakened-pair w p =
+      some-text (weakened w (historyRead history) (certificateRead history text))
+      (on-lists.pair-weakened w (historyRead history) (certificateRead history text) ∙ p)
+    where
+      some-text : (o : Option Certificate) → on-lists.isSome o ≡ true → (t : List ℕ) × (textIfSome (eventsOf history) o ≡ some t)
+      some-text (some d) q = (textOfLists (eventsOf history) d, refl)
+      some-text none q = absurd (false≢true q)
+
+  pub weakened-none : (w : Criterion) → isPair (certificateRead history text .criterion) w ≡ false → weakenedText history text w ≡ none
+  unfolding weakenedText
+  weakened-none w p =
+      no-text (weakened w (historyRead history) (certificateRead history text))
+      (on-lists.pair-weakened w (historyRead history) (certificateRead history text) ∙ p)
+    where
+      no-text : (o : Option Certificate) → on-lists.isSome o ≡ false → textIfSome (eventsOf history) o ≡ none
+      no-text (some d) q = absurd (false≢true (sym q))
+      no-text none q = refl
+
+  -- to itself: the text unchanged
+  itself : (c : Criterion) (h : History) (d : Certificate) → weakenedFrom c c h d ≡ some d
+  itself Pram h d = refl
+  itself Weak h d = refl
+  itself Causal h d = refl
+  itself Converge h d = refl
+  itself Sequential h d = refl
+
+  lists-text : textOfLists (eventsOf history) (certificateRead history text) ≡ text
+  unfolding certificateRead certificateOf certificateText
+  lists-text = read-written history text (accepted-read history text a) (replicate 64 noRow)
+
+  pub weakened-itself : weakenedText history text (certificateRead history text .criterion) ≡ some text
+  unfolding weakenedText weakened
+  weakened-itself =
+      ap (textIfSome (eventsOf history)) (itself (certificateRead history text .criterion) (historyRead history) (certificateRead history text))
+      ∙ ap (λ (t : List ℕ). some t) lists-text

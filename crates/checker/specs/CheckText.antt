@@ -1,0 +1,84 @@
+-- The check of two texts (document 01, "Check"): history's reading refusals, then the certificate's, then 11 to 16, then 0.
+use Prim.Native.Nat.{ℕ}
+use mathlib.Core.Path.{_≡_}
+use mathlib.Core.Bool.{cond}
+use mathlib.Core.List.{List}
+use mathlib.Core.Option.{Option, none, some}
+use lib.ListN.{replicate}
+use lib.Dec.{eqb}
+use Rattle.history_reader.specs.ReadHistory.{readHistory}
+use Rattle.certificate.specs.declared.record.Criterion.{Criterion}
+use Rattle.certificate.specs.Record.{noRow}
+use Rattle.certificate_reader.specs.declared.read.Text.{Text}
+use Rattle.certificate_reader.specs.declared.read.Text.the-variants.{Neither}
+use Rattle.certificate_reader.specs.declared.read.CertificateRead.{CertificateRead}
+use Rattle.certificate_reader.specs.ReadCertificate.{readCertificate, rowsRead}
+use Rattle.criteria.specs.History.{History}
+use Rattle.criteria.specs.Certificate.{Certificate}
+use Rattle.criteria.specs.Check.{Answer, answerOf, check}
+use Rattle.criteria.specs.Records.{historyOf, certificateOf}
+
+-- An answer with all that it carries. "A reading refusal carries the text, the line number from 1, and the faulty line as part of
+-- whichever text it is in": the bytes from `start` to `end`. "11 to 13 carry the event, 14 and 15 the view, 16 both, with no line."
+-- The criterion is the one that the certificate names; a reading refusal has none.
+pub record Verdict : Type 0 where
+  pub number : ℕ
+  pub criterion : Option Criterion
+  pub text : Text
+  pub line : Option ℕ
+  pub start : ℕ
+  pub end : ℕ
+  pub view : Option ℕ
+  pub event : Option ℕ
+
+abbrev pub refused : CertificateRead → Verdict
+refused r =
+    record {
+      number = r .fault;
+      criterion = none;
+      text = r .text;
+      line = some (r .line);
+      start = r .start;
+      end = r .end;
+      view = none;
+      event = none;
+    }
+
+abbrev pub checked : Criterion → Answer → Verdict
+checked c a =
+    record {
+      number = a .number;
+      criterion = some c;
+      text = Neither;
+      line = none;
+      start = 0;
+      end = 0;
+      view = a .view;
+      event = a .event;
+    }
+
+-- The lists of the history and of the certificate that two texts are read as.
+unfoldable pub historyRead : List ℕ → History
+historyRead history = historyOf (readHistory history .history)
+
+abbrev pub rowsOf : List ℕ → List ℕ → List (List ℕ)
+rowsOf history text = rowsRead history text (replicate 64 noRow)
+
+unfoldable pub certificateRead : List ℕ → List ℕ → Certificate
+certificateRead history text =
+    certificateOf (readHistory history .history) (readCertificate history text .certificate) (rowsOf history text)
+
+-- The check of a certificate text for a history text.
+unfoldable pub checkText : List ℕ → List ℕ → Verdict
+checkText history text =
+    cond (eqb (readCertificate history text .fault) 0)
+    (checked (certificateRead history text .criterion) (answerOf (check (historyRead history) (certificateRead history text))))
+    (refused (readCertificate history text))
+
+-- "A certificate text is accepted for a history text when the check of the two answers 0."
+unfoldable pub Accepted : List ℕ → List ℕ → Type 0
+Accepted history text = checkText history text .number ≡ 0
+
+-- The criterion that a certificate text names.
+unfoldable pub Names : List ℕ → List ℕ → Criterion → Type 0
+Names history text c = checkText history text .criterion ≡ some c

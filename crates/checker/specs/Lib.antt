@@ -1,0 +1,2 @@
+pub mod CheckText
+pub mod WeakenText
