@@ -1,0 +1,258 @@
+-- Laws of what a state holds, and of one op on it. Assumes nothing.
+use Prim.Native.Nat.{ℕ, zero, suc, _+_, _-_, _≤_, _<_}
+use native.Mathlib.Nat.{not-suc-le-zero, le-of-suc-le-suc}
+use native.Mathlib.Numerals.{add-one}
+use native.Mathlib.Omega.{arith}
+use mathlib.Core.Path.{_≡_, refl, ap, sym, subst, _∙_}
+use mathlib.Core.Logic.{_⊎_, inl, inr}
+use mathlib.Core.Bool.{Bool, true, false, cond}
+use mathlib.Core.List.{List, [], _∷_, _++_, map, map-append}
+use lib.ListN.{length, take, drop, getD, set, replicate, length-map, length-append}
+use lib.Seq.{slice, slice-empty, slice-cons, length-slice, take-suc, take-suc-set, drop-append-le, drop-drop, length-take-le, take-at, drop-at, take-all, getD-drop, getD-take}
+use Rattle.history.specs.declared.record.Kind.{Kind}
+use Rattle.history.specs.declared.record.Kind.the-variants.{Register, Queue, Stack, Window}
+use Rattle.history.specs.declared.record.Op.{Op}
+use Rattle.history.specs.declared.record.Op.the-variants.{Write, Read, Push, Pop, Peek}
+use Rattle.history.specs.declared.record.Object.{Object}
+use Rattle.criteria.specs.Object.{freshOf, after, gives, top, untop}
+use Rattle.objects.specs.State.{valueIn, contentsOf, givenOf, isStack, Fresh, Changed, Answered}
+use Rattle.objects.specs.Steps.State.{Starts, Names, Shows}
+use Rattle.objects.specs.declared.state.State.{State}
+use Rattle.objects.specs.declared.state.Given.{Given}
+
+-- The length of an array that is a field, from what owning the struct tells.
+pub plain : {n : ℕ} (l : List ℕ) → length (map (λ v. v) l) ≡ n → length l ≡ n
+plain l h = sym (length-map l (λ v. v)) ∙ h
+
+-- ---- a map over what an op makes of a list and what it answers
+module _ (f : ℕ → ℕ) where
+  map-take : (n : ℕ) (l : List ℕ) → map f (take n l) ≡ take n (map f l)
+  map-take zero l = refl
+  map-take (suc n) [] = refl
+  map-take (suc n) (x ∷ xs) = ap (λ (t : List ℕ). f x ∷ t) (map-take n xs)
+
+  map-drop : (n : ℕ) (l : List ℕ) → map f (drop n l) ≡ drop n (map f l)
+  map-drop zero l = refl
+  map-drop (suc n) [] = refl
+  map-drop (suc n) (x ∷ xs) = map-drop n xs
+
+  map-replicate : (n x : ℕ) → map f (replicate n x) ≡ replicate n (f x)
+  map-replicate zero x = refl
+  map-replicate (suc n) x = ap (λ (t : List ℕ). f x ∷ t) (map-replicate n x)
+
+  map-top : (k : Kind) (l : List ℕ) → map f (top k l) ≡ top k (map f l)
+  map-top Register l = map-take 1 l
+  map-top Queue l = map-take 1 l
+  map-top Stack l = map-drop (length l - 1) l ∙ ap (λ (n : ℕ). drop (n - 1) (map f l)) (sym (length-map l f))
+  map-top Window l = map-take 1 l
+
+  map-untop : (k : Kind) (l : List ℕ) → map f (untop k l) ≡ untop k (map f l)
+  map-untop Register l = map-drop 1 l
+  map-untop Queue l = map-drop 1 l
+  map-untop Stack l = map-take (length l - 1) l ∙ ap (λ (n : ℕ). take (n - 1) (map f l)) (sym (length-map l f))
+  map-untop Window l = map-drop 1 l
+
+  map-after : (o : Object) (op : Op) (n : ℕ) (l : List ℕ) → map f (after o op n l) ≡ after o op (f n) (map f l)
+  map-after o Write n l = map-append f (drop 1 l) (n ∷ []) ∙ ap (λ (t : List ℕ). t ++ (f n ∷ [])) (map-drop 1 l)
+  map-after o Read n l = refl
+  map-after o Push n l = map-append f l (n ∷ [])
+  map-after o Pop n l = map-untop (o .kind) l
+  map-after o Peek n l = refl
+
+-- ---- the end that pop takes
+top-is : (k : Kind) (l : List ℕ) → top k l ≡ cond (isStack k) (drop (length l - 1) l) (take 1 l)
+top-is Register l = refl
+top-is Queue l = refl
+top-is Stack l = refl
+top-is Window l = refl
+
+untop-is : (k : Kind) (l : List ℕ) → untop k l ≡ cond (isStack k) (take (length l - 1) l) (drop 1 l)
+untop-is Register l = refl
+untop-is Queue l = refl
+untop-is Stack l = refl
+untop-is Window l = refl
+
+top-none : (k : Kind) → top k [] ≡ []
+top-none Register = refl
+top-none Queue = refl
+top-none Stack = refl
+top-none Window = refl
+
+untop-none : (k : Kind) → untop k [] ≡ []
+untop-none Register = refl
+untop-none Queue = refl
+untop-none Stack = refl
+untop-none Window = refl
+
+-- ---- the part of a list between two ends
+slice-push : (l : List ℕ) (h t v : ℕ) → h ≤ t → t < length l → slice h (t + 1) (set l t v) ≡ slice h t l ++ (v ∷ [])
+slice-push l h t v le lt =
+    let e : length (take t l) ≡ t = length-take-le t l (omega arith) in
+    rw (add-one, take-suc-set l t v) (drop-append-le h (take t l) (v ∷ []) (omega arith))
+
+slice-snoc : (l : List ℕ) (h k : ℕ) → h ≤ k → k < length l → slice h (k + 1) l ≡ slice h k l ++ (getD l k 0 ∷ [])
+slice-snoc l h k le lt =
+    let e : length (take k l) ≡ k = length-take-le k l (omega arith) in
+    rw (add-one, take-suc l k 0) (drop-append-le h (take k l) (getD l k 0 ∷ []) (omega arith))
+
+slice-tail : (l : List ℕ) (h t : ℕ) → slice (h + 1) t l ≡ drop 1 (slice h t l)
+slice-tail l h t = sym (drop-drop 1 h (take t l))
+
+snoc-init : (q : List ℕ) (x : ℕ) → take (length (q ++ (x ∷ [])) - 1) (q ++ (x ∷ [])) ≡ q
+snoc-init q x = take-at q (x ∷ []) (length (q ++ (x ∷ [])) - 1) (omega (arith, length-append q (x ∷ [])))
+
+snoc-last : (q : List ℕ) (x : ℕ) → drop (length (q ++ (x ∷ [])) - 1) (q ++ (x ∷ [])) ≡ x ∷ []
+snoc-last q x = drop-at q (x ∷ []) (length (q ++ (x ∷ [])) - 1) (omega (arith, length-append q (x ∷ [])))
+
+-- ---- the start
+take-replicate : (t n x : ℕ) → t ≤ n → take t (replicate n x) ≡ replicate t x
+take-replicate zero n x h = refl
+take-replicate (suc t) zero x h = absurd (not-suc-le-zero h)
+take-replicate (suc t) (suc n) x h = ap (λ (l : List ℕ). x ∷ l) (take-replicate t n x (le-of-suc-le-suc h))
+
+pub fresh-law : (o : Object) (k : Kind) (r : State) (t : ℕ) (b : Bool) → o .kind ≡ k → t ≤ 8 → Starts t b r → isStack k ≡ b
+    → freshOf k (o .width) ≡ replicate t 0 → Fresh o r
+unfolding contentsOf
+fresh-law o k r t b kind few g stack start = record {
+  newest = g .newest ∙ sym (ap isStack kind ∙ stack);
+  head = g .head;
+  tail = omega (arith, g .tail);
+  contents = λ vs z.
+      rw (g .head, g .tail, g .numbers, take-replicate t 72 64 (omega arith), map-replicate (valueIn vs) t 64, z, kind, start);
+}
+
+-- ---- one op on a state, said of the numbers it holds
+abbrev held : State → List ℕ
+held s = slice (s .head) (s .tail) (s .numbers)
+
+changed-law : (s r : State) (op : Op) (number : ℕ) → r .newest ≡ s .newest → r .head ≤ r .tail → r .tail ≤ s .tail + 1
+    → ((o : Object) → isStack (o .kind) ≡ s .newest → held r ≡ after o op number (held s)) → Changed s op number r
+unfolding contentsOf
+changed-law s r op number e h t g = record {
+  newest = e;
+  ends = h;
+  room = t;
+  contents = λ vs o k. ap (map (valueIn vs)) (g o k) ∙ map-after (valueIn vs) o op number (held s);
+}
+
+-- A state at two ends.
+abbrev between : State → List ℕ → ℕ → ℕ → State
+between s l h t = record { numbers = l; head = h; tail = t; newest = s .newest }
+
+module _ (s : State) (ends : s .head ≤ s .tail) where
+  -- an op that changes nothing
+  pub kept : (op : Op) (number : ℕ) → ((o : Object) (l : List ℕ) → l ≡ after o op number l) → Changed s op number s
+  kept op number e = changed-law s s op number refl ends (omega arith) (λ o k. e o (held s))
+
+  module _ (len : length (s .numbers) ≡ 72) (room : s .tail < 72) (number : ℕ) where
+    pub push-changes : Changed s Push number (between s (set (s .numbers) (s .tail) number) (s .head) (s .tail + 1))
+    push-changes =
+        changed-law s _ Push number refl (omega arith) (omega arith)
+        (λ o k. slice-push (s .numbers) (s .head) (s .tail) number ends (omega arith))
+
+    pub write-changes : s .head < s .tail
+        → Changed s Write number (between s (set (s .numbers) (s .tail) number) (s .head + 1) (s .tail + 1))
+    write-changes lt =
+        changed-law s _ Write number refl (omega arith) (omega arith)
+        (λ o k.
+        slice-push (s .numbers) (s .head + 1) (s .tail) number (omega arith) (omega arith)
+        ∙ ap (λ (l : List ℕ). l ++ (number ∷ [])) (slice-tail (s .numbers) (s .head) (s .tail)))
+
+  module _ (empty : s .head ≡ s .tail) where
+    none-held : held s ≡ []
+    none-held = rw empty (slice-empty (s .tail) (s .numbers))
+
+    pub write-begins : length (s .numbers) ≡ 72 → s .tail < 72 → (number : ℕ)
+        → Changed s Write number (between s (set (s .numbers) (s .tail) number) (s .head) (s .tail + 1))
+    write-begins len room number =
+        changed-law s _ Write number refl (omega arith) (omega arith)
+        (λ o k. slice-push (s .numbers) (s .head) (s .tail) number ends (omega arith) ∙ rw none-held)
+
+    pub pop-none : (number : ℕ) → Changed s Pop number s
+    pop-none number =
+        changed-law s s Pop number refl ends (omega arith)
+        (λ o k. none-held ∙ sym (ap (untop (o .kind)) none-held ∙ untop-none (o .kind)))
+
+  module _ (lt : s .head < s .tail) where
+    pub pop-oldest : s .newest ≡ false → (number : ℕ) → Changed s Pop number (between s (s .numbers) (s .head + 1) (s .tail))
+    pop-oldest n number =
+        changed-law s _ Pop number refl (omega arith) (omega arith)
+        (λ o k. slice-tail (s .numbers) (s .head) (s .tail) ∙ sym (untop-is (o .kind) (held s) ∙ rw (k ∙ n)))
+
+    module _ (room : s .tail ≤ length (s .numbers)) where
+      newest-last : held s ≡ slice (s .head) (s .tail - 1) (s .numbers) ++ (getD (s .numbers) (s .tail - 1) 0 ∷ [])
+      newest-last =
+          let e : s .tail ≡ s .tail - 1 + 1 = omega arith in
+          ap (λ (t : ℕ). slice (s .head) t (s .numbers)) e
+          ∙ slice-snoc (s .numbers) (s .head) (s .tail - 1) (omega arith) (omega arith)
+
+      oldest-first : held s ≡ getD (s .numbers) (s .head) 0 ∷ slice (suc (s .head)) (s .tail) (s .numbers)
+      oldest-first = slice-cons (s .head) (s .tail) (s .numbers) 0 lt room
+
+      pub pop-newest : s .newest ≡ true → (number : ℕ) → Changed s Pop number (between s (s .numbers) (s .head) (s .tail - 1))
+      pop-newest n number =
+          changed-law s _ Pop number refl (omega arith) (omega arith)
+          (λ o k. sym (untop-is (o .kind) (held s) ∙ rw (k ∙ n, newest-last, snoc-init)))
+
+-- ---- what a state answers
+module _ (s : State) (a : Given) where
+  shows-law : (l : List ℕ) → Names l a → ((o : Object) → isStack (o .kind) ≡ s .newest → l ≡ top (o .kind) (held s)) → Shows s a
+  unfolding contentsOf givenOf
+  shows-law l g e =
+      record {
+        few = g .few;
+        values = λ vs o k. ap (map (valueIn vs)) (g .numbers ∙ e o k) ∙ map-top (valueIn vs) (o .kind) (held s);
+      }
+
+  pub shows-none : s .head ≤ s .tail → s .head ≡ s .tail → Names [] a → Shows s a
+  shows-none ends empty g = shows-law [] g (λ o k. sym (ap (top (o .kind)) (none-held s ends empty) ∙ top-none (o .kind)))
+
+  module _ (ends : s .head ≤ s .tail) (lt : s .head < s .tail) (room : s .tail ≤ length (s .numbers)) where
+    pub shows-newest : s .newest ≡ true → Names (getD (s .numbers) (s .tail - 1) 0 ∷ []) a → Shows s a
+    shows-newest n g =
+        shows-law _ g (λ o k. sym (top-is (o .kind) (held s) ∙ rw (k ∙ n, newest-last s ends lt room, snoc-last)))
+
+    pub shows-oldest : s .newest ≡ false → Names (getD (s .numbers) (s .head) 0 ∷ []) a → Shows s a
+    shows-oldest n g =
+        shows-law _ g (λ o k. sym (top-is (o .kind) (held s) ∙ rw (k ∙ n, oldest-first s ends lt room)))
+
+  pub end-answers : (op : Op) → ((o : Object) (l : List ℕ) → top (o .kind) l ≡ gives o op l) → Shows s a → Answered s op a
+  end-answers op e g = record { few = g .few; values = λ vs o k h. g .values vs o k ∙ e o (contentsOf vs s) }
+
+  pub none-answers : (op : Op) → ((o : Object) (l : List ℕ) → [] ≡ gives o op l) → Names [] a → Answered s op a
+  unfolding givenOf
+  none-answers op e g = record { few = g .few; values = λ vs o k h. ap (map (valueIn vs)) (g .numbers) ∙ e o (contentsOf vs s) }
+
+-- ---- the copy of a read
+pub copied-turn : (a l : List ℕ) (h t i : ℕ) → i < length a → h + i < t → t ≤ length l → take i a ≡ take i (slice h t l)
+    → take (i + 1) (set a i (getD l (h + i) 0)) ≡ take (i + 1) (slice h t l)
+copied-turn a l h t i la lt le e =
+    let z : length (slice h t l) ≡ t - h = length-slice h t l le in
+    let p : take (suc i) (slice h t l) ≡ take i (slice h t l) ++ (getD (slice h t l) i 0 ∷ []) =
+    take-suc (slice h t l) i 0 (omega arith) in
+    let g : getD (slice h t l) i 0 ≡ getD l (h + i) 0 = getD-drop h (take t l) i 0 ∙ getD-take t l (h + i) 0 lt in
+    rw (add-one, take-suc-set a i (getD l (h + i) 0), e, p, g)
+
+copied-all : (l : List ℕ) (h t n : ℕ) → t ≤ length l → (n ≡ t - h) ⊎ (n ≡ 8) → length (slice h t l) ≤ 8
+    → take n (slice h t l) ≡ slice h t l
+copied-all l h t n le (inl e) few =
+    let z : length (slice h t l) ≡ t - h = length-slice h t l le in
+    take-all n (slice h t l) (omega arith)
+copied-all l h t n le (inr e) few = take-all n (slice h t l) (omega arith)
+
+pub read-answers : (s : State) (a : List ℕ) (n : ℕ) → s .tail ≤ length (s .numbers) → (n ≡ s .tail - s .head) ⊎ (n ≡ 8) → n ≤ 8
+    → take n a ≡ take n (slice (s .head) (s .tail) (s .numbers)) → Answered s Read (record { numbers = a; count = n })
+unfolding contentsOf givenOf
+read-answers s a n room least few e = record {
+  few = few;
+  values = λ vs o k h.
+      ap (map (valueIn vs))
+      (e ∙ copied-all (s .numbers) (s .head) (s .tail) n room least (omega (arith, h refl, length-map (held s) (valueIn vs))));
+}
+
+-- ---- the op that a match found
+pub at-op : {s : State} {op p : Op} {number : ℕ} {r : State} → op ≡ p → Changed s p number r → Changed s op number r
+at-op {s} {op} {p} {number} {r} e h = subst (λ (q : Op). Changed s q number r) (sym e) h
+
+pub asked : {s : State} {op p : Op} {a : Given} → op ≡ p → Answered s p a → Answered s op a
+asked {s} {op} {p} {a} e h = subst (λ (q : Op). Answered s q a) (sym e) h

@@ -1,0 +1,2 @@
+// The state of an object in a replay.
+pub mod state;
