@@ -1,0 +1,4 @@
+pub mod RowLaws
+pub mod ViewLaws
+pub mod ListedLaws
+pub mod ProgramLaws

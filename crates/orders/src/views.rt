@@ -1,0 +1,86 @@
+// Tests of a view: its first n entries are numbers of events.
+ghost use mathlib.Core.Path.{_≡_};
+ghost use mathlib.Core.Bool.{_&&_};
+ghost use Prim.Native.Nat.{ℕ, _≤_, _<_};
+ghost use lib.ListN.{take, getD};
+ghost use Rattle.criteria.specs.Tests.{any, count, mem};
+ghost use Rattle.criteria.specs.Check.{notItsSet, against};
+ghost use Rattle.orders.specs.Rows.{inRow, inRows};
+
+// Whether some event is in a row.
+fn holds_some(row: [bool; 64]) -> bool
+    ensures { λ r. ⌜ r ≡ any 64 (inRow row) ⌝ }
+{
+    let mut some = false;
+    let mut g = 0;
+    while g < 64 {
+        some = some | row[g];
+        g += 1;
+    }
+    some
+}
+
+// Whether some event is in both rows.
+fn meets(a: [bool; 64], b: [bool; 64]) -> bool
+    ensures { λ r. ⌜ r ≡ any 64 (λ g. inRow a g && inRow b g) ⌝ }
+{
+    let mut some = false;
+    let mut g = 0;
+    while g < 64 {
+        some = some | (a[g] & b[g]);
+        g += 1;
+    }
+    some
+}
+
+// The row of the first n entries of a view.
+pub(crate) fn marks(view: [u8; 64], n: usize) -> [bool; 64]
+    requires { ⌜ (n ≤ 64) × ((k : ℕ) → k < n → getD view k 0 < 64) ⌝ }
+    ensures { λ r. ⌜ ((e : ℕ) → inRow r e ≡ mem e (take n view)) ⌝ }
+{
+    let mut row = [false; 64];
+    let mut i = 0;
+    while i < n {
+        let x = view[i] as usize;
+        row[x] = true;
+        i += 1;
+    }
+    row
+}
+
+// 14: whether the first n entries of a view are not the set of a row, each once.
+pub fn not_its_set(view: [u8; 64], n: usize, set: [bool; 64]) -> bool
+    requires { ⌜ (n ≤ 64) × ((k : ℕ) → k < n → getD view k 0 < 64) ⌝ }
+    ensures { λ r. ⌜ r ≡ notItsSet 64 (inRow set) (take n view) ⌝ }
+{
+    let mut left = set;
+    let mut i = 0;
+    while i < n {
+        let x = view[i] as usize;
+        if !left[x] {
+            return true;
+        }
+        left[x] = false;
+        i += 1;
+    }
+    holds_some(left)
+}
+
+// 15: whether the first n entries of a view, none of them twice, are against an order.
+pub fn against_order(view: [u8; 64], n: usize, rows: &[[bool; 64]; 64]) -> bool
+    requires { ⌜ (n ≤ 64) × ((k : ℕ) → k < n → getD view k 0 < 64) × ((e : ℕ) → count e (take n view) ≤ 1) ⌝ }
+    ensures { λ r. ⌜ r ≡ against (inRows (now (rows .entry))) (take n view) ⌝ }
+{
+    let mut later = marks(view, n);
+    let mut i = 0;
+    while i < n {
+        let x = view[i] as usize;
+        let past = rows[x];
+        if meets(later, past) {
+            return true;
+        }
+        later[x] = false;
+        i += 1;
+    }
+    false
+}
