@@ -2,3 +2,5 @@ pub mod RowLaws
 pub mod ViewLaws
 pub mod ListedLaws
 pub mod ProgramLaws
+pub mod SizeLaws
+pub mod CutLaws

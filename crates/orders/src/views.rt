@@ -3,9 +3,11 @@ ghost use mathlib.Core.Path.{_≡_};
 ghost use mathlib.Core.Bool.{_&&_};
 ghost use Prim.Native.Nat.{ℕ, _≤_, _<_};
 ghost use lib.ListN.{take, getD};
-ghost use Rattle.criteria.specs.Tests.{any, count, mem};
+ghost use Rattle.certificate.specs.Record.{entriesIn};
+ghost use Rattle.criteria.specs.Tests.{any, keep, one, count, mem};
 ghost use Rattle.criteria.specs.Check.{notItsSet, against};
 ghost use Rattle.orders.specs.Rows.{inRow, inRows};
+use certificate::record::EventList;
 
 // Whether some event is in a row.
 fn holds_some(row: [bool; 64]) -> bool
@@ -83,4 +85,31 @@ pub fn against_order(view: [u8; 64], n: usize, rows: &[[bool; 64]; 64]) -> bool
         i += 1;
     }
     false
+}
+
+// How many of a test that passed or not.
+fn one_if(passed: bool) -> usize
+    ensures { λ r. ⌜ r ≡ one passed ⌝ }
+{
+    if passed {
+        return 1;
+    }
+    0
+}
+
+// The first n entries of a view, cut down to those of a row.
+pub fn cut_to(view: [u8; 64], n: usize, kept: [bool; 64]) -> EventList
+    requires { ⌜ (n ≤ 64) × ((k : ℕ) → k < n → getD view k 0 < 64) ⌝ }
+    ensures { λ r. ⌜ (entriesIn r ≡ keep (inRow kept) (take n view)) × (r .count ≤ n) ⌝ }
+{
+    let mut events = [0u8; 64];
+    let mut count: usize = 0;
+    let mut i = 0;
+    while i < n {
+        let x = view[i];
+        events[count] = x;
+        count += one_if(kept[x as usize]);
+        i += 1;
+    }
+    EventList { count, events }
 }
