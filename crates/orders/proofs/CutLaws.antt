@@ -22,7 +22,3 @@ cut-more f v out i m h k e =
     kept-by (f (getD v i 0)) out m (getD v i 0) k
     ∙ ap (λ (l : List ℕ). l ++ keepIf (f (getD v i 0)) (getD v i 0) []) e
     ∙ sym (rw add-one (keep-take-suc f v i h))
-
-pub one-few : (t : Bool) → one t ≤ 1
-one-few true = omega arith
-one-few false = omega arith

@@ -89,7 +89,7 @@ pub fn against_order(view: [u8; 64], n: usize, rows: &[[bool; 64]; 64]) -> bool
 
 // How many of a test that passed or not.
 fn one_if(passed: bool) -> usize
-    ensures { λ r. ⌜ r ≡ one passed ⌝ }
+    ensures { λ r. ⌜ (r ≡ one passed) × (r ≤ 1) ⌝ }
 {
     if passed {
         return 1;

@@ -5,7 +5,7 @@ use mathlib.Core.Path.{_≡_, refl, ap, _∙_}
 use lib.ListN.{length, take, getD, set, length-set}
 use Rattle.criteria.specs.Tests.{keep, one}
 use Rattle.orders.specs.Rows.{inRow}
-use Rattle.orders.proofs.CutLaws.{cut-more, one-few}
+use Rattle.orders.proofs.CutLaws.{cut-more}
 use borrow.Author.Needs.{needs}
 use Rattle.orders.proofs.views.cut_to.Statement.{statement}
 use Rattle.orders.proofs.views.cut_to.Tie as tie
@@ -25,9 +25,7 @@ below c = c .before .before .pre .1 (c .before .loop .i) (next-i c)
 
 -- one more, or none
 few : (c : tie.After-one-if Inv-loop μ-loop) → c .one-if .result ≤ 1
-few c =
-    let a = c .before .before .before .args in
-    rw (c .one-if .ensures) (one-few (inRow (a .t3) (getD (a .t1) (c .before .before .loop .i) 0)))
+few c = c .one-if .ensures .1
 
 loop-holds : tie.Need-loop-holds Inv-loop μ-loop
 loop-holds c = (search needs, search needs, search needs, refl, refl)
@@ -69,7 +67,7 @@ loop-again c =
       omega (arith, few c, l .inv .1),
       l .inv .2,
       length-set (l .events) (l .count) _ ∙ l .inv .3,
-      ap (λ (k : ℕ). take (l .count + k) (set (l .events) (l .count) (getD (a .t1) (l .i) 0))) (c .one-if .ensures)
+      ap (λ (k : ℕ). take (l .count + k) (set (l .events) (l .count) (getD (a .t1) (l .i) 0))) (c .one-if .ensures .0)
           ∙ cut-more (inRow (a .t3)) (a .t1) (l .events) (l .i) (l .count) (omega (arith, h, l .inv .2, s .pre .0)) (omega (arith, h, l .inv .1, l .inv .3, s .pre .0)) (l .inv .4),
     )
 
