@@ -2,7 +2,7 @@
 use Prim.Native.Nat.{ℕ, _+_, _≤_}
 use mathlib.Core.Path.{_≡_}
 use mathlib.Core.Bool.{Bool, true, false}
-use mathlib.Core.List.{List, map}
+use mathlib.Core.List.{List, [], map}
 use lib.ListN.{length, getD, take, drop}
 use Rattle.history.specs.declared.record.Kind.{Kind}
 use Rattle.history.specs.declared.record.Kind.the-variants.{Register, Queue, Stack, Window}
@@ -32,6 +32,10 @@ isStack Register = false
 isStack Queue = false
 isStack Stack = true
 isStack Window = false
+
+-- What stands in a place that is not used.
+abbrev pub noState : State
+noState = record { numbers = []; head = 0; tail = 0; newest = false }
 
 -- A state in which an object starts.
 pub record Fresh (o : Object) (r : State) : Type 0 where

@@ -1,2 +1,3 @@
 // The state of an object in a replay.
+pub mod starts;
 pub mod state;
