@@ -1,0 +1,28 @@
+-- How the replay's loop does it: one event's test. Assumes nothing.
+use Prim.Native.Nat.{ℕ, _≤_}
+use mathlib.Core.Path.{_≡_}
+use mathlib.Core.Bool.{Bool, true, not, _&&_}
+use mathlib.Core.List.{List}
+use lib.ListN.{length}
+use lib.Dec.{eqb}
+use Rattle.history.specs.declared.record.Object.{Object}
+use Rattle.history.specs.declared.record.Op.{Op}
+use Rattle.history.specs.declared.record.Op.the-variants.{Read}
+use Rattle.criteria.specs.Object.{gives}
+use Rattle.criteria.specs.Tests.{sameList}
+use Rattle.objects.specs.declared.state.State.{State}
+use Rattle.objects.specs.State.{contentsOf, isStack}
+use Rattle.replays.specs.declared.replay.Visible.{Visible}
+use Rattle.replays.specs.declared.replay.Visible.the-variants.{All, Of, Only}
+
+-- The answer of event e, which is of process p, is visible.
+abbrev pub seesOf : Visible → ℕ → ℕ → Bool
+seesOf All p e = true
+seesOf (Of q) p e = eqb p (q .0)
+seesOf (Only f) p e = eqb e (f .0)
+
+-- Whether the answer is visible and is not what an object in this state gives.
+unfoldable pub Judged : Bool → List ℕ → List ℕ → State → Op → Bool → Type 0
+Judged seen vs answer s op r =
+    (o : Object) → isStack (o .kind) ≡ s .newest → (op ≡ Read → length (contentsOf vs s) ≤ 8)
+    → r ≡ seen && not (sameList answer (gives o op (contentsOf vs s)))

@@ -1,0 +1,2 @@
+// The replay of a view.
+pub mod replay;

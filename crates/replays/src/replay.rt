@@ -1,0 +1,130 @@
+// The replay of a view: the first event whose visible answer the objects do not give.
+ghost use mathlib.Core.Path.{_≡_};
+ghost use Prim.Native.Nat.{_≤_};
+ghost use lib.ListN.{length, take};
+ghost use Rattle.criteria.specs.Tests.{sameList};
+ghost use Rattle.criteria.specs.Check.{firstWrong};
+ghost use Rattle.objects.specs.State.{valueIn, givenOf};
+ghost use Rattle.replays.specs.Replay.{lightHistory, contentsIn, isVisible, foundEvent, Ready};
+ghost use Rattle.replays.specs.Steps.{seesOf, Judged};
+use history::record::EventNo;
+use history::record::Object;
+use history::record::Op;
+use history::record::ProcessNo;
+use objects::state::Given;
+use objects::state::State;
+
+// An event without its value and its answer.
+pub struct Light {
+    pub process: ProcessNo,
+    pub object: u8,
+    pub op: Op,
+}
+
+// Which answers are visible.
+pub enum Visible {
+    All,
+    Of(ProcessNo),
+    Only(EventNo),
+}
+
+// Whether an event's answer is visible.
+fn sees(who: Visible, process: ProcessNo, no: EventNo) -> bool
+    ensures { λ r. ⌜ r ≡ seesOf who (process .0) (no .0) ⌝ }
+{
+    match who {
+        Visible::All => true,
+        Visible::Of(p) => process.0 == p.0,
+        Visible::Only(e) => no.0 == e.0,
+    }
+}
+
+// The value of the event with this number; 0 past the last.
+fn value(values: &[u16; 65], number: u8) -> u16
+    requires { ⌜ length (now values) ≡ 65 ⌝ }
+    ensures { λ r. ⌜ r ≡ valueIn (now (values .entry)) number ⌝ }
+{
+    let at = number as usize;
+    if at < 65 { values[at] } else { 0 }
+}
+
+// Whether the recorded answer is what the state gives: the values of `given`, one by one.
+fn same(values: &[u16; 65], answer: [u16; 8], count: usize, given: Given) -> bool
+    requires { ⌜ (length (now values) ≡ 65) × (count ≤ 8) × (given .count ≤ 8) ⌝ }
+    ensures { λ r. ⌜ r ≡ sameList (take count answer) (givenOf (now (values .entry)) given) ⌝ }
+{
+    let many = given.count;
+    if many != count {
+        return false;
+    }
+    let mut i = 0;
+    while i < many {
+        let number = given.numbers[i];
+        let v = value(values, number);
+        if answer[i] != v {
+            return false;
+        }
+        i += 1;
+    }
+    true
+}
+
+// Whether the answer is visible and is not what the state gives.
+fn wrong(
+    who: Visible,
+    process: ProcessNo,
+    no: EventNo,
+    values: &[u16; 65],
+    answer: [u16; 8],
+    count: usize,
+    s: State,
+    op: Op,
+) -> bool
+    requires { ⌜ (length (now values) ≡ 65) × (count ≤ 8) × (s .head ≤ s .tail) × (s .tail ≤ 72) ⌝ }
+    ensures { λ r. ⌜ Judged (seesOf who (process .0) (no .0)) (now (values .entry)) (take count answer) s op r ⌝ }
+{
+    if sees(who, process, no) {
+        let given = s.answer(op);
+        !same(values, answer, count, given)
+    } else {
+        false
+    }
+}
+
+// The number of the first event of the view whose visible answer the replay does not give, or 64.
+pub fn replay(
+    objects: [Object; 16],
+    events: [Light; 64],
+    values: &[u16; 65],
+    answers: &[[u16; 8]; 64],
+    counts: &[u8; 64],
+    size: usize,
+    starts: [State; 16],
+    view: [u8; 64],
+    n: usize,
+    who: Visible,
+) -> usize
+    requires { ⌜ Ready objects size events (now values) (now counts) starts view n ⌝ }
+    ensures { λ r. ⌜ foundEvent r ≡ firstWrong (lightHistory objects size events (now (values .entry)) (now (answers .entry)) (now (counts .entry))) (isVisible (lightHistory objects size events (now (values .entry)) (now (answers .entry)) (now (counts .entry))) who) (contentsIn (now (values .entry)) starts) (take n view) ⌝ }
+{
+    let mut states = starts;
+    let mut i = 0;
+    while i < n {
+        let no = view[i];
+        let at = no as usize;
+        let e = events[at];
+        let o = e.object as usize;
+        let s = states[o];
+        let op = e.op;
+        let answer = answers[at];
+        let count = counts[at] as usize;
+        let process = e.process;
+        if wrong(who, process, EventNo(no), values, answer, count, s, op) {
+            return at;
+        }
+        let t = s.changed(op, EventNo(no));
+        states[o] = t;
+        i += 1;
+    }
+    64
+}
