@@ -63,3 +63,9 @@ pub wrong-nowhere : (h : History) (vis : ℕ → Bool) (s : Contents) (v : List 
 wrong-nowhere h vis s [] g = refl
 wrong-nowhere h vis s (x ∷ v) g =
     rw (g zero (omega arith)) (wrong-nowhere h vis (changed h s x) v (λ j m. g (suc j) (omega arith)))
+
+-- an element that is there, whatever stands for one that is not
+pub any-default : {A : Type 0} (l : List A) (i : ℕ) (d e : A) → i < length l → getD l i d ≡ getD l i e
+any-default [] i d e h = absurd (not-suc-le-zero h)
+any-default (x ∷ l) zero d e h = refl
+any-default (x ∷ l) (suc i) d e h = any-default l i d e (le-of-suc-le-suc h)

@@ -60,9 +60,3 @@ module _ (ps : List EventList) (i : ℕ) (d : EventList) (h : i < length ps) whe
       by-eq b i
       (λ e. rw (e, getD-set-same rows i row [] few) (s a ∙ sym (listed-here a)))
       (λ n. rw (getD-set-other rows i b row [] n) (o a b ∙ sym (listed-there a b n)))
-
--- an element that is there, whatever stands for one that is not
-pub any-default : {A : Type 0} (l : List A) (i : ℕ) (d e : A) → i < length l → getD l i d ≡ getD l i e
-any-default [] i d e h = absurd (not-suc-le-zero h)
-any-default (x ∷ l) zero d e h = refl
-any-default (x ∷ l) (suc i) d e h = any-default l i d e (omega arith)

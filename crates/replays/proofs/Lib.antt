@@ -1,1 +1,2 @@
 pub mod ReplayLaws
+pub mod LightLaws

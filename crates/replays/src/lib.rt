@@ -1,2 +1,3 @@
 // The replay of a view.
+pub mod light;
 pub mod replay;

@@ -6,11 +6,12 @@ use mathlib.Core.List.{map}
 use lib.ListN.{length, take, getD, length-set}
 use Rattle.certificate.specs.Record.{entriesIn}
 use Rattle.criteria.specs.Certificate.{listed}
+use Rattle.criteria.proofs.Loops.{any-default}
 use Rattle.orders.specs.Rows.{IsOrder}
 use Rattle.certificate.specs.declared.record.EventList.{EventList}
 use Rattle.certificate.specs.Record.{noList}
 use Rattle.orders.specs.Rows.{ShortList}
-use Rattle.orders.proofs.ListedLaws.{rows-begin, rows-more, any-default}
+use Rattle.orders.proofs.ListedLaws.{rows-begin, rows-more}
 use borrow.Author.Needs.{needs}
 use Rattle.orders.proofs.listed.past_rows.Statement.{statement}
 use Rattle.orders.proofs.listed.past_rows.Tie as tie

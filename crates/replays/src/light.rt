@@ -1,0 +1,85 @@
+// A history taken apart for its replays: light events, and beside them the values, the answers and how many values each answer has.
+ghost use mathlib.Core.Path.{_≡_};
+ghost use Prim.Native.Nat.{ℕ, _≤_, _<_};
+ghost use mathlib.Core.List.{[]};
+ghost use lib.ListN.{getD};
+ghost use Rattle.history.specs.Record.{noEvent};
+ghost use Rattle.replays.specs.Replay.{noLight};
+ghost use Rattle.replays.specs.Light.{lightOf};
+use crate::replay::Light;
+use history::record::Event;
+use history::record::Op;
+use history::record::ProcessNo;
+
+// The light record of each event.
+pub fn light_events(events: [Event; 64]) -> [Light; 64]
+    ensures { λ r. ⌜ ((e : ℕ) → e < 64 → getD r e noLight ≡ lightOf (getD events e noEvent)) ⌝ }
+{
+    let b = Light {
+        process: ProcessNo(0),
+        object: 0,
+        op: Op::Write,
+    };
+    let mut lights = [b; 64];
+    let mut i = 0;
+    while i < 64 {
+        let e = events[i];
+        let process = e.process;
+        let object = e.object;
+        let op = e.op;
+        let l = Light {
+            process,
+            object,
+            op,
+        };
+        lights[i] = l;
+        i += 1;
+    }
+    lights
+}
+
+// The value of each event, and 0 behind them for the start.
+pub fn values_of(events: [Event; 64]) -> [u16; 65]
+    ensures { λ r. ⌜ (getD r 64 0 ≡ 0) × ((e : ℕ) → e < 64 → getD r e 0 ≡ getD events e noEvent .value) ⌝ }
+{
+    let mut values = [0u16; 65];
+    let mut i = 0;
+    while i < 64 {
+        let e = events[i];
+        values[i] = e.value;
+        i += 1;
+    }
+    values
+}
+
+// The values of each answer.
+pub fn answers_of(events: [Event; 64]) -> [[u16; 8]; 64]
+    ensures { λ r. ⌜ ((e : ℕ) → e < 64 → getD r e [] ≡ getD events e noEvent .answer .values) ⌝ }
+{
+    let mut answers = [[0u16; 8]; 64];
+    let mut i = 0;
+    while i < 64 {
+        let e = events[i];
+        let answer = e.answer;
+        let values = answer.values;
+        answers[i] = values;
+        i += 1;
+    }
+    answers
+}
+
+// How many values each answer has.
+pub fn counts_of(events: [Event; 64]) -> [u8; 64]
+    requires { ⌜ ((e : ℕ) → e < 64 → getD events e noEvent .answer .count ≤ 8) ⌝ }
+    ensures { λ r. ⌜ ((e : ℕ) → e < 64 → getD r e 0 ≡ getD events e noEvent .answer .count) ⌝ }
+{
+    let mut counts = [0u8; 64];
+    let mut i = 0;
+    while i < 64 {
+        let e = events[i];
+        let answer = e.answer;
+        counts[i] = answer.count as u8;
+        i += 1;
+    }
+    counts
+}
