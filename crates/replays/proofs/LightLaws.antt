@@ -13,7 +13,6 @@ Made f d b xs ys i = (k : ℕ) → k < i → getD ys k b ≡ f (getD xs k d)
 
 module _ {A B : Type 0} (f : A → B) (d : A) (b : B) (xs : List A) (ys : List B) where
   pub made-more : (i : ℕ) (y : B) → i < length ys → y ≡ f (getD xs i d) → Made f d b xs ys i → Made f d b xs (set ys i y) (i + 1)
-
   made-more i y h q m k l =
       by-eq k i
       (λ e. rw (e, getD-set-same ys i y b h) q)

@@ -62,11 +62,12 @@ loop-again c =
     let i = c .before .before .before in
     let l = i .before .loop in
     let a = i .before .before .args in
-    let h = next-i i in
-    (omega (arith, h),
-    l .inv .1,
-    length-set (l .counts) (l .i) _ ∙ l .inv .2,
-    made-more (λ (x : Event). x .answer .count) noEvent 0 (a .t1) (l .counts) (l .i) _ (omega (arith, h, l .inv .2)) (ap (λ (x : Event). x .answer .count) (same-event i _)) (l .inv .3))
+    let h = next-i i in (
+      omega (arith, h),
+      l .inv .1,
+      length-set (l .counts) (l .i) _ ∙ l .inv .2,
+      made-more (λ (x : Event). x .answer .count) noEvent 0 (a .t1) (l .counts) (l .i) _ (omega (arith, h, l .inv .2)) (ap (λ (x : Event). x .answer .count) (same-event i _)) (l .inv .3),
+    )
 
 returns : tie.Need-returns Inv-loop μ-loop
 returns c =

@@ -54,12 +54,13 @@ loop-again c =
     let i = c .before in
     let l = i .before .loop in
     let a = i .before .before .args in
-    let h = next-i i in
-    (omega (arith, h),
-    l .inv .1,
-    length-set (l .values) (l .i) _ ∙ l .inv .2,
-    made-more (λ (x : Event). x .value) noEvent 0 (a .t1) (l .values) (l .i) _ (omega (arith, h, l .inv .2)) (ap (λ (x : Event). x .value) (same-event i _)) (l .inv .3),
-    getD-set-other (l .values) (l .i) 64 _ 0 (λ z. absurd (omega (arith, h, z))) ∙ l .inv .4)
+    let h = next-i i in (
+      omega (arith, h),
+      l .inv .1,
+      length-set (l .values) (l .i) _ ∙ l .inv .2,
+      made-more (λ (x : Event). x .value) noEvent 0 (a .t1) (l .values) (l .i) _ (omega (arith, h, l .inv .2)) (ap (λ (x : Event). x .value) (same-event i _)) (l .inv .3),
+      getD-set-other (l .values) (l .i) 64 _ 0 (λ z. absurd (omega (arith, h, z))) ∙ l .inv .4,
+    )
 
 returns : tie.Need-returns Inv-loop μ-loop
 returns c =
