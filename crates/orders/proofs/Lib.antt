@@ -1,5 +1,6 @@
 pub mod RowLaws
 pub mod ViewLaws
+pub mod SearchLaws
 pub mod ListedLaws
 pub mod ProgramLaws
 pub mod SizeLaws

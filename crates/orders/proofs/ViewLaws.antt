@@ -19,7 +19,7 @@ use Rattle.orders.specs.Rows.{inRow, inRows}
 use Rattle.orders.proofs.RowLaws.{both}
 
 -- tests that agree below n find the same
-any-same : (n : ℕ) (f g : ℕ → Bool) → ((i : ℕ) → i < n → f i ≡ g i) → any n f ≡ any n g
+pub any-same : (n : ℕ) (f g : ℕ → Bool) → ((i : ℕ) → i < n → f i ≡ g i) → any n f ≡ any n g
 any-same zero f g e = refl
 any-same (suc n) f g e = rw (any-same n f g (λ i l. e i (omega arith)), e n (omega arith))
 

@@ -4,7 +4,7 @@ use mathlib.Core.Path.{_≡_}
 use mathlib.Core.Bool.{Bool, false, cond, _&&_}
 use mathlib.Core.List.{List, []}
 use mathlib.Core.Option.{Option, none, some}
-use lib.ListN.{getD}
+use lib.ListN.{getD, take}
 use lib.Dec.{eqb, ltb}
 use Rattle.certificate.specs.declared.record.EventList.{EventList}
 
@@ -23,6 +23,15 @@ foundAt n k = cond (ltb k n) (some k) none
 pub record ShortList (l : EventList) : Type 0 where
   pub few : l .count ≤ 64
   pub entries : (k : ℕ) → k < l .count → getD (l .events) k 0 < 64
+
+-- The first m views, by their lengths: each has at most 64 entries, each below 64.
+pub record ShortViews (views : List (List ℕ)) (lengths : List ℕ) (m : ℕ) : Type 0 where
+  pub few : (k : ℕ) → k < m → getD lengths k 0 ≤ 64
+  pub entries : (k : ℕ) → k < m → (i : ℕ) → i < getD lengths k 0 → getD (getD views k []) i 0 < 64
+
+-- The view of number k, cut to its length.
+abbrev pub viewAt : List (List ℕ) → List ℕ → ℕ → List ℕ
+viewAt views lengths k = take (getD lengths k 0) (getD views k [])
 
 -- Rows are an order.
 abbrev pub IsOrder : List (List Bool) → (ℕ → ℕ → Bool) → Type 0

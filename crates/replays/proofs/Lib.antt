@@ -1,2 +1,5 @@
 pub mod ReplayLaws
 pub mod LightLaws
+pub mod HistoryLaws
+pub mod SearchLaws
+pub mod VisibleLaws

@@ -1,3 +1,5 @@
 pub mod Light
 pub mod Replay
 pub mod Steps
+pub mod Search
+pub mod Visible

@@ -1,3 +1,5 @@
 // The replay of a view.
 pub mod light;
 pub mod replay;
+pub mod search;
+pub mod visible;

@@ -1,0 +1,98 @@
+// The lowest view that is not its set, or is against the order.
+ghost use mathlib.Core.Path.{_≡_};
+ghost use mathlib.Core.Bool.{_||_};
+ghost use Prim.Native.Nat.{ℕ, _≤_, _<_};
+ghost use lib.Dec.{eqb, ltb};
+ghost use Rattle.criteria.specs.Tests.{lowest, foundIf, count};
+ghost use Rattle.criteria.specs.Check.{notItsSet, against};
+ghost use Rattle.orders.specs.Rows.{inRow, inRows, foundAt, ShortViews, viewAt};
+use crate::views::against_order;
+use crate::views::not_its_set;
+
+// The row of the first n events.
+fn all_row(n: usize) -> [bool; 64]
+    requires { ⌜ n ≤ 64 ⌝ }
+    ensures { λ r. ⌜ ((e : ℕ) → inRow r e ≡ ltb e n) ⌝ }
+{
+    let mut row = [false; 64];
+    let mut i = 0;
+    while i < n {
+        row[i] = true;
+        i += 1;
+    }
+    row
+}
+
+// A row and one event more.
+fn with_event(row: [bool; 64], e: usize) -> [bool; 64]
+    requires { ⌜ e < 64 ⌝ }
+    ensures { λ r. ⌜ ((f : ℕ) → inRow r f ≡ (inRow row f || eqb f e)) ⌝ }
+{
+    let mut more = row;
+    more[e] = true;
+    more
+}
+
+// 14: the lowest of the first m views that is not all n events, each once, or m.
+pub fn first_not_all(views: &[[u8; 64]; 64], lengths: [u8; 64], m: usize, n: usize) -> usize
+    requires { ⌜ (m ≤ 64) × (n ≤ 64) × ShortViews (now views) lengths m ⌝ }
+    ensures { λ r. ⌜ (r ≤ m) × (foundAt m r ≡ lowest m (λ k. foundIf (notItsSet 64 (λ e. ltb e n) (viewAt (now (views .entry)) lengths k)) k)) ⌝ }
+{
+    let all = all_row(n);
+    let mut k = 0;
+    while k < m {
+        let view = views[k];
+        let length = lengths[k] as usize;
+        if not_its_set(view, length, all) {
+            return k;
+        }
+        k += 1;
+    }
+    k
+}
+
+// 14: the lowest of the first m views that is not the past of its event and that event, each once, or m.
+pub fn first_not_past(
+    views: &[[u8; 64]; 64],
+    lengths: [u8; 64],
+    rows: &[[bool; 64]; 64],
+    m: usize,
+) -> usize
+    requires { ⌜ (m ≤ 64) × ShortViews (now views) lengths m ⌝ }
+    ensures { λ r. ⌜ (r ≤ m) × (foundAt m r ≡ lowest m (λ k. foundIf (notItsSet 64 (λ f. inRows (now (rows .entry)) f k || eqb f k) (viewAt (now (views .entry)) lengths k)) k)) ⌝ }
+{
+    let mut k = 0;
+    while k < m {
+        let view = views[k];
+        let length = lengths[k] as usize;
+        let row = rows[k];
+        let past = with_event(row, k);
+        if not_its_set(view, length, past) {
+            return k;
+        }
+        k += 1;
+    }
+    k
+}
+
+// 15: the lowest of the first m views, none with an entry twice, that is against the order, or m.
+pub fn first_against(
+    views: &[[u8; 64]; 64],
+    lengths: [u8; 64],
+    rows: &[[bool; 64]; 64],
+    m: usize,
+) -> usize
+    requires { ⌜ (m ≤ 64) × ShortViews (now views) lengths m × ((k : ℕ) → k < m → (e : ℕ) → count e (viewAt (now views) lengths k) ≤ 1) ⌝ }
+    ensures { λ r. ⌜ (r ≤ m) × (foundAt m r ≡ lowest m (λ k. foundIf (against (inRows (now (rows .entry))) (viewAt (now (views .entry)) lengths k)) k)) ⌝ }
+{
+    let mut k = 0;
+    while k < m {
+        let view = views[k];
+        let length = lengths[k] as usize;
+        if against_order(view, length, rows) {
+            return k;
+        }
+        k += 1;
+    }
+    k
+}

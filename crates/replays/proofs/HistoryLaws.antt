@@ -1,0 +1,183 @@
+-- A history taken apart is the history: its events, its objects and what they hold at the start. Assumes nothing.
+use Prim.Native.Nat.{ℕ, zero, suc, _+_, _≤_, _<_}
+use native.Mathlib.Nat.{not-suc-le-zero}
+use native.Mathlib.Numerals.{add-one}
+use native.Mathlib.Omega.{arith}
+use mathlib.Core.Path.{_≡_, refl, sym, ap, ap₂, _∙_}
+use mathlib.Core.Bool.{Bool, true, false, not, _&&_}
+use mathlib.Core.List.{List, [], _∷_, _++_, map, map-append}
+use mathlib.Core.Option.{Option}
+use lib.ListN.{length, getD, take, drop, set, length-map, length-set, take-append-drop, List·getD-append}
+use lib.Seq.{length-take-le, getD-take, set-append-left, ext-getD}
+use lib.Dec.{eqb}
+use borrow.Author.Tests.{eq-eqb}
+use Rattle.history.specs.declared.record.Kind.the-variants.{Register}
+use Rattle.history.specs.declared.record.Op.the-variants.{Read}
+use Rattle.history.specs.declared.record.Object.{Object}
+use Rattle.history.specs.declared.record.Event as written-event
+use Rattle.history.specs.declared.record.History as written-history
+use Rattle.history.specs.Record.{noObject, noEvent, objectsIn, eventsIn}
+use Rattle.history.proofs.PadLaws.{take-more}
+use Rattle.history_theorems.proofs.Guarantees.{SoundEvent, Sound}
+use Rattle.criteria.specs.Tests.{foundIf, or, table, mem, sameList}
+use Rattle.criteria.specs.Object.{fresh, after}
+use Rattle.criteria.specs.History.{Event, History, event, object}
+use Rattle.criteria.specs.Replay.{Contents, start, answered, changed}
+use Rattle.criteria.specs.Check.{right, firstWrong}
+use Rattle.criteria.specs.Records.{eventOf, historyOf}
+use Rattle.criteria.proofs.Lists.{true-or-left, true-or-right}
+use Rattle.objects.specs.declared.state.State.{State}
+use Rattle.objects.specs.State.{valueIn, contentsOf, noState, Fresh}
+use Rattle.replays.specs.declared.replay.Light.{Light}
+use Rattle.replays.specs.declared.replay.Visible.{Visible}
+use Rattle.replays.specs.declared.replay.Visible.the-variants.{All, Of, Only}
+use Rattle.replays.specs.Replay.{noLight, eventAt, lightHistory, contentsIn, isVisible, Ready}
+use Rattle.replays.specs.Light.{lightOf}
+use Rattle.replays.proofs.ReplayLaws.{fresh-stands}
+use Rattle.replays.proofs.LightLaws.{Made}
+
+-- an element of a list that is mapped
+getD-mapped : {A : Type 0} (f : A → List ℕ) (l : List A) (i : ℕ) (d : A) → i < length l → getD (map f l) i [] ≡ f (getD l i d)
+getD-mapped f [] i d h = absurd (not-suc-le-zero h)
+getD-mapped f (x ∷ l) zero d h = refl
+getD-mapped f (x ∷ l) (suc i) d h = getD-mapped f l i d (omega arith)
+
+-- ---- the events
+table-takes : {A B : Type 0} (f : ℕ → B) (g : A → B) (xs : List A) (d : A) (n : ℕ) → n ≤ length xs → ((e : ℕ) → e < n → f e ≡ g (getD xs e d))
+    → table n f ≡ map g (take n xs)
+table-takes f g xs d zero h e = refl
+table-takes f g xs d (suc n) h e =
+    ap₂ (λ l x. l ++ x ∷ []) (table-takes f g xs d n (omega arith) (λ k l. e k (omega arith))) (e n (omega arith))
+    ∙ sym (ap (map g) (rw add-one at (take-more xs n d (omega arith))) ∙ map-append g (take n xs) (getD xs n d ∷ []))
+
+module _ (es : List written-event.Event) (ls : List Light) (vs : List ℕ) (answers : List (List ℕ)) (cs : List ℕ)
+    (lights : Made lightOf noEvent noLight es ls 64)
+    (values : Made (λ (x : written-event.Event). x .value) noEvent 0 es vs 64)
+    (answered-as : Made (λ (x : written-event.Event). x .answer .values) noEvent [] es answers 64)
+    (counts : Made (λ (x : written-event.Event). x .answer .count) noEvent 0 es cs 64) where
+  event-as : (e : ℕ) → e < 64 → eventAt ls vs answers cs e ≡ eventOf (getD es e noEvent)
+  unfolding eventOf
+  event-as e h = rw (lights e h, values e h, answered-as e h, counts e h)
+
+  pub events-are : (n : ℕ) → n ≤ 64 → length es ≡ 64 → table n (eventAt ls vs answers cs) ≡ map eventOf (take n es)
+  events-are n few long =
+      table-takes (eventAt ls vs answers cs) eventOf es noEvent n (omega arith) (λ e h. event-as e (omega arith))
+
+-- ---- the objects: only those that events name count
+module _ (os ps : List Object) (es : List Event)
+    (agree : (o : ℕ) → getD os o record { kind = Register; width = 0 } ≡ getD ps o record { kind = Register; width = 0 }) where
+  pub other-objects : (vis : ℕ → Bool) (s : Contents) (v : List ℕ)
+      → firstWrong record { objects = os; events = es } vis s v ≡ firstWrong record { objects = ps; events = es } vis s v
+  unfolding right
+  other-objects vis s [] = refl
+  other-objects vis s (e ∷ v) =
+      rw (agree (event record { objects = os; events = es } e .object))
+      (ap (λ (x : Option ℕ). or (foundIf (vis e && not (right record { objects = ps; events = es } s e)) e) x)
+      (other-objects vis (changed record { objects = ps; events = es } s e) v))
+
+-- ---- what is visible, event by event
+pub same-visible : (h : History) (vis seen : ℕ → Bool) → ((e : ℕ) → vis e ≡ seen e) → (s : Contents) (v : List ℕ)
+    → firstWrong h vis s v ≡ firstWrong h seen s v
+same-visible h vis seen q s [] = refl
+same-visible h vis seen q s (e ∷ v) =
+    rw (q e) (ap (λ (x : Option ℕ). or (foundIf (seen e && not (right h s e)) e) x) (same-visible h vis seen q (changed h s e) v))
+
+pub visible-events : (os ps : List Object) (es : List Event) (who : Visible) (e : ℕ)
+    → isVisible record { objects = os; events = es } who e ≡ isVisible record { objects = ps; events = es } who e
+visible-events os ps es All e = refl
+visible-events os ps es (Of p) e = refl
+visible-events os ps es (Only f) e = refl
+
+-- ---- what the objects hold: cells that no event names do not count
+module _ (h : History) (vis : ℕ → Bool) (t : Contents) where
+  pub longer : (s : Contents) (v : List ℕ) → ((e : ℕ) → mem e v ≡ true → event h e .object < length s)
+      → firstWrong h vis (s ++ t) v ≡ firstWrong h vis s v
+  unfolding right
+  longer s [] f = refl
+  longer s (e ∷ v) f =
+      let l : event h e .object < length s = f e (true-or-left (mem e v) (eq-eqb e e refl)) in
+      rw (List·getD-append s t [] (event h e .object) l, set-append-left s t (event h e .object) (after (object h (event h e .object)) (event h e .op) (event h e .value) (getD s (event h e .object) [])) l)
+      (ap (λ (x : Option ℕ). or (foundIf (vis e && not (right h s e)) e) x)
+      (longer (changed h s e) v
+      (λ k m. omega (arith, f k (true-or-right (eqb k e) m), length-set s (event h e .object) (after (object h (event h e .object)) (event h e .op) (event h e .value) (getD s (event h e .object) []))))))
+
+-- the first cells are those of the declared objects
+pub starts-are : (os all : List Object) (states : List State) (vs : List ℕ) → length os ≤ length states → valueIn vs 64 ≡ 0
+    → ((o : ℕ) → o < length os → getD all o noObject ≡ getD os o noObject)
+    → ((o : ℕ) → o < length os → Fresh (getD all o noObject) (getD states o noState))
+    → take (length os) (contentsIn vs states) ≡ map fresh os
+starts-are os all states vs few z same fresh-as =
+    let n : length (take (length os) (contentsIn vs states)) ≡ length os =
+    length-take-le (length os) (contentsIn vs states) (omega (arith, length-map states (contentsOf vs))) in
+    ext-getD [] (take (length os) (contentsIn vs states)) (map fresh os) (n ∙ sym (length-map os fresh))
+    (λ o h.
+    let l : o < length os = omega (arith, n) in
+    getD-take (length os) (contentsIn vs states) o [] l
+    ∙ getD-mapped (contentsOf vs) states o noState (omega arith)
+    ∙ fresh-as o l .contents vs z
+    ∙ ap fresh (same o l)
+    ∙ sym (getD-mapped fresh os o noObject l))
+
+-- ---- a replay of the parts is a replay of the history
+module _ (h : written-history.History) (ls : List Light) (vs : List ℕ) (answers : List (List ℕ)) (cs : List ℕ) (states : List State)
+    (lights : Made lightOf noEvent noLight (h .events) ls 64)
+    (values : Made (λ (x : written-event.Event). x .value) noEvent 0 (h .events) vs 64)
+    (answered-as : Made (λ (x : written-event.Event). x .answer .values) noEvent [] (h .events) answers 64)
+    (counts : Made (λ (x : written-event.Event). x .answer .count) noEvent 0 (h .events) cs 64)
+    (zero-value : valueIn vs 64 ≡ 0)
+    (few : h .count ≤ 64)
+    (long : length (h .events) ≡ 64)
+    (places : length (objectsIn h) ≤ length states)
+    (agree : (o : ℕ) → getD (h .objects) o noObject ≡ getD (objectsIn h) o noObject)
+    (fresh-as : (o : ℕ) → o < length (objectsIn h) → Fresh (getD (h .objects) o noObject) (getD states o noState))
+    (who : Visible) (v : List ℕ)
+    (named : (e : ℕ) → mem e v ≡ true → event (historyOf h) e .object < length (objectsIn h)) where
+  same-start : contentsIn vs states ≡ map fresh (objectsIn h) ++ drop (length (objectsIn h)) (contentsIn vs states)
+  same-start =
+      sym (take-append-drop (length (objectsIn h)) (contentsIn vs states))
+      ∙ ap (λ (l : Contents). l ++ drop (length (objectsIn h)) (contentsIn vs states))
+      (starts-are (objectsIn h) (h .objects) states vs places zero-value (λ o l. agree o) fresh-as)
+
+  pub replay-is : firstWrong (lightHistory (h .objects) (h .count) ls vs answers cs) (isVisible (lightHistory (h .objects) (h .count) ls vs answers cs) who)
+      (contentsIn vs states) v
+      ≡ firstWrong (historyOf h) (isVisible (historyOf h) who) (start (historyOf h)) v
+  unfolding lightHistory historyOf
+  replay-is =
+      let es : List Event = map eventOf (eventsIn h) in
+      let k : History = record { objects = objectsIn h; events = map eventOf (eventsIn h) } in
+      ap (λ (l : List Event). firstWrong record { objects = h .objects; events = l } (isVisible record { objects = h .objects; events = l } who) (contentsIn vs states) v)
+      (events-are (h .events) ls vs answers cs lights values answered-as counts (h .count) few long)
+      ∙ other-objects (h .objects) (objectsIn h) es agree (isVisible record { objects = h .objects; events = es } who) (contentsIn vs states) v
+      ∙ same-visible k (isVisible record { objects = h .objects; events = es } who) (isVisible k who) (visible-events (h .objects) (objectsIn h) es who) (contentsIn vs states) v
+      ∙ ap (λ (s : Contents). firstWrong k (isVisible k who) s v) same-start
+      ∙ longer k (isVisible k who) (drop (length (objectsIn h)) (contentsIn vs states)) (map fresh (objectsIn h)) v
+      (λ e m. omega (arith, named e m, length-map (objectsIn h) fresh))
+
+-- ---- what a replay takes for granted is what the reader guarantees
+module _ (h : written-history.History) (s : Sound h) (ls : List Light) (vs cs : List ℕ) (states : List State) (view : List ℕ) (n : ℕ)
+    (lights : Made lightOf noEvent noLight (h .events) ls 64)
+    (counts : Made (λ (x : written-event.Event). x .answer .count) noEvent 0 (h .events) cs 64)
+    (values-long : length vs ≡ 65)
+    (agree : (o : ℕ) → getD (h .objects) o noObject ≡ getD (objectsIn h) o noObject)
+    (fresh-as : (o : ℕ) → o < 16 → Fresh (getD (h .objects) o noObject) (getD states o noState))
+    (short-view : n ≤ 64)
+    (entries : (i : ℕ) → i < n → getD view i 0 < h .count) where
+  sound-at : (e : ℕ) → e < h .count → SoundEvent (objectsIn h) (getD (h .events) e noEvent)
+  sound-at e l =
+      let q : getD (eventsIn h) e noEvent ≡ getD (h .events) e noEvent = getD-take (h .count) (h .events) e noEvent l in
+      rw q at (s .event e l)
+
+  light-at : (e : ℕ) → e < h .count → getD ls e noLight ≡ lightOf (getD (h .events) e noEvent)
+  light-at e l = lights e (omega (arith, s .count))
+
+  pub ready-of : Ready (h .objects) (h .count) ls vs cs states view n
+  ready-of = record {
+    values = values-long;
+    small = s .count;
+    short = short-view;
+    event = entries;
+    object = λ e l. rw (light-at e l) (omega (arith, sound-at e l .declared, s .objects, s .declared));
+    fits = λ e l. rw (light-at e l, agree (getD (h .events) e noEvent .object)) (sound-at e l .op);
+    answer = λ e l. rw (counts e (omega (arith, s .count))) (sound-at e l .few);
+    start = λ o l. fresh-stands (getD (h .objects) o noObject) (getD states o noState) (fresh-as o l);
+  }

@@ -1,0 +1,32 @@
+-- Laws of the search for the lowest view with a wrong answer. Assumes nothing.
+use Prim.Native.Nat.{ℕ, _+_, _≤_, _<_}
+use native.Mathlib.Omega.{arith}
+use mathlib.Core.Path.{_≡_, refl, sym, ap, _∙_}
+use mathlib.Core.List.{List}
+use mathlib.Core.Option.{Option, none, some}
+use borrow.Author.Tests.{lt-ltb, le-ltb}
+use Rattle.layout.proofs.Cases.{by-eq}
+use Rattle.criteria.specs.Tests.{lowest}
+use Rattle.criteria.proofs.Lists.{none-lowest}
+use Rattle.criteria.proofs.Loops.{lowest-found}
+use Rattle.replays.specs.declared.search.Place.{Place}
+use Rattle.replays.specs.Replay.{foundEvent}
+use Rattle.replays.specs.Search.{atView, placeOf}
+
+-- the replay of view k found the event e, or none
+pub wrong-here : (k e : ℕ) (o : Option ℕ) → foundEvent e ≡ o → e < 64 → atView k o ≡ some record { view = k; event = e }
+wrong-here k e o q h = ap (atView k) (sym q) ∙ rw (lt-ltb e 64 h)
+
+pub wrong-not : (k e : ℕ) (o : Option ℕ) → foundEvent e ≡ o → 64 ≤ e → atView k o ≡ none
+wrong-not k e o q h = ap (atView k) (sym q) ∙ rw (le-ltb e 64 h)
+
+module _ (m : ℕ) (f : ℕ → Option Place) where
+  pub place-found : (k e : ℕ) → k < m → e < 64 → ((i : ℕ) → i < k → f i ≡ none) → f k ≡ some record { view = k; event = e }
+      → placeOf record { view = k; event = e } ≡ lowest m f
+  place-found k e l h g q = rw (lt-ltb e 64 h) (sym (lowest-found m f k record { view = k; event = e } l g q))
+
+  pub place-none : (k : ℕ) → m ≤ k → ((i : ℕ) → i < k → f i ≡ none) → placeOf record { view = 0; event = 64 } ≡ lowest m f
+  place-none k l g = sym (none-lowest m f (λ i h. g i (omega arith)))
+
+  pub place-on : (k : ℕ) → ((i : ℕ) → i < k → f i ≡ none) → f k ≡ none → (i : ℕ) → i < k + 1 → f i ≡ none
+  place-on k g q i h = by-eq i k (λ e. rw e q) (λ n. g i (omega (arith, n)))
