@@ -16,6 +16,7 @@ use Rattle.history.specs.Record.{pad}
 use Rattle.history.specs.Readable.{allLess, allZero}
 use Rattle.history.proofs.PadLaws.{pad-length, take-pad}
 use Rattle.history.proofs.WithinLaws.{zero-is, padded, drop-pad}
+use Rattle.certificate.proofs.NumberingLaws.{numbers-few}
 use Rattle.certificate.specs.declared.record.Criterion.{Criterion}
 use Rattle.certificate.specs.declared.record.Criterion.the-variants.{Pram, Weak, Causal, Converge, Sequential}
 use Rattle.certificate.specs.declared.record.EventList.{EventList}
@@ -26,22 +27,10 @@ use Rattle.certificate.specs.Faults.{rising}
 use Rattle.certificate.specs.Readable.{goodLists, goodRow, goodPasts, blankLists, goodRows, blankRows, fits}
 
 -- ---- the numbers of the views: at most 64, each below 64
-count-length : (k n : ℕ) → length (countFrom k n) ≡ n
-unfolding countFrom
-count-length k zero = refl
-count-length k (suc n) = ap suc (count-length (k + 1) n)
-
 pub count-below : (bound k n : ℕ) → k + n ≤ bound → allLess bound (countFrom k n) ≡ true
 unfolding countFrom allLess
 count-below bound k zero h = refl
 count-below bound k (suc n) h = rw (lt-ltb k bound (omega arith)) (count-below bound (k + 1) n (omega arith))
-
-processes-few : (es : List Event) (p n : ℕ) → length (processesFrom es p n) ≤ n
-unfolding processesFrom
-processes-few es p zero = omega arith
-processes-few es p (suc n) =
-    let ih = processes-few es (p + 1) n in
-    by-bool (hasEvents p es) (λ t. rw t (omega arith)) (λ t. rw t (omega arith))
 
 processes-below : (bound : ℕ) (es : List Event) (p n : ℕ) → p + n ≤ bound → allLess bound (processesFrom es p n) ≡ true
 unfolding processesFrom allLess
@@ -53,14 +42,6 @@ processes-below bound es p (suc n) h =
 one-below : allLess 64 (0 ∷ []) ≡ true
 unfolding allLess
 one-below = refl
-
-pub numbers-few : (c : Criterion) (es : List Event) → length es ≤ 64 → length (viewNumbers c es) ≤ 64
-unfolding viewNumbers
-numbers-few Pram es h = omega (arith, processes-few es 0 8)
-numbers-few Weak es h = omega (arith, count-length 0 (length es))
-numbers-few Causal es h = omega (arith, count-length 0 (length es))
-numbers-few Converge es h = omega arith
-numbers-few Sequential es h = omega arith
 
 pub numbers-below : (c : Criterion) (es : List Event) → length es ≤ 64 → allLess 64 (viewNumbers c es) ≡ true
 unfolding viewNumbers
@@ -149,7 +130,7 @@ module _ {A : Type 0} (places : ℕ) (blank : A) where
     made-is ys n l h d e = padded places blank ys n l h d ∙ ap (pad places blank) e
 
 -- ---- the pasts and the views of the record that is made of them
-entries-made : (ls : List (List ℕ)) → map entriesIn (map eventListOf ls) ≡ ls
+pub entries-made : (ls : List (List ℕ)) → map entriesIn (map eventListOf ls) ≡ ls
 unfolding eventListOf
 entries-made [] = refl
 entries-made (l ∷ ls) = ap₂ {C = List (List ℕ)} _∷_ (take-pad 64 0 l) (entries-made ls)

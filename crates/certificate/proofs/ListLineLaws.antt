@@ -19,7 +19,7 @@ use Rattle.certificate.specs.Faults.{rising, listLayout, listLimits, pai
 use Rattle.certificate.specs.Steps.Lists.{listWith, pairRead, listRead}
 
 -- ---- a loop that compares each item with the one before it, at the place i of the first n items
-rising-one : (xs : List ℕ) → length xs ≤ 1 → rising xs ≡ true
+pub rising-one : (xs : List ℕ) → length xs ≤ 1 → rising xs ≡ true
 unfolding rising
 rising-one [] h = refl
 rising-one (x ∷ []) h = refl

@@ -161,13 +161,13 @@ module _ {es : List Event} {numbers : List ℕ} {count p : ℕ} (g : Gathered es
       sym (g .are ∙ ap (λ (m : ℕ). take count numbers ++ processesFrom es p m) k ∙ append-nil (take count numbers))
 
 -- ---- the numbers of a criterion, at most 64
-views-few : (c : Criterion) (es : List Event) → length es ≤ 64 → length (viewNumbers c es) ≤ 64
+pub numbers-few : (c : Criterion) (es : List Event) → length es ≤ 64 → length (viewNumbers c es) ≤ 64
 unfolding viewNumbers
-views-few Pram es h = omega (arith, processes-few es 0 8)
-views-few Weak es h = omega (arith, count-long 0 (length es))
-views-few Causal es h = omega (arith, count-long 0 (length es))
-views-few Converge es h = omega arith
-views-few Sequential es h = omega arith
+numbers-few Pram es h = omega (arith, processes-few es 0 8)
+numbers-few Weak es h = omega (arith, count-long 0 (length es))
+numbers-few Causal es h = omega (arith, count-long 0 (length es))
+numbers-few Converge es h = omega arith
+numbers-few Sequential es h = omega arith
 
 module _ (c : Criterion) (events : List Event) (n : ℕ) (room : n ≤ 64) (long : length events ≡ 64) (r : ViewNumbers) where
   abbrev es : List Event
@@ -181,7 +181,7 @@ module _ (c : Criterion) (events : List Event) (n : ℕ) (room : n ≤ 64) (long
   views-are ns e k =
       let t : r ≡ viewNumbersOf (viewNumbers c es) = e ∙ ap viewNumbersOf k in
       let l : r .count ≡ length (viewNumbers c es) = ap (λ (v : ViewNumbers). v .count) t in
-      (t, omega (arith, views-few c es (omega (arith, all))))
+      (t, omega (arith, numbers-few c es (omega (arith, all))))
 
   pub process-views : c ≡ Pram → r ≡ viewNumbersOf (processesFrom es 0 8) → (r ≡ viewNumbersOf (viewNumbers c es)) × (r .count ≤ 64)
   unfolding viewNumbers

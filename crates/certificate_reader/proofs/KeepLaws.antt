@@ -21,6 +21,7 @@ use Rattle.certificate.specs.declared.record.Criterion.{Criterion}
 use Rattle.certificate.specs.declared.record.EventList.{EventList}
 use Rattle.certificate.specs.declared.list.ListLine.{ListLine}
 use Rattle.certificate.specs.Record.{noList, noRow, eventListOf, rowOf, certificateOf, rowsOf, entriesIn}
+use Rattle.certificate.proofs.FitsLaws.{entries-made}
 use Rattle.certificate.specs.Criteria.{hasPasts, countFrom, viewNumbers, criterionOf}
 use Rattle.certificate.specs.Faults.{rising, criterionLine, listLayout, listLimits, pairFault, listFault, listSaid}
 use Rattle.certificate.specs.declared.numbers.ViewNumbers.{ViewNumbers}
@@ -163,17 +164,12 @@ pub record ReadingPasts (whole : Lines) (c : Criterion) (count : ℕ) (numbers :
   pub array-is : array ≡ pad 64 noList (map eventListOf pasts)
   pub is : whole ≡ listsFrom true count (viewsFrom c count numbers) (countFrom i (count - i)) pasts line a (split 10 (drop a s))
 
-entries-back : (ls : List (List ℕ)) → map entriesIn (map eventListOf ls) ≡ ls
-unfolding eventListOf
-entries-back [] = refl
-entries-back (l ∷ ls) = rw (take-pad 64 0 l) (ap (λ (r : List (List ℕ)). l ∷ r) (entries-back ls))
-
 -- the lists in an array that holds the lists ls
 pub lists-in : (array : List EventList) (n : ℕ) (ls : List (List ℕ)) → array ≡ pad 64 noList (map eventListOf ls) → length ls ≡ n
     → map entriesIn (take n array) ≡ ls
 lists-in array n ls e k =
     let m : n ≡ length (map eventListOf ls) = sym (length-map ls eventListOf ∙ k) in
-    rw (e, m, take-pad 64 noList (map eventListOf ls)) (entries-back ls)
+    rw (e, m, take-pad 64 noList (map eventListOf ls)) (entries-made ls)
 
 module _ (c : Criterion) (count : ℕ) (numbers : List ℕ) (s : List ℕ) where
   pub pasts-begin : (array : List EventList) (line a : ℕ) → array ≡ replicate 64 noList

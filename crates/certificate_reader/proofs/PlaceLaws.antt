@@ -12,6 +12,7 @@ use Rattle.layout.specs.Word.{same, pastHeading, viewHeading}
 use Rattle.layout.proofs.Cases.{by-eq}
 use Rattle.layout.proofs.SplitLaws.{join-split}
 use Rattle.history.specs.declared.record.Event.{Event}
+use Rattle.history_reader.proofs.PlaceLaws.{join-more, join-one}
 use Rattle.certificate.specs.declared.record.Criterion.{Criterion}
 use Rattle.certificate.specs.Criteria.{hasPasts, countFrom, viewNumbers, criterionOf}
 use Rattle.certificate.specs.Faults.{criterionLine, listFault, listSaid}
@@ -20,15 +21,6 @@ use Rattle.certificate_reader.specs.ReadCertificate.{Lines, refusal, acc
 pub record Placed (n : ℕ) (r : Lines) : Type 0 where
   pub from : r .start ≤ r .end
   pub to : r .end ≤ n
-
--- the next line and the rest
-join-more : (p q : List ℕ) (ps : List (List ℕ)) → length (join 10 (p ∷ q ∷ ps)) ≡ length p + 1 + length (join 10 (q ∷ ps))
-unfolding join
-join-more p q ps = omega (arith, length-append p (10 ∷ join 10 (q ∷ ps)))
-
-join-one : (p : List ℕ) → join 10 (p ∷ []) ≡ p
-unfolding join
-join-one p = refl
 
 module _ (n : ℕ) where
   placed-refusal : (fault line at size : ℕ) → at + size ≤ n → Placed n (refusal fault line at size)

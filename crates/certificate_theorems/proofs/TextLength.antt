@@ -23,7 +23,8 @@ use Rattle.certificate.specs.Criteria.{wordOf, hasPasts, countFrom, viewNumbers
 use Rattle.certificate.specs.Faults.{rising}
 use Rattle.certificate.specs.CertificateText.{listLine, listLines, criterionText, viewPart, pastPart, textOf}
 use Rattle.certificate.specs.Readable.{goodLists}
-use Rattle.certificate.proofs.FitsLaws.{count-below, numbers-few, numbers-below, pasts-few}
+use Rattle.certificate.proofs.FitsLaws.{count-below, numbers-below, pasts-few}
+use Rattle.certificate.proofs.NumberingLaws.{numbers-few}
 
 -- ---- a list of events, each below 64
 items-short : (count : ℕ) (xs : List ℕ) → count ≤ 64 → allLess count xs ≡ true → length (join 44 (map spell xs)) ≤ length xs * 3

@@ -15,7 +15,8 @@ use Rattle.layout.proofs.WordLaws.{same-true, same-refl}
 use Rattle.history.specs.declared.record.Event.{Event}
 use Rattle.history.specs.HistoryText.{linesText}
 use Rattle.history.specs.Readable.{allLess}
-use Rattle.history_theorems.proofs.TextRound.{split-lines}
+use Rattle.history_theorems.proofs.TextRound.{split-lines, more}
+use Rattle.certificate.proofs.NumberingLaws.{count-long}
 use Rattle.certificate.specs.declared.record.Criterion.{Criterion}
 use Rattle.certificate.specs.Criteria.{hasPasts, countFrom, viewNumbers, pastCount, criterionOf}
 use Rattle.certificate.specs.Faults.{rising, criterionLine, listFault, listSaid}
@@ -71,9 +72,6 @@ module _ (numbers : List ℕ) (pasts views : List (List ℕ)) where
       ∙ ap (λ (r : List (List ℕ)). criterionText c ∷ r) (body-parts (hasPasts c))
 
 -- ---- lines without a fault, whatever their places: a heading, and lists
-more : (ls : List (List ℕ)) (l : List ℕ) (ms : List (List ℕ)) → 0 < length (ls ++ (l ∷ ms))
-more ls l ms = omega (arith, length-append ls (l ∷ ms))
-
 heading-read : (heading : List ℕ) (next : ℕ → ℕ → List (List ℕ) → Lines) (line at : ℕ) (ps : List (List ℕ)) (r : Lines)
     → 0 < length ps → ((k a : ℕ) → next k a ps ≡ r) → headingFrom heading next line at (heading ∷ ps) ≡ r
 unfolding headingFrom
@@ -112,11 +110,6 @@ module _ (past : Bool) (count : ℕ) (next : List (List ℕ) → ℕ → ℕ →
 end-read : (r : Lines) (line at : ℕ) → endFrom r line at ([] ∷ []) ≡ r
 unfolding endFrom
 end-read r line at = refl
-
-count-long : (k n : ℕ) → length (countFrom k n) ≡ n
-unfolding countFrom
-count-long k zero = refl
-count-long k (suc n) = ap suc (count-long (k + 1) n)
 
 module _ (c : Criterion) (count : ℕ) (numbers : List ℕ) (pasts views : List (List ℕ)) (many : length views ≡ length numbers)
     (good : goodLists false count views ≡ true) where

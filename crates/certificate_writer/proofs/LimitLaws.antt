@@ -15,6 +15,7 @@ use Rattle.history.specs.declared.record.History.{History}
 use Rattle.history.specs.Record.{eventsIn}
 use Rattle.history.specs.Readable.{allLess, allZero}
 use Rattle.history_writer.proofs.LimitLaws.{Every, and-true}
+use Rattle.certificate.proofs.ListLineLaws.{rising-one}
 use Rattle.certificate.specs.declared.record.EventList.{EventList}
 use Rattle.certificate.specs.declared.record.Certificate.{Certificate}
 use Rattle.certificate.specs.declared.numbers.ViewNumbers.{ViewNumbers}
@@ -69,12 +70,6 @@ list-blank l blank e = rw e (sym (and-assoc (eqb (l .count) 0) (eqb (length (l .
 
 -- ---- the first n events are rising
 -- at most one event is rising
-rising-short : (xs : List ℕ) → length xs ≤ 1 → rising xs ≡ true
-unfolding rising
-rising-short [] h = refl
-rising-short (x ∷ []) h = refl
-rising-short (x ∷ y ∷ ys) h = absurd (not-suc-le-zero (le-of-suc-le-suc h))
-
 -- a loop that compares the event i with the one before it
 module _ (xs : List ℕ) (n i : ℕ) (few : n ≤ length xs) (above : 0 < i) where
   -- what is left: the two events, and those behind them
@@ -100,7 +95,7 @@ module _ (xs : List ℕ) (n i : ℕ) (few : n ≤ length xs) (above : 0 < i) whe
 
   pub rising-ends : n ≤ i → rising (drop (i - 1) (take n xs)) ≡ true
   rising-ends h =
-      rising-short (drop (i - 1) (take n xs)) (omega (arith, length-drop (i - 1) (take n xs), length-take-le n xs few))
+      rising-one (drop (i - 1) (take n xs)) (omega (arith, length-drop (i - 1) (take n xs), length-take-le n xs few))
 
 -- ---- the first m rows are good, of the first m lengths
 module _ (count : ℕ) (ns : List ℕ) (rows : List (List ℕ)) (m i : ℕ) (few : m ≤ length ns) (few′ : m ≤ length rows) where

@@ -196,7 +196,7 @@ order-built : (h : History) (b : Bool) (R : ℕ → ℕ → Bool) → OfEvents h
 order-built h true R i o = listed-pasts h R i
 order-built h false R i o = sym (o refl)
 
-nil-events : (n : ℕ) → EventsOf n []
+pub nil-events : (n : ℕ) → EventsOf n []
 nil-events n = (λ e t. absurd (false≢true t), omega arith)
 
 keep-events : (n : ℕ) (f : ℕ → Bool) → EventsOf n (keep f (upTo n))

@@ -21,13 +21,14 @@ use Rattle.certificate.specs.Record.{pastsIn, viewsIn}
 use Rattle.certificate.specs.Criteria.{hasPasts, countFrom, hasEvents, processesFrom, viewNumbers}
 use Rattle.certificate.specs.Criteria as text
 use Rattle.certificate.specs.Faults.{rising}
+use Rattle.certificate.proofs.NumberingLaws.{count-long}
 use Rattle.certificate_theorems.proofs.Guarantees as certificate-guarantees
 use Rattle.criteria.specs.Tests.{any, keepIf, keep, upTo, mem, RisingFrom, Rising}
 use Rattle.criteria.specs.History.{Event, History, size, event, process, own}
 use Rattle.criteria.specs.Certificate.{active, processes, pastCount, viewCount, viewNumber, EventsOf, Readable}
 use Rattle.criteria.specs.Records.{eventOf, historyOf, certificateOf}
 use Rattle.criteria.proofs.Lists.{by-test, any-at, any-some, same-test, true-or-left, true-or-right}
-use Rattle.criteria.proofs.Meeting.{FewProcesses}
+use Rattle.criteria.proofs.Meeting.{FewProcesses, nil-events}
 
 -- ---- the events of a history
 pub size-is : (h : written-history.History) → size (historyOf h) ≡ length (eventsIn h)
@@ -103,11 +104,6 @@ unfolding processes
 processes-are h = ap (keep (active (historyOf h))) eight ∙ kept-processes (eventsIn h) (active (historyOf h)) (active-is h) 0 8
 
 -- ---- how many pasts and views there are, and their numbers
-count-long : (k n : ℕ) → length (countFrom k n) ≡ n
-unfolding countFrom
-count-long k zero = refl
-count-long k (suc n) = ap suc (count-long (k + 1) n)
-
 count-at : (k n i : ℕ) → i < n → getD (countFrom k n) i 0 ≡ k + i
 unfolding countFrom
 count-at k zero i h = absurd (not-suc-le-zero h)
@@ -164,9 +160,6 @@ sound-events {past} {n} {l} s = (
   s .few,
 )
 
-none-of : (n : ℕ) → EventsOf n []
-none-of n = (λ e t. absurd (false≢true t), omega arith)
-
 -- a list with a number, or the empty one past the last
 sound-at : (P : List ℕ → Type 0) (ls : List (List ℕ)) (k : ℕ) → P [] → (k < length ls → P (getD ls k [])) → P (getD ls k [])
 sound-at P ls k none some =
@@ -183,7 +176,7 @@ readable h c rows s =
     record {
       pastsListed = s .pasts ∙ sym (past-count w h);
       viewsListed = s .views ∙ sym (view-count w h);
-      past = λ k. rw n (sound-at (EventsOf (length (eventsIn h))) ps k (none-of (length (eventsIn h))) (λ l. sound-events (s .past k (omega (arith, s .pasts)))));
-      view = λ k. rw n (sound-at (EventsOf (length (eventsIn h))) vs k (none-of (length (eventsIn h))) (λ l. sound-events (s .view k (omega (arith, s .views)))));
+      past = λ k. rw n (sound-at (EventsOf (length (eventsIn h))) ps k (nil-events (length (eventsIn h))) (λ l. sound-events (s .past k (omega (arith, s .pasts)))));
+      view = λ k. rw n (sound-at (EventsOf (length (eventsIn h))) vs k (nil-events (length (eventsIn h))) (λ l. sound-events (s .view k (omega (arith, s .views)))));
       rising = λ k. sound-at Rising ps k tt (λ l. rises (getD ps k []) (s .past k (omega (arith, s .pasts)) .rises refl));
     }

@@ -35,11 +35,11 @@ placed-read : (n : ℕ) (os : List Object) (es : List Event) → Placed n (readA
 placed-read n os es = record { from = omega arith; to = omega arith }
 
 -- the next line and the rest
-join-more : (p q : List ℕ) (ps : List (List ℕ)) → length (join 10 (p ∷ q ∷ ps)) ≡ length p + 1 + length (join 10 (q ∷ ps))
+pub join-more : (p q : List ℕ) (ps : List (List ℕ)) → length (join 10 (p ∷ q ∷ ps)) ≡ length p + 1 + length (join 10 (q ∷ ps))
 unfolding join
 join-more p q ps = omega (arith, length-append p (10 ∷ join 10 (q ∷ ps)))
 
-join-one : (p : List ℕ) → join 10 (p ∷ []) ≡ p
+pub join-one : (p : List ℕ) → join 10 (p ∷ []) ≡ p
 unfolding join
 join-one p = refl
 

@@ -19,6 +19,7 @@ use Rattle.layout.proofs.WordLaws.{same-true, same-refl}
 use Rattle.layout.proofs.NumberLaws.{digit-low}
 use Rattle.layout.proofs.SpellLaws.{number-spell, value-spell, spell-value}
 use Rattle.layout.proofs.RoundTrips.{items-text, numbers-written, written-read}
+use Rattle.history.proofs.WithinLaws.{zero-is}
 use Rattle.history.specs.declared.record.Op.{Op}
 use Rattle.history.specs.declared.record.Op.the-variants.{Write, Read, Push, Pop, Peek}
 use Rattle.history.specs.declared.record.Object.{Object}
@@ -108,12 +109,6 @@ event-clean own e =
     (fields-without 10 (digit-low 10 (omega arith)) (λ q. omega arith) (λ q. omega arith) own e (op-without (e .op) .1))
 
 -- ---- the places of an answer
-zeros : (xs : List ℕ) → allZero xs ≡ true → xs ≡ replicate (length xs) 0
-unfolding allZero
-zeros [] e = refl
-zeros (x ∷ xs) e =
-    ap₂ {C = List ℕ} _∷_ (eqb-true x 0 (and-left (eqb x 0) (allZero xs) e)) (zeros xs (and-right (eqb x 0) (allZero xs) e))
-
 zeros-all : (n : ℕ) → allZero (replicate n 0) ≡ true
 unfolding allZero
 zeros-all zero = refl
@@ -155,7 +150,7 @@ module _ {object : Object} {op : Op} {a : Answer} (g : GoodAnswer object op a) w
   answer-whole =
       let n : length (drop (a .count) (a .values)) ≡ 8 - a .count = omega (arith, length-drop (a .count) (a .values)) in
       let r : replicate (8 - a .count) 0 ≡ drop (a .count) (a .values) =
-      sym (zeros (drop (a .count) (a .values)) (g .rest) ∙ ap (λ (k : ℕ). replicate k 0) n) in
+      sym (zero-is (drop (a .count) (a .values)) (g .rest) ∙ ap (λ (k : ℕ). replicate k 0) n) in
       rw (answer-count, r, take-append-drop (a .count) (a .values))
 
 drop-pad : (xs : List ℕ) → drop (length xs) (pad 8 0 xs) ≡ replicate (8 - length xs) 0

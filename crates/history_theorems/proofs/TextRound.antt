@@ -99,7 +99,7 @@ unfolding linesFrom same
 first-step [] h = absurd (omega arith)
 first-step (r ∷ ps) h = refl
 
-more : (ls : List (List ℕ)) (l : List ℕ) (ms : List (List ℕ)) → 0 < length (ls ++ (l ∷ ms))
+pub more : (ls : List (List ℕ)) (l : List ℕ) (ms : List (List ℕ)) → 0 < length (ls ++ (l ∷ ms))
 more ls l ms = omega (arith, length-append ls (l ∷ ms))
 
 -- ---- the text of good objects and events has no fault, and reads as them
