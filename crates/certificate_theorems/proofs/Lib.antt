@@ -4,3 +4,4 @@ pub mod TextLength
 pub mod Theorems
 pub mod Guarantees
 pub mod WriteTheorems
+pub mod Places

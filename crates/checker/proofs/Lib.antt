@@ -1,4 +1,5 @@
 pub mod TextTheorems
+pub mod VerdictLaws
 pub mod WeakenTheorems
 pub mod ByteLaws
 pub mod Samples

@@ -50,12 +50,12 @@ none-of (some (fault16 v e)) n = absurd (omega arith)
 
 module _ (history text : List ℕ) where
   -- both texts are read
-  checked-as : readCertificate history text .fault ≡ 0
+  pub checked-as : readCertificate history text .fault ≡ 0
       → checkText history text ≡ checked (certificateRead history text .criterion) (answerOf (check (historyRead history) (certificateRead history text)))
   unfolding checkText
   checked-as z = rw (eq-eqb (readCertificate history text .fault) 0 z)
 
-  refused-as : (readCertificate history text .fault ≡ 0 → ⊥) → checkText history text ≡ refused (readCertificate history text)
+  pub refused-as : (readCertificate history text .fault ≡ 0 → ⊥) → checkText history text ≡ refused (readCertificate history text)
   unfolding checkText
   refused-as n = rw (ne-eqb (readCertificate history text .fault) 0 n)
 

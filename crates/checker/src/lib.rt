@@ -1,1 +1,2 @@
-// The check of a certificate text for a history text. Its definition and what is true of it; the function comes next.
+// The check of a certificate text for a history text.
+pub mod check;

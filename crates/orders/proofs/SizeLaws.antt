@@ -23,7 +23,7 @@ and-no true b e = absurd-by e
 and-no false b e = refl
 
 -- a test that passes nowhere from n on
-any-fewer : (m n : ℕ) (f : ℕ → Bool) → n ≤ m → ((k : ℕ) → n ≤ k → f k ≡ false) → any m f ≡ any n f
+pub any-fewer : (m n : ℕ) (f : ℕ → Bool) → n ≤ m → ((k : ℕ) → n ≤ k → f k ≡ false) → any m f ≡ any n f
 any-fewer zero n f h out = let z : n ≡ zero = omega arith in rw z
 any-fewer (suc m) n f h out =
     by-lt n (suc m)

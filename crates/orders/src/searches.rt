@@ -24,7 +24,7 @@ fn all_row(n: usize) -> [bool; 64]
 }
 
 // A row and one event more.
-fn with_event(row: [bool; 64], e: usize) -> [bool; 64]
+pub fn with_event(row: [bool; 64], e: usize) -> [bool; 64]
     requires { ⌜ e < 64 ⌝ }
     ensures { λ r. ⌜ ((f : ℕ) → inRow r f ≡ (inRow row f || eqb f e)) ⌝ }
 {

@@ -3,3 +3,4 @@ pub mod LightLaws
 pub mod HistoryLaws
 pub mod SearchLaws
 pub mod VisibleLaws
+pub mod CutLaws

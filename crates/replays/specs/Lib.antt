@@ -3,3 +3,4 @@ pub mod Replay
 pub mod Steps
 pub mod Search
 pub mod Visible
+pub mod Cut

@@ -1,4 +1,5 @@
 // The replay of a view.
+pub mod cut;
 pub mod light;
 pub mod replay;
 pub mod search;

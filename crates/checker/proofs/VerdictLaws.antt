@@ -1,0 +1,86 @@
+-- What the check answers of two texts is the verdict of the definitions. Assumes nothing.
+use Prim.Native.Nat.{ℕ, _≤_, _<_}
+use native.Mathlib.Omega.{arith}
+use mathlib.Core.Path.{_≡_, refl, sym, ap, ap₂, _∙_, subst}
+use mathlib.Core.Bool.{Bool, true, cond}
+use mathlib.Core.List.{List}
+use mathlib.Core.Option.{Option, none, some}
+use lib.ListN.{replicate}
+use lib.Dec.{eqb}
+use borrow.Author.Tests.{eq-eqb, ne-eqb}
+use Rattle.layout.proofs.Cases.{by-eq}
+use Rattle.history.specs.declared.record.History.{History}
+use Rattle.history.specs.Record.{eventsIn}
+use Rattle.history.specs.Readable.{within}
+use Rattle.history_reader.specs.ReadHistory.{readHistory}
+use Rattle.history_theorems.proofs.Theorems.{read-within}
+use Rattle.certificate.specs.declared.record.Criterion.the-variants.{Pram}
+use Rattle.certificate.specs.Record.{noRow}
+use Rattle.certificate.specs.Readable.{fits}
+use Rattle.certificate_reader.specs.declared.read.Text.the-variants.{Neither}
+use Rattle.certificate_reader.specs.declared.read.CertificateRead.{CertificateRead}
+use Rattle.certificate_reader.specs.ReadCertificate.{readCertificate, rowsRead}
+use Rattle.certificate_theorems.proofs.Theorems.{no-fault-history, read-as, read-fits}
+use Rattle.certificate_theorems.proofs.Places.{line-small, part-order, end-small}
+use Rattle.criteria.specs.Check.{answerOf, check}
+use Rattle.criteria.specs.Records.{historyOf, certificateOf}
+use Rattle.faults.specs.declared.finding.Finding.{Finding}
+use Rattle.faults.specs.declared.finding.Finding.the-variants.{Nothing}
+use Rattle.faults.specs.Finding.{findingOf, orNone}
+use Rattle.checker.specs.declared.check.Checked.{Checked}
+use Rattle.checker.specs.CheckText.{Verdict, refused, checked, historyRead, certificateRead, checkText}
+use Rattle.checker.specs.Verdict.{verdictOf}
+use Rattle.checker.proofs.TextTheorems.{checked-as, refused-as}
+
+module _ (history text : List ℕ) (r : CertificateRead) (read : r ≡ readCertificate history text) where
+  -- a reading refusal
+  pub refused-verdict : (r .fault ≡ 0 → ⊥)
+      → verdictOf record { fault = r .fault; text = r .text; line = r .line; start = r .start; end = r .end; criterion = Pram; finding = Nothing }
+      ≡ checkText history text
+  refused-verdict n =
+      rw (ne-eqb (r .fault) 0 n)
+      (ap refused read ∙ sym (refused-as history text (λ z. n (ap (λ (x : CertificateRead). x .fault) read ∙ z))))
+
+  module _ (z : r .fault ≡ 0) (rows : List (List ℕ)) (rows-read : rows ≡ rowsRead history text (replicate 64 noRow)) where
+    no-fault : readCertificate history text .fault ≡ 0
+    no-fault = sym (ap (λ (x : CertificateRead). x .fault) read) ∙ z
+
+    history-is : r .history ≡ readHistory history .history
+    history-is =
+        ap (λ (x : CertificateRead). x .history) read
+        ∙ ap (λ (x : CertificateRead). x .history) (read-as history text no-fault (replicate 64 noRow))
+
+    -- what was read is within its limits
+    pub within-read : within (r .history) ≡ true
+    within-read = ap within history-is ∙ read-within history (no-fault-history history text no-fault)
+
+    pub fits-read : fits (eventsIn (r .history)) (r .certificate) rows ≡ true
+    fits-read =
+        ap (λ (h : History). fits (eventsIn h) (r .certificate) rows) history-is
+        ∙ ap₂ (λ (x : CertificateRead) (l : List (List ℕ)). fits (eventsIn (readHistory history .history)) (x .certificate) l) read rows-read
+        ∙ read-fits history text no-fault (replicate 64 noRow)
+
+    -- both texts are read
+    pub checked-verdict : (f : Finding) → findingOf f ≡ check (historyOf (r .history)) (certificateOf (r .history) (r .certificate) rows)
+        → verdictOf record { fault = 0; text = Neither; line = 0; start = 0; end = 0; criterion = r .certificate .criterion; finding = f }
+        ≡ checkText history text
+    unfolding historyRead certificateRead certificateOf
+    checked-verdict f q =
+        ap (λ x. checked (r .certificate .criterion) (answerOf x)) q
+        ∙ ap (λ (h : History). checked (r .certificate .criterion) (answerOf (check (historyOf h) (certificateOf h (r .certificate) rows)))) history-is
+        ∙ ap₂ (λ (x : CertificateRead) (l : List (List ℕ)). checked (x .certificate .criterion) (answerOf (check (historyOf (readHistory history .history)) (certificateOf (readHistory history .history) (x .certificate) l)))) read rows-read
+        ∙ sym (checked-as history text no-fault)
+
+-- ---- the places of a verdict are small
+module _ (history text : List ℕ) where
+  pub line-fits : orNone (checkText history text .line) < 4294967296
+  line-fits =
+      by-eq (readCertificate history text .fault) 0
+      (λ z. subst (λ (v : Verdict). orNone (v .line) < 4294967296) (sym (checked-as history text z)) (omega arith))
+      (λ n. subst (λ (v : Verdict). orNone (v .line) < 4294967296) (sym (refused-as history text n)) (omega (arith, line-small history text)))
+
+  pub places-fit : (checkText history text .start ≤ checkText history text .end) × (checkText history text .end ≤ 32768)
+  places-fit =
+      by-eq (readCertificate history text .fault) 0
+      (λ z. subst (λ (v : Verdict). (v .start ≤ v .end) × (v .end ≤ 32768)) (sym (checked-as history text z)) (omega arith, omega arith))
+      (λ n. subst (λ (v : Verdict). (v .start ≤ v .end) × (v .end ≤ 32768)) (sym (refused-as history text n)) (part-order history text, end-small history text))

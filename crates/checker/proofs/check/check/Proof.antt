@@ -1,0 +1,43 @@
+-- `check` meets its contract: a reading refusal, or what is found of the records that were read. Assumes nothing.
+use borrow.Author.Needs.{needs}
+use Rattle.checker.proofs.check.check.Statement.{statement}
+use Rattle.checker.proofs.check.check.Tie as tie
+use Rattle.checker.proofs.check.check.Reads as reads
+use Rattle.checker.proofs.check.check.Lts as lts
+use Rattle.certificate_reader.proofs.read.read_certificate.Reads as read-certificate-reads
+use Rattle.faults.proofs.check.check_records.Reads as check-records-reads
+use Prim.Native.Nat.{ℕ}
+use mathlib.Core.Path.{_≡_}
+use Rattle.checker.proofs.VerdictLaws.{refused-verdict, within-read, fits-read, checked-verdict}
+
+no-fault : (c : tie.Else1) → c .before .read-certificate .result .fault ≡ 0
+no-fault c = search needs
+
+read-certificate-requires : tie.Need-read-certificate-requires
+read-certificate-requires c κs = search needs
+
+returns : tie.Need-returns
+returns c =
+    let r = c .before .read-certificate in
+    let s = c .before .before .before .before .before in
+    refused-verdict (s .args .history .now) (s .args .text .now) (r .result) (r .ensures .0) (search needs)
+
+check-records-requires : tie.Need-check-records-requires
+check-records-requires c κs =
+    let r = c .before .before .before .before .read-certificate in
+    let s = c .before .before .before .before .before .before .before .before in
+    let z : r .result .fault ≡ 0 = no-fault (c .before .before .before) in (
+      within-read (s .args .history .now) (s .args .text .now) (r .result) (r .ensures .0) z _ (r .ensures .1),
+      fits-read (s .args .history .now) (s .args .text .now) (r .result) (r .ensures .0) z _ (r .ensures .1),
+    )
+
+returns-2 : tie.Need-returns-2
+returns-2 c =
+    let r = c .before .before .before .before .before .read-certificate in
+    let s = c .before .before .before .before .before .before .before .before .before in
+    let z : r .result .fault ≡ 0 = no-fault (c .before .before .before .before) in
+    checked-verdict (s .args .history .now) (s .args .text .now) (r .result) (r .ensures .0) z _ (r .ensures .1) (c .check-records .result) (c .check-records .ensures)
+
+pub check-spec : {M : Type 1} → statement M
+check-spec =
+    tie.close (tie.spec read-certificate-requires returns check-records-requires returns-2)

@@ -1,0 +1,78 @@
+-- `processes_of` meets its contract: the first i elements are made. Assumes nothing.
+use Rattle.faults.proofs.order.processes_of.Statement.{statement}
+use Rattle.faults.proofs.order.processes_of.Tie as tie
+use native.Mathlib.Omega.{arith}
+use Prim.Native.Nat.{_≤_, _<_, _-_}
+use mathlib.Core.Path.{_≡_, refl, ap, _∙_}
+use lib.ListN.{length, getD, length-set}
+use Rattle.history.specs.declared.record.Event.{Event}
+use Rattle.history.specs.Record.{noEvent}
+use Rattle.criteria.proofs.Loops.{any-default}
+use Rattle.replays.proofs.LightLaws.{Made, made-more}
+use borrow.Author.Needs.{needs}
+
+abbrev Inv-loop : tie.InvT-loop
+Inv-loop events processes₀ i₀ processes i =
+    (i ≤ 64) × (length events ≡ 64) × (length processes ≡ 64) × Made (λ (x : Event). x .process .0) noEvent 0 events processes i
+
+abbrev μ-loop : tie.MeasureT-loop
+μ-loop events processes₀ i₀ processes i = 64 - i
+
+next-i : (c : tie.In-loop Inv-loop μ-loop) → c .before .loop .i < 64
+next-i c = search needs
+
+-- the event that is read, whatever stands past the end
+same-event : (c : tie.In-loop Inv-loop μ-loop) (d : Event)
+    → getD (c .before .before .args .t1) (c .before .loop .i) d ≡ getD (c .before .before .args .t1) (c .before .loop .i) noEvent
+same-event c d =
+    any-default (c .before .before .args .t1) (c .before .loop .i) d noEvent (omega (arith, c .before .loop .inv .1, next-i c))
+
+loop-holds : tie.Need-loop-holds Inv-loop μ-loop
+loop-holds c = (search needs, search needs, refl, λ k h. absurd (omega arith))
+
+mul-e : tie.Need-mul-e Inv-loop μ-loop
+mul-e c = search needs
+
+array-copy-out-e : tie.Need-array-copy-out-e Inv-loop μ-loop
+array-copy-out-e c = search needs
+
+array-write-processes : tie.Need-array-write-processes Inv-loop μ-loop
+array-write-processes c = search needs
+
+add-i : tie.Need-add-i Inv-loop μ-loop
+add-i c = search needs
+
+loop-less : tie.Need-loop-less Inv-loop μ-loop
+loop-less c = search needs
+
+loop-again : tie.Need-loop-again Inv-loop μ-loop
+loop-again c =
+    let i = c .before in
+    let l = i .before .loop in
+    let a = i .before .before .args in
+    let h = next-i i in (
+      omega (arith, h),
+      l .inv .1,
+      length-set (l .processes) (l .i) _ ∙ l .inv .2,
+      made-more (λ (x : Event). x .process .0) noEvent 0 (a .t1) (l .processes) (l .i) _ (omega (arith, h, l .inv .2)) (ap (λ (x : Event). x .process .0) (same-event i _)) (l .inv .3),
+    )
+
+returns : tie.Need-returns Inv-loop μ-loop
+returns c =
+    let l = c .before .loop in
+    λ e h. l .inv .3 e (omega (arith, l .inv .0))
+
+pub processes-of-spec : {M : Type 1} → statement M
+processes-of-spec =
+    tie.close
+    (tie.spec
+    Inv-loop
+    μ-loop
+    loop-holds
+    mul-e
+    array-copy-out-e
+    array-write-processes
+    add-i
+    loop-less
+    loop-again
+    returns)

@@ -1,0 +1,49 @@
+-- How the faults are found on rows: 11 to 13 of an order, 14 and 15 of views.
+use Prim.Native.Nat.{ℕ, _≤_, _<_}
+use mathlib.Core.Bool.{Bool, true, false, not, _&&_, _||_}
+use mathlib.Core.List.{List, []}
+use mathlib.Core.Option.{Option}
+use lib.ListN.{getD}
+use lib.Dec.{eqb, ltb}
+use Rattle.certificate.specs.declared.record.Criterion.{Criterion}
+use Rattle.certificate.specs.declared.record.Criterion.the-variants.{Pram, Weak, Causal, Converge, Sequential}
+use Rattle.criteria.specs.Tests.{any, or, foundIf, lowest}
+use Rattle.criteria.specs.Check.{Fault, fault11, fault12, fault13, fault14, fault15, lacksPast, notItsSet, against}
+use Rattle.orders.specs.Rows.{inRows, viewAt}
+
+-- 11, 12 and 13 of the order of rows, over the first n events.
+unfoldable pub orderFault : List (List Bool) → List (List Bool) → ℕ → Option Fault
+orderFault rows must n =
+    or (lowest n (λ e. foundIf (any 64 (λ f. inRows must f e && not (inRows rows f e))) (fault11 e)))
+    (or (lowest n (λ e. foundIf (inRows rows e e) (fault12 e)))
+    (lowest n (λ e. foundIf (lacksPast 64 (inRows rows) e) (fault13 e))))
+
+-- The views are one an event; the set of view k, of n events.
+abbrev pub eventEach : Criterion → Bool
+eventEach Pram = false
+eventEach Weak = true
+eventEach Causal = true
+eventEach Converge = false
+eventEach Sequential = false
+
+abbrev pub setAt : Bool → List (List Bool) → ℕ → ℕ → ℕ → Bool
+setAt true rows n k f = inRows rows f k || eqb f k
+setAt false rows n k f = ltb f n
+
+-- 14 and 15 of the first m views.
+unfoldable pub viewFault : Bool → List (List ℕ) → List ℕ → List ℕ → List (List Bool) → ℕ → ℕ → Option Fault
+viewFault each views lengths numbers rows m n =
+    or (lowest m (λ k. foundIf (notItsSet 64 (setAt each rows n k) (viewAt views lengths k)) (fault14 (getD numbers k 0))))
+    (lowest m (λ k. foundIf (against (inRows rows) (viewAt views lengths k)) (fault15 (getD numbers k 0))))
+
+-- The first m views are lists of the first n events.
+pub record EventViews (views : List (List ℕ)) (lengths : List ℕ) (m n : ℕ) : Type 0 where
+  pub few : (k : ℕ) → k < m → getD lengths k 0 ≤ 64
+  pub entries : (k : ℕ) → k < m → (i : ℕ) → i < getD lengths k 0 → getD (getD views k []) i 0 < n
+
+abbrev pub isConverge : Criterion → Bool
+isConverge Pram = false
+isConverge Weak = false
+isConverge Causal = false
+isConverge Converge = true
+isConverge Sequential = false

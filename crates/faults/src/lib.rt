@@ -1,0 +1,6 @@
+// Faults 11 to 16 of a history and a certificate that were read.
+pub mod check;
+pub mod finding;
+pub mod order;
+pub mod replayed;
+pub mod viewed;

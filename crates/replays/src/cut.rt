@@ -1,0 +1,58 @@
+// 16 of converge: the lowest event whose answer the view, cut down to its past and it, does not give.
+ghost use mathlib.Core.Path.{_≡_};
+ghost use Prim.Native.Nat.{_≤_};
+ghost use lib.ListN.{take};
+ghost use Rattle.criteria.specs.Tests.{lowest};
+ghost use Rattle.replays.specs.Replay.{lightHistory, contentsIn, foundEvent, Ready};
+ghost use Rattle.replays.specs.Cut.{wrongCut};
+use crate::replay::Light;
+use crate::replay::Visible;
+use crate::replay::replay;
+use history::record::EventNo;
+use history::record::Object;
+use objects::state::State;
+use orders::searches::with_event;
+use orders::views::cut_to;
+
+// The lowest event whose answer the replay does not give, of the first n entries of the view cut down to the event's row and it, or 64.
+pub fn first_wrong_cut(
+    objects: [Object; 16],
+    events: [Light; 64],
+    values: &[u16; 65],
+    answers: &[[u16; 8]; 64],
+    counts: &[u8; 64],
+    size: usize,
+    starts: [State; 16],
+    rows: &[[bool; 64]; 64],
+    view: [u8; 64],
+    n: usize,
+) -> usize
+    requires { ⌜ Ready objects size events (now values) (now counts) starts view n ⌝ }
+    ensures { λ r. ⌜ foundEvent r ≡ lowest size (wrongCut (lightHistory objects size events (now (values .entry)) (now (answers .entry)) (now (counts .entry))) (contentsIn (now (values .entry)) starts) (now (rows .entry)) (take n view)) ⌝ }
+{
+    let mut e: usize = 0;
+    while e < size {
+        let row = rows[e];
+        let past = with_event(row, e);
+        let cut = cut_to(view, n, past);
+        let part = cut.events;
+        let count = cut.count;
+        let found = replay(
+            objects,
+            events,
+            values,
+            answers,
+            counts,
+            size,
+            starts,
+            part,
+            count,
+            Visible::Only(EventNo(e as u8)),
+        );
+        if found < 64 {
+            return found;
+        }
+        e += 1;
+    }
+    64
+}
