@@ -1,0 +1,48 @@
+-- `case` meets its contract: the lines are the first bytes of the array. Assumes nothing.
+use borrow.Author.Needs.{needs}
+use Rattle.check_cases.proofs.case.Statement.{statement}
+use Rattle.check_cases.proofs.case.Tie as tie
+use Rattle.check_cases.proofs.case.Reads as reads
+use Rattle.check_cases.proofs.case.Lts as lts
+use Rattle.check_cases.proofs.say.Reads as say-reads
+use Rattle.verdict_lines.proofs.print.print_check.Reads as print-check-reads
+use Prim.Native.Nat.{ℕ, _≤_, _<_}
+use mathlib.Core.Path.{_≡_, sym}
+use lib.Seq.{length-take-le}
+
+say-requires : tie.Need-say-requires
+say-requires c κs = search needs
+
+slice-aggregate-say : tie.Need-slice-aggregate-say
+slice-aggregate-say c = search needs
+
+say-requires-2 : tie.Need-say-requires-2
+say-requires-2 c κs = search needs
+
+print-check-requires : tie.Need-print-check-requires
+print-check-requires c κs = search needs
+
+array-share-prefix-bytes : tie.Need-array-share-prefix-bytes
+array-share-prefix-bytes c = search needs
+
+slice-aggregate-say-2 : tie.Need-slice-aggregate-say-2
+slice-aggregate-say-2 c = let p = c .before .before .print-check in sym (length-take-le (p .result .length) (p .result .bytes) (p .ensures .1))
+
+say-requires-3 : tie.Need-say-requires-3
+say-requires-3 c κs = search needs
+
+returns : tie.Need-returns
+returns c = search needs
+
+pub case-spec : {M : Type 1} → statement M
+case-spec =
+    tie.close
+    (tie.spec
+    say-requires
+    slice-aggregate-say
+    say-requires-2
+    print-check-requires
+    array-share-prefix-bytes
+    slice-aggregate-say-2
+    say-requires-3
+    returns)

@@ -1,0 +1,51 @@
+-- `walnutgleam_verdict` meets its contract: the number of the verdict, and its places in the slice. Assumes nothing.
+use borrow.Author.Needs.{needs}
+use Rattle.interface.proofs.check.walnutgleam_verdict.Statement.{statement}
+use Rattle.interface.proofs.check.walnutgleam_verdict.Tie as tie
+use Prim.Native.Nat.{ℕ, _≤_, _<_}
+use mathlib.Core.Path.{sym, ap, _∙_, subst}
+use mathlib.Core.List.{List}
+use Rattle.checker.specs.CheckText.{Verdict}
+use Rattle.checker.proofs.VerdictLaws.{line-fits, places-fit}
+use Rattle.faults.specs.Finding.{orNone}
+use Rattle.interface.specs.Places.{placesOf, placed}
+
+check-requires : tie.Need-check-requires
+check-requires c κs = search needs
+
+places-of-requires : tie.Need-places-of-requires
+places-of-requires c κs =
+    let a = c .before .before .before .before .args in
+    let q = places-fit (a .history .now) (a .certificate .now) in
+    subst (λ (v : Verdict). (orNone (v .line) < 4294967296) × (v .start ≤ v .end) × (v .end ≤ 32768)) (sym (c .check .ensures))
+    (line-fits (a .history .now) (a .certificate .now), q .0, q .1)
+
+put-places-requires : tie.Need-put-places-requires
+put-places-requires c κs = search needs
+
+answer-number-requires : tie.Need-answer-number-requires
+answer-number-requires c κs = search needs
+
+same-length : tie.Need-same-length
+same-length c = search needs
+
+returns : tie.Need-returns
+returns c =
+    let k = c .before .before .before .before .before .before in
+    let a = k .before .before .before .before .args in (
+      c .answer-number .ensures ∙ ap (λ (v : Verdict). v .number) (k .check .ensures),
+      c .before .before .before .put-places .ensures
+          ∙ ap (λ (l : List ℕ). placed l (a .places .now)) (c .before .before .before .before .before .places-of .ensures)
+          ∙ ap (λ (v : Verdict). placed (placesOf v) (a .places .now)) (k .check .ensures),
+    )
+
+pub walnutgleam-verdict-spec : {M : Type 1} → statement M
+walnutgleam-verdict-spec =
+    tie.close
+    (tie.spec
+    check-requires
+    places-of-requires
+    put-places-requires
+    answer-number-requires
+    same-length
+    returns)

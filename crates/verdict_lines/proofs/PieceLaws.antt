@@ -1,0 +1,166 @@
+-- Laws of the fields of a verdict as they are written. Assumes nothing.
+use Prim.Native.Nat.{ℕ, _+_, _-_, _≤_, _<_}
+use native.Mathlib.Numerals.{add-one}
+use native.Mathlib.Omega.{arith}
+use mathlib.Core.Path.{_≡_, refl, sym, ap, _∙_}
+use mathlib.Core.Bool.{Bool, cond}
+use mathlib.Core.List.{List, [], _∷_, _++_, map, append-assoc, append-nil}
+use mathlib.Core.Option.{Option, none, some}
+use lib.ListN.{length, getD, drop, length-append, length-drop, length-map, drop-of-length-le}
+use lib.Seq.{drop-cons}
+use lib.Dec.{eqb}
+use borrow.Author.Tests.{eq-eqb, ne-eqb}
+use Rattle.layout.specs.Number.{spell}
+use Rattle.layout.proofs.Cases.{by-eq}
+use Rattle.layout.proofs.SpellLaws.{spell-short}
+use Rattle.certificate.specs.declared.record.Criterion.{Criterion}
+use Rattle.certificate.specs.declared.record.Criterion.the-variants.{Pram, Weak, Causal, Converge, Sequential}
+use Rattle.certificate.specs.Criteria.{wordOf}
+use Rattle.certificate_reader.specs.declared.read.Text.{Text}
+use Rattle.certificate_reader.specs.declared.read.Text.the-variants.{Neither, HistoryText, CertificateText}
+use Rattle.criteria.specs.Check.{answerOf}
+use Rattle.faults.specs.Finding.{findingOf, orNone}
+use Rattle.checker.specs.declared.check.Checked.{Checked}
+use Rattle.checker.specs.CheckText.{Verdict}
+use Rattle.checker.specs.Verdict.{verdictOf}
+use Rattle.verdict_lines.specs.declared.line.Field.{Field}
+use Rattle.verdict_lines.specs.declared.line.Field.the-variants.{Dash, Number, CriterionWord, TextWord}
+use Rattle.verdict_lines.specs.Printed.{textWord, criterionWord, numberWord, names, values, printed}
+use Rattle.verdict_lines.specs.Steps.{fieldText, piecesText, numberField, criterionField, fieldsOf}
+
+-- one field and the byte behind it
+pieces-step : (f : List ℕ) (fs : List (List ℕ)) → piecesText (f ∷ fs) ≡ (f ++ cond (eqb (length fs) 0) 10 32 ∷ []) ++ piecesText fs
+unfolding piecesText
+pieces-step f [] = sym (append-nil (f ++ 10 ∷ []))
+pieces-step f (g ∷ fs) =
+    rw (ne-eqb (length (g ∷ fs)) 0 (λ z. absurd (omega arith))) (sym (append-assoc f (32 ∷ []) (piecesText (g ∷ fs))))
+
+pieces-none : piecesText [] ≡ []
+unfolding piecesText
+pieces-none = refl
+
+-- ---- a loop over the six fields, at the place i
+module _ (fields : List Field) (i : ℕ) (six : length fields ≡ 6) where
+  last-is : i < 6 → eqb (length (map fieldText (drop (i + 1) fields))) 0 ≡ eqb i 5
+  last-is h =
+      let many : length (map fieldText (drop (i + 1) fields)) ≡ 6 - (i + 1) =
+      length-map (drop (i + 1) fields) fieldText ∙ length-drop (i + 1) fields ∙ ap (λ (k : ℕ). k - (i + 1)) six in
+      by-eq i 5
+      (λ e. eq-eqb (length (map fieldText (drop (i + 1) fields))) 0 (omega arith) ∙ sym (eq-eqb i 5 e))
+      (λ e. ne-eqb (length (map fieldText (drop (i + 1) fields))) 0 (λ z. e (omega arith)) ∙ sym (ne-eqb i 5 e))
+
+  pub pieces-at : i < 6 → (b : ℕ) → b ≡ cond (eqb i 5) 10 32
+      → piecesText (map fieldText (drop i fields))
+      ≡ (fieldText (getD fields i Dash) ++ b ∷ []) ++ piecesText (map fieldText (drop (i + 1) fields))
+  pieces-at h b e =
+      ap (λ (l : List Field). piecesText (map fieldText l))
+      (drop-cons fields i Dash (omega arith) ∙ ap (λ (k : ℕ). getD fields i Dash ∷ drop k fields) (sym (add-one i)))
+      ∙ pieces-step (fieldText (getD fields i Dash)) (map fieldText (drop (i + 1) fields))
+      ∙ ap (λ (t : Bool). (fieldText (getD fields i Dash) ++ cond t 10 32 ∷ []) ++ piecesText (map fieldText (drop (i + 1) fields))) (last-is h)
+      ∙ ap (λ (x : ℕ). (fieldText (getD fields i Dash) ++ x ∷ []) ++ piecesText (map fieldText (drop (i + 1) fields))) (sym e)
+
+  pub pieces-end : 6 ≤ i → piecesText (map fieldText (drop i fields)) ≡ []
+  pieces-end h =
+      ap (λ (l : List Field). piecesText (map fieldText l)) (drop-of-length-le fields {i = i} (omega arith))
+      ∙ pieces-none
+
+-- ---- no field is longer than eleven bytes
+pub number-short : (n : ℕ) → n < 4294967296 → length (spell n) ≤ 11
+number-short n h = omega (arith, spell-short 9 n (omega arith))
+
+pub criterion-short : (c : Criterion) → length (wordOf c) ≤ 11
+unfolding wordOf
+criterion-short Pram = omega arith
+criterion-short Weak = omega arith
+criterion-short Causal = omega arith
+criterion-short Converge = omega arith
+criterion-short Sequential = omega arith
+
+pub text-short : (t : Text) → length (textWord t) ≤ 11
+text-short Neither = omega arith
+text-short HistoryText = omega arith
+text-short CertificateText = omega arith
+
+one-long : (f g : List ℕ) (fs : List (List ℕ)) → length f ≤ 11 → length (piecesText (f ∷ g ∷ fs)) ≤ 12 + length (piecesText (g ∷ fs))
+unfolding piecesText
+one-long f g fs h = omega (arith, length-append f (32 ∷ piecesText (g ∷ fs)))
+
+last-long : (f : List ℕ) → length f ≤ 11 → length (piecesText (f ∷ [])) ≤ 12
+unfolding piecesText
+last-long f h = omega (arith, length-append f (10 ∷ []))
+
+pub six-long : (a b c d e f : List ℕ) → length a ≤ 11 → length b ≤ 11 → length c ≤ 11 → length d ≤ 11 → length e ≤ 11 → length f ≤ 11
+    → length (piecesText (a ∷ b ∷ c ∷ d ∷ e ∷ f ∷ [])) ≤ 90
+six-long a b c d e f la lb lc ld le lf =
+    omega (
+      arith,
+      one-long a b (c ∷ d ∷ e ∷ f ∷ []) la,
+      one-long b c (d ∷ e ∷ f ∷ []) lb,
+      one-long c d (e ∷ f ∷ []) lc,
+      one-long d e (f ∷ []) ld,
+      one-long e f [] le,
+      last-long f lf,
+    )
+
+-- ---- the fields of a verdict are its line of values
+number-is : (o : Option ℕ) → fieldText (numberField o) ≡ numberWord o
+number-is none = refl
+number-is (some n) = refl
+
+criterion-is : (o : Option Criterion) → fieldText (criterionField o) ≡ criterionWord o
+criterion-is none = refl
+criterion-is (some c) = refl
+
+six-are : (a b c d e f : List ℕ)
+    → piecesText (a ∷ b ∷ c ∷ d ∷ e ∷ f ∷ []) ≡ a ++ 32 ∷ b ++ 32 ∷ c ++ 32 ∷ d ++ 32 ∷ e ++ 32 ∷ f ++ 10 ∷ []
+unfolding piecesText
+six-are a b c d e f =
+    let s : List ℕ = a ++ 32 ∷ b in
+    let t : List ℕ = s ++ 32 ∷ c in
+    let u : List ℕ = t ++ 32 ∷ d in
+    let end : List ℕ = 32 ∷ (f ++ 10 ∷ []) in
+    sym
+    (append-assoc (u ++ 32 ∷ e) (32 ∷ f) (10 ∷ [])
+    ∙ append-assoc u (32 ∷ e) end
+    ∙ append-assoc t (32 ∷ d) (32 ∷ (e ++ end))
+    ∙ append-assoc s (32 ∷ c) (32 ∷ (d ++ 32 ∷ (e ++ end)))
+    ∙ append-assoc a (32 ∷ b) (32 ∷ (c ++ 32 ∷ (d ++ 32 ∷ (e ++ end)))))
+
+pub fields-are : (v : Verdict) → piecesText (map fieldText (fieldsOf v)) ≡ values v
+unfolding fieldsOf values
+fields-are v =
+    rw (criterion-is (v .criterion), number-is (v .line), number-is (v .view), number-is (v .event))
+    (six-are (spell (v .number)) (criterionWord (v .criterion)) (textWord (v .text)) (numberWord (v .line)) (numberWord (v .view))
+    (numberWord (v .event)))
+
+pub printed-is : (v : Verdict) (fields : List Field) → fields ≡ fieldsOf v → printed v ≡ names ++ piecesText (map fieldText fields)
+unfolding printed
+printed-is v fields e = ap (λ (l : List ℕ). names ++ l) (sym (ap (λ (l : List Field). piecesText (map fieldText l)) e ∙ fields-are v))
+
+-- ---- the fields that the code makes are those of the verdict, and they are short
+module _ (v : Checked) where
+  pub found-fields : v .fault ≡ 0 → (n : ℕ) → n ≡ answerOf (findingOf (v .finding)) .number → n < 4294967296
+      → (view : Field) → view ≡ numberField (answerOf (findingOf (v .finding)) .view) → length (fieldText view) ≤ 11
+      → (event : Field) → event ≡ numberField (answerOf (findingOf (v .finding)) .event) → length (fieldText event) ≤ 11
+      → (Number n ∷ CriterionWord (v .criterion) ∷ TextWord Neither ∷ Dash ∷ view ∷ event ∷ [] ≡ fieldsOf (verdictOf v))
+      × (length (piecesText (map fieldText (Number n ∷ CriterionWord (v .criterion) ∷ TextWord Neither ∷ Dash ∷ view ∷ event ∷ []))) ≤ 90)
+  unfolding fieldsOf
+  found-fields z n en ln view ev lv event ee le = (
+    rw (eq-eqb (v .fault) 0 z, en, ev, ee),
+    six-long (spell n) (wordOf (v .criterion)) (textWord Neither) (fieldText Dash) (fieldText view) (fieldText event)
+        (number-short n ln) (criterion-short (v .criterion)) (text-short Neither) (omega arith) lv le,
+  )
+
+  module _ (z : v .fault ≡ 0 → ⊥) (few : orNone (verdictOf v .line) < 4294967296) where
+    pub line-fits : v .line < 4294967296
+    line-fits = rw (ne-eqb (v .fault) 0 z) at few
+
+    pub refused-fields : v .fault < 4294967296
+        → (Number (v .fault) ∷ Dash ∷ TextWord (v .text) ∷ Number (v .line) ∷ Dash ∷ Dash ∷ [] ≡ fieldsOf (verdictOf v))
+        × (length (piecesText (map fieldText (Number (v .fault) ∷ Dash ∷ TextWord (v .text) ∷ Number (v .line) ∷ Dash ∷ Dash ∷ []))) ≤ 90)
+    unfolding fieldsOf
+    refused-fields small = (
+      rw (ne-eqb (v .fault) 0 z),
+      six-long (spell (v .fault)) (fieldText Dash) (textWord (v .text)) (spell (v .line)) (fieldText Dash) (fieldText Dash)
+          (number-short (v .fault) small) (omega arith) (text-short (v .text)) (number-short (v .line) line-fits) (omega arith) (omega arith),
+    )

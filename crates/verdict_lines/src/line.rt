@@ -1,0 +1,177 @@
+// Writing the two lines of a verdict.
+ghost use mathlib.Core.Path.{_≡_};
+ghost use Prim.Native.Nat.{_≤_, _<_};
+ghost use mathlib.Core.List.{[], _∷_, _++_, map};
+ghost use mathlib.Core.Bool.{cond};
+ghost use lib.Dec.{eqb};
+ghost use lib.ListN.{length};
+ghost use Rattle.layout.specs.Fill.{fill};
+ghost use Rattle.criteria.specs.Check.{answerOf};
+ghost use Rattle.faults.specs.Finding.{findingOf, orNone};
+ghost use Rattle.certificate.specs.Criteria.{wordOf};
+ghost use Rattle.checker.specs.Verdict.{verdictOf};
+ghost use Rattle.verdict_lines.specs.Printed.{textWord, printed};
+ghost use Rattle.verdict_lines.specs.Steps.{fieldText, piecesText, numberField, fieldsOf};
+use certificate::record::Criterion;
+use certificate_reader::read::Text;
+use checker::check::Checked;
+use faults::finding::Finding;
+use faults::finding::number_of;
+use layout::fill::put_bytes;
+use layout::number::put_number;
+
+// A field of the line of values.
+pub enum Field {
+    Dash,
+    Number(u32),
+    CriterionWord(Criterion),
+    TextWord(Text),
+}
+
+fn put_criterion(part: &mut [u8], c: Criterion) -> usize
+    requires { ⌜ length (wordOf c) ≤ length (now part) ⌝ }
+    ensures { λ r. ⌜ (r ≡ length (wordOf c)) × (now (part .exit) ≡ fill (wordOf c) (now (part .entry))) ⌝ }
+{
+    match c {
+        Criterion::Pram => put_bytes(part, b"pram"),
+        Criterion::Weak => put_bytes(part, b"weak"),
+        Criterion::Causal => put_bytes(part, b"causal"),
+        Criterion::Converge => put_bytes(part, b"converge"),
+        Criterion::Sequential => put_bytes(part, b"sequential"),
+    }
+}
+
+fn put_text(part: &mut [u8], t: Text) -> usize
+    requires { ⌜ length (textWord t) ≤ length (now part) ⌝ }
+    ensures { λ r. ⌜ (r ≡ length (textWord t)) × (now (part .exit) ≡ fill (textWord t) (now (part .entry))) ⌝ }
+{
+    match t {
+        Text::Neither => put_bytes(part, b"-"),
+        Text::HistoryText => put_bytes(part, b"history"),
+        Text::CertificateText => put_bytes(part, b"certificate"),
+    }
+}
+
+// Writes a field into a part that has room.
+fn put_field(part: &mut [u8], field: Field) -> usize
+    requires { ⌜ length (fieldText field) ≤ length (now part) ⌝ }
+    ensures { λ r. ⌜ (r ≡ length (fieldText field)) × (now (part .exit) ≡ fill (fieldText field) (now (part .entry))) ⌝ }
+{
+    match field {
+        Field::Dash => put_bytes(part, b"-"),
+        Field::Number(n) => put_number(part, n),
+        Field::CriterionWord(c) => put_criterion(part, c),
+        Field::TextWord(t) => put_text(part, t),
+    }
+}
+
+// Writes a field and the byte behind it.
+fn put_piece(part: &mut [u8], field: Field, behind: u8) -> usize
+    requires { ⌜ length (fieldText field ++ behind ∷ []) ≤ length (now part) ⌝ }
+    ensures { λ r. ⌜ (r ≡ length (fieldText field ++ behind ∷ [])) × (now (part .exit) ≡ fill (fieldText field ++ behind ∷ []) (now (part .entry))) ⌝ }
+{
+    let k = put_field(part, field);
+    part[k] = behind;
+    k + 1
+}
+
+// The byte behind field i of the six: a space, or a line feed behind the last.
+fn byte_behind(i: usize) -> u8
+    ensures { λ r. ⌜ r ≡ cond (eqb i 5) 10 32 ⌝ }
+{
+    if i == 5 {
+        return 10;
+    }
+    32
+}
+
+// Writes the line of the six fields, its line feed too, into a part that has room.
+fn put_values(part: &mut [u8], fields: [Field; 6]) -> usize
+    requires { ⌜ length (piecesText (map fieldText fields)) ≤ length (now part) ⌝ }
+    ensures { λ r. ⌜ (r ≡ length (piecesText (map fieldText fields))) × (now (part .exit) ≡ fill (piecesText (map fieldText fields)) (now (part .entry))) ⌝ }
+{
+    let mut at: usize = 0;
+    let mut i = 0;
+    while i < 6 {
+        let f = fields[i];
+        let b = byte_behind(i);
+        let k = put_piece(&mut part[at..], f, b);
+        at += k;
+        i += 1;
+    }
+    at
+}
+
+// The view that an answer carries, or a dash.
+fn view_field(finding: Finding) -> Field
+    ensures { λ r. ⌜ (r ≡ numberField (answerOf (findingOf finding) .view)) × (length (fieldText r) ≤ 11) ⌝ }
+{
+    match finding {
+        Finding::Nothing => Field::Dash,
+        Finding::LacksOwn(_) => Field::Dash,
+        Finding::InOwnPast(_) => Field::Dash,
+        Finding::LacksPast(_) => Field::Dash,
+        Finding::NotItsSet(v) => Field::Number(v as u32),
+        Finding::Against(v) => Field::Number(v as u32),
+        Finding::Wrong(v, _) => Field::Number(v as u32),
+    }
+}
+
+// The event that an answer carries, or a dash.
+fn event_field(finding: Finding) -> Field
+    ensures { λ r. ⌜ (r ≡ numberField (answerOf (findingOf finding) .event)) × (length (fieldText r) ≤ 11) ⌝ }
+{
+    match finding {
+        Finding::Nothing => Field::Dash,
+        Finding::LacksOwn(e) => Field::Number(e.0 as u32),
+        Finding::InOwnPast(e) => Field::Number(e.0 as u32),
+        Finding::LacksPast(e) => Field::Number(e.0 as u32),
+        Finding::NotItsSet(_) => Field::Dash,
+        Finding::Against(_) => Field::Dash,
+        Finding::Wrong(_, e) => Field::Number(e.0 as u32),
+    }
+}
+
+// The six fields of a verdict.
+fn fields_of(v: Checked) -> [Field; 6]
+    requires { ⌜ orNone (verdictOf v .line) < 4294967296 ⌝ }
+    ensures { λ r. ⌜ (r ≡ fieldsOf (verdictOf v)) × (length (piecesText (map fieldText r)) ≤ 90) ⌝ }
+{
+    let fault = v.fault;
+    if fault == 0 {
+        let criterion = v.criterion;
+        let finding = v.finding;
+        let number = number_of(finding);
+        let view = view_field(finding);
+        let event = event_field(finding);
+        return [
+            Field::Number(number),
+            Field::CriterionWord(criterion),
+            Field::TextWord(Text::Neither),
+            Field::Dash,
+            view,
+            event,
+        ];
+    }
+    let text = v.text;
+    let line = v.line;
+    [
+        Field::Number(fault as u32),
+        Field::Dash,
+        Field::TextWord(text),
+        Field::Number(line as u32),
+        Field::Dash,
+        Field::Dash,
+    ]
+}
+
+// Writes the line of names and the line of values.
+pub(crate) fn put_verdict(buf: &mut [u8], v: Checked) -> usize
+    requires { ⌜ (128 ≤ length (now buf)) × (orNone (verdictOf v .line) < 4294967296) ⌝ }
+    ensures { λ r. ⌜ (r ≡ length (printed (verdictOf v))) × (now (buf .exit) ≡ fill (printed (verdictOf v)) (now (buf .entry))) × (r ≤ 128) ⌝ }
+{
+    let fields = fields_of(v);
+    let k = put_bytes(buf, b"answer criterion text line view event\n");
+    let m = put_values(&mut buf[k..], fields);
+    k + m
+}
