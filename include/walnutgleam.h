@@ -27,6 +27,13 @@ uint32_t walnutgleam_verdict(const uint8_t *history, size_t history_length,
                              const uint8_t *certificate, size_t certificate_length,
                              uint32_t *places, size_t places_length);
 
+/* Weakens an accepted certificate text to the criterion wanted (numbers as above): the weakened text goes into the buffer's first bytes,
+ * and length gets their number. 17 if the two criteria are not a pair of docs/FORMAT.md's list, 18 if the buffer is too short; a text that
+ * the check refuses is refused with the same number. On a refusal no byte changes and length gets 0. */
+uint32_t walnutgleam_weaken(const uint8_t *history, size_t history_length,
+                            const uint8_t *certificate, size_t certificate_length,
+                            uint32_t wanted, uint8_t *buffer, size_t buffer_length, uint64_t *length);
+
 /* Shows an event of a history text: its line, without its line feed, as start and length within that text. 19 if there is no such
  * event; a reading refusal gives the faulty line. */
 uint32_t walnutgleam_show(const uint8_t *history, size_t history_length, uint32_t event,

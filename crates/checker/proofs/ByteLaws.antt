@@ -19,10 +19,7 @@ use Rattle.certificate.specs.declared.record.Criterion.{Criterion}
 use Rattle.certificate.specs.declared.record.Criterion.the-variants.{Pram, Weak, Causal, Converge, Sequential}
 use Rattle.certificate.specs.Criteria.{wordOf, hasPasts, countFrom}
 use Rattle.certificate.specs.CertificateText.{listLine, listLines, criterionText, viewPart, pastPart, textOf}
-
--- a list of bytes
-unfoldable pub Bytes : List ℕ → Type 0
-Bytes l = allLess 256 l ≡ true
+use Rattle.checker.specs.Demand3.{Bytes}
 
 none-bytes : Bytes []
 unfolding Bytes allLess

@@ -36,6 +36,7 @@ use Rattle.criteria.specs.Records.{historyOf, certificateOf}
 use Rattle.criteria.proofs.Lists.{true-or-left, true-or-right}
 use Rattle.criteria.proofs.Meeting.{sound, complete}
 use Rattle.criteria.proofs.RecordLaws.{size-is, past-count, view-count, few-processes, readable}
+use Rattle.checker.proofs.ListTexts.{lists-fit, pasts-back, views-back}
 use Rattle.checker.specs.CheckText.{Verdict, refused, checked, historyRead, rowsOf, certificateRead, checkText, Accepted, Names}
 
 -- ---- 0 is acceptance, and only then
@@ -97,54 +98,15 @@ module _ (history text : List ℕ) where
       (lists-readable z)
       (accepted-passes a)
 
--- ---- lists that reading allows are those of a record within its limits
-less-from : (n : ℕ) (l : List ℕ) → ((e : ℕ) → mem e l ≡ true → e < n) → allLess n l ≡ true
-unfolding allLess
-less-from n [] f = refl
-less-from n (x ∷ l) f =
-    rw (lt-ltb x n (f x (true-or-left (mem x l) (eq-eqb x x refl)))) (less-from n l (λ e t. f e (true-or-right (eqb e x) t)))
-
-rising-is : (b : ℕ) (l : List ℕ) → RisingFrom b l → rising l ≡ true
-unfolding rising
-rising-is b [] r = refl
-rising-is b (x ∷ []) r = refl
-rising-is b (x ∷ y ∷ l) r = rw (lt-ltb x y (r .1 .0)) (rising-is (suc x) (y ∷ l) (r .1))
-
-rising-by : (past : Bool) (l : List ℕ) → (past ≡ true → Rising l) → not past || rising l ≡ true
-rising-by true l f = rising-is zero l (f refl)
-rising-by false l f = refl
-
-good-from : (past : Bool) (n : ℕ) (ls : List (List ℕ)) → ((k : ℕ) → EventsOf n (getD ls k [])) → (past ≡ true → (k : ℕ) → Rising (getD ls k []))
-    → goodLists past n ls ≡ true
-unfolding goodLists
-good-from past n [] f g = refl
-good-from past n (l ∷ ls) f g =
-    rw (le-leb (length l) n (f zero .1), less-from n l (f zero .0), rising-by past l (λ t. g t zero))
-    (good-from past n ls (λ k. f (suc k)) (λ t k. g t (suc k)))
-
 -- ---- the text of a certificate of a readable history text
 module _ (history : List ℕ) (z : readHistory history .fault ≡ 0) (c : Certificate) (r : Readable (historyRead history) c) where
   abbrev pub text-of : List ℕ
   text-of =
       certificateText (eventsOf history) (text-record.certificateOf (c .criterion) (c .pasts) (c .views)) (text-record.rowsOf (c .views))
 
-  past-long : length (c .pasts) ≡ text.pastCount (c .criterion) (eventsOf history)
-  unfolding historyRead
-  past-long = r .pastsListed ∙ past-count (c .criterion) (readHistory history .history)
-
-  view-long : length (c .views) ≡ length (text.viewNumbers (c .criterion) (eventsOf history))
-  unfolding historyRead
-  view-long = r .viewsListed ∙ view-count (c .criterion) (readHistory history .history)
-
-  same-size : size (historyRead history) ≡ length (eventsOf history)
-  unfolding historyRead
-  same-size = size-is (readHistory history .history)
-
   within-limits : fits (eventsOf history) (text-record.certificateOf (c .criterion) (c .pasts) (c .views)) (text-record.rowsOf (c .views)) ≡ true
-  within-limits =
-      facts-fit (c .criterion) (eventsOf history) (c .pasts) (c .views) (few-events history z) past-long view-long
-      (rw same-size at (good-from true (size (historyRead history)) (c .pasts) (r .past) (λ t. r .rising)))
-      (rw same-size at (good-from false (size (historyRead history)) (c .views) (r .view) (λ t. absurd (false≢true t))))
+  unfolding historyRead
+  within-limits = lists-fit (readHistory history .history) (few-events history z) c r
 
   text-read : readCertificate history text-of
       ≡ record {
@@ -164,22 +126,13 @@ module _ (history : List ℕ) (z : readHistory history .fault ≡ 0) (c : Certif
       written-rows history z (text-record.certificateOf (c .criterion) (c .pasts) (c .views)) (text-record.rowsOf (c .views)) within-limits
       (replicate 64 noRow)
 
-  pub pasts-back : pastsIn (text.pastCount (c .criterion) (eventsOf history)) (text-record.certificateOf (c .criterion) (c .pasts) (c .views)) ≡ c .pasts
-  pasts-back =
-      ap (λ (k : ℕ). pastsIn k (text-record.certificateOf (c .criterion) (c .pasts) (c .views))) (sym past-long)
-      ∙ pasts-in (c .criterion) (c .pasts) (c .views)
-
-  pub views-back : viewsIn (length (text.viewNumbers (c .criterion) (eventsOf history))) (text-record.certificateOf (c .criterion) (c .pasts) (c .views)) (text-record.rowsOf (c .views)) ≡ c .views
-  views-back =
-      ap (λ (k : ℕ). viewsIn k (text-record.certificateOf (c .criterion) (c .pasts) (c .views)) (text-record.rowsOf (c .views))) (sym view-long)
-      ∙ views-in (c .criterion) (c .pasts) (c .views)
-
   -- it is read as that certificate
   pub text-is : certificateRead history text-of ≡ c
-  unfolding certificateRead certificateOf text-record.certificateOf
+  unfolding historyRead certificateRead certificateOf text-record.certificateOf
   text-is =
       ap₂ (λ (x : CertificateRead) (rows : List (List ℕ)). certificateOf (readHistory history .history) (x .certificate) rows) text-read rows-back
-      ∙ ap₂ {C = Certificate} (λ (ps vs : List (List ℕ)). record { criterion = c .criterion; pasts = ps; views = vs }) pasts-back views-back
+      ∙ ap₂ {C = Certificate} (λ (ps vs : List (List ℕ)). record { criterion = c .criterion; pasts = ps; views = vs })
+      (pasts-back (readHistory history .history) (few-events history z) c r) (views-back (readHistory history .history) (few-events history z) c r)
 
   pub text-accepted : check (historyRead history) c ≡ none → Accepted history text-of × Names history text-of (c .criterion)
   text-accepted e =

@@ -15,6 +15,7 @@ use Rattle.history.specs.Readable.{within}
 use Rattle.history_reader.specs.ReadHistory.{readHistory}
 use Rattle.history_theorems.proofs.Theorems.{read-within}
 use Rattle.certificate.specs.declared.record.Criterion.the-variants.{Pram}
+use Rattle.certificate.specs.declared.record.Certificate.{Certificate}
 use Rattle.certificate.specs.Record.{noRow}
 use Rattle.certificate.specs.Readable.{fits}
 use Rattle.certificate_reader.specs.declared.read.Text.the-variants.{Neither}
@@ -22,13 +23,13 @@ use Rattle.certificate_reader.specs.declared.read.CertificateRead.{CertificateR
 use Rattle.certificate_reader.specs.ReadCertificate.{readCertificate, rowsRead}
 use Rattle.certificate_theorems.proofs.Theorems.{no-fault-history, read-as, read-fits}
 use Rattle.certificate_theorems.proofs.Places.{line-small, part-order, end-small}
-use Rattle.criteria.specs.Check.{answerOf, check}
+use Rattle.criteria.specs.Check.{Fault, answerOf, check}
 use Rattle.criteria.specs.Records.{historyOf, certificateOf}
 use Rattle.faults.specs.declared.finding.Finding.{Finding}
 use Rattle.faults.specs.declared.finding.Finding.the-variants.{Nothing}
 use Rattle.faults.specs.Finding.{findingOf, orNone}
 use Rattle.checker.specs.declared.check.Checked.{Checked}
-use Rattle.checker.specs.CheckText.{Verdict, refused, checked, historyRead, certificateRead, checkText}
+use Rattle.checker.specs.CheckText.{Verdict, refused, checked, historyRead, rowsOf, certificateRead, checkText}
 use Rattle.checker.specs.Verdict.{verdictOf}
 use Rattle.checker.proofs.TextTheorems.{checked-as, refused-as}
 
@@ -42,7 +43,7 @@ module _ (history text : List ℕ) (r : CertificateRead) (read : r ≡ readCerti
       (ap refused read ∙ sym (refused-as history text (λ z. n (ap (λ (x : CertificateRead). x .fault) read ∙ z))))
 
   module _ (z : r .fault ≡ 0) (rows : List (List ℕ)) (rows-read : rows ≡ rowsRead history text (replicate 64 noRow)) where
-    no-fault : readCertificate history text .fault ≡ 0
+    pub no-fault : readCertificate history text .fault ≡ 0
     no-fault = sym (ap (λ (x : CertificateRead). x .fault) read) ∙ z
 
     history-is : r .history ≡ readHistory history .history
@@ -60,16 +61,25 @@ module _ (history text : List ℕ) (r : CertificateRead) (read : r ≡ readCerti
         ∙ ap₂ (λ (x : CertificateRead) (l : List (List ℕ)). fits (eventsIn (readHistory history .history)) (x .certificate) l) read rows-read
         ∙ read-fits history text no-fault (replicate 64 noRow)
 
+    -- what is made of the records that were read is made of the texts
+    pub of-texts : {A : Type 0} (F : History → Certificate → List (List ℕ) → A)
+        → F (r .history) (r .certificate) rows ≡ F (readHistory history .history) (readCertificate history text .certificate) (rowsOf history text)
+    of-texts F =
+        ap (λ (h : History). F h (r .certificate) rows) history-is
+        ∙ ap₂ (λ (x : CertificateRead) (l : List (List ℕ)). F (readHistory history .history) (x .certificate) l) read rows-read
+
+    pub checked-read : checked (r .certificate .criterion) (answerOf (check (historyOf (r .history)) (certificateOf (r .history) (r .certificate) rows)))
+        ≡ checkText history text
+    unfolding historyRead certificateRead certificateOf
+    checked-read =
+        of-texts (λ (h : History) (c : Certificate) (l : List (List ℕ)). checked (c .criterion) (answerOf (check (historyOf h) (certificateOf h c l))))
+        ∙ sym (checked-as history text no-fault)
+
     -- both texts are read
     pub checked-verdict : (f : Finding) → findingOf f ≡ check (historyOf (r .history)) (certificateOf (r .history) (r .certificate) rows)
         → verdictOf record { fault = 0; text = Neither; line = 0; start = 0; end = 0; criterion = r .certificate .criterion; finding = f }
         ≡ checkText history text
-    unfolding historyRead certificateRead certificateOf
-    checked-verdict f q =
-        ap (λ x. checked (r .certificate .criterion) (answerOf x)) q
-        ∙ ap (λ (h : History). checked (r .certificate .criterion) (answerOf (check (historyOf h) (certificateOf h (r .certificate) rows)))) history-is
-        ∙ ap₂ (λ (x : CertificateRead) (l : List (List ℕ)). checked (x .certificate .criterion) (answerOf (check (historyOf (readHistory history .history)) (certificateOf (readHistory history .history) (x .certificate) l)))) read rows-read
-        ∙ sym (checked-as history text no-fault)
+    checked-verdict f q = ap (λ (x : Option Fault). checked (r .certificate .criterion) (answerOf x)) q ∙ checked-read
 
 -- ---- the places of a verdict are small
 module _ (history text : List ℕ) where

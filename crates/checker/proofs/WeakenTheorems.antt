@@ -16,7 +16,7 @@ use Rattle.certificate.specs.Record as text-record
 use Rattle.certificate.specs.Criteria as text
 use Rattle.certificate.specs.CertificateText.{textOf, certificateText}
 use Rattle.certificate_reader.specs.ReadCertificate.{readCertificate, rowsRead}
-use Rattle.certificate_theorems.proofs.Theorems.{eventsOf, no-fault-history, read-written}
+use Rattle.certificate_theorems.proofs.Theorems.{eventsOf, few-events, no-fault-history, read-written}
 use Rattle.criteria.specs.History.{History}
 use Rattle.criteria.specs.Certificate.{Certificate, Readable}
 use Rattle.criteria.specs.Check.{check}
@@ -25,14 +25,16 @@ use Rattle.criteria.specs.Records.{certificateOf}
 use Rattle.criteria.proofs.Weaken as on-lists
 use Rattle.checker.specs.CheckText.{Verdict, historyRead, rowsOf, certificateRead, checkText, Accepted, Names}
 use Rattle.checker.specs.WeakenText.{textOfLists, textIfSome, weakenedText}
-use Rattle.checker.proofs.TextTheorems.{accepted-read, accepted-passes, accepted-names, lists-readable, text-of, text-accepted, pasts-back, views-back}
+use Rattle.checker.proofs.TextTheorems.{accepted-read, accepted-passes, accepted-names, lists-readable, text-of, text-accepted}
+use Rattle.checker.specs.Demand3.{Bytes}
+use Rattle.checker.proofs.ListTexts.{text-lists}
+use Rattle.checker.proofs.ByteLaws.{text-bytes}
 
 -- the text of a certificate's record is the text of its lists
-text-is-lists : (history : List ℕ) (z : readHistory history .fault ≡ 0) (d : Certificate) (r : Readable (historyRead history) d)
+pub text-is-lists : (history : List ℕ) (z : readHistory history .fault ≡ 0) (d : Certificate) (r : Readable (historyRead history) d)
     → text-of history z d r ≡ textOfLists (eventsOf history) d
-unfolding certificateText text-record.certificateOf
-text-is-lists history z d r =
-    ap₂ (λ (ps vs : List (List ℕ)). textOf (d .criterion) (text.viewNumbers (d .criterion) (eventsOf history)) ps vs) (pasts-back history z d r) (views-back history z d r)
+unfolding historyRead
+text-is-lists history z d r = text-lists (readHistory history .history) (few-events history z) d r
 
 record Some (o : Option Certificate) (t : List ℕ) (es : List Event) : Type 0 where
   lists : Certificate
@@ -49,6 +51,14 @@ hasText (some t) = true
 some-of : (es : List Event) (o : Option Certificate) (t : List ℕ) → textIfSome es o ≡ some t → Some o t es
 some-of es (some d) t e = record { lists = d; found = refl; says = unwrap e }
 some-of es none t e = absurd (false≢true (ap hasText e))
+
+-- a weakened text is a text of bytes
+pub weakened-bytes : (history given : List ℕ) (w : Criterion) (t : List ℕ) → weakenedText history given w ≡ some t → Bytes t
+unfolding weakenedText
+weakened-bytes history given w t e =
+    let s = some-of (eventsOf history) (weakened w (historyRead history) (certificateRead history given)) t e in
+    subst Bytes (s .says)
+    (text-bytes (s .lists .criterion) (text.viewNumbers (s .lists .criterion) (eventsOf history)) (s .lists .pasts) (s .lists .views))
 
 module _ (history text : List ℕ) (a : Accepted history text) where
   z : readHistory history .fault ≡ 0

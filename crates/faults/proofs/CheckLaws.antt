@@ -136,7 +136,7 @@ module _ (h : written-history.History) (w : within h ≡ true) where
   few-of = sound-h .count
 
   -- the processes of the events of the record are those of the history
-  process-of : (e : ℕ) → e < h .count → getD (map (λ (x : Event). x .process) (historyOf h .events)) e 0 ≡ getD (h .events) e noEvent .process .0
+  pub process-of : (e : ℕ) → e < h .count → getD (map (λ (x : Event). x .process) (historyOf h .events)) e 0 ≡ getD (h .events) e noEvent .process .0
   unfolding eventOf
   process-of e l =
       List·getD-map (λ (x : Event). x .process) (historyOf h .events) e _
@@ -162,7 +162,7 @@ module _ (h : written-history.History) (w : within h ≡ true) where
     abbrev pub pasts-listed : List (List ℕ)
     pasts-listed = pastsIn (text.pastCount (c .criterion) (eventsIn h)) c
 
-    facts : Fits (eventsIn h) c rows
+    pub facts : Fits (eventsIn h) c rows
     facts = fits-facts (eventsIn h) c rows (omega (arith, sound-h .events, few-of)) f
 
     sound-c : SoundCertificate (eventsIn h) c rows
@@ -178,7 +178,7 @@ module _ (h : written-history.History) (w : within h ≡ true) where
         ∙ getD-pad 64 noList (map eventListOf pasts-listed) k
         ∙ List·getD-map eventListOf pasts-listed k []
 
-    length-made : (k : ℕ) → getD (c .lengths) k 0 ≡ length (getD viewed k [])
+    pub length-made : (k : ℕ) → getD (c .lengths) k 0 ≡ length (getD viewed k [])
     unfolding text-record.certificateOf
     length-made k =
         ap (λ (x : written-certificate.Certificate). getD (x .lengths) k 0) (facts .record-is)

@@ -23,7 +23,7 @@ use orders::rows::lacks_own;
 use orders::rows::not_transitive;
 
 // The process of each event.
-pub(crate) fn processes_of(events: [Event; 64]) -> [u8; 64]
+pub fn processes_of(events: [Event; 64]) -> [u8; 64]
     ensures { λ r. ⌜ ((e : ℕ) → e < 64 → getD r e 0 ≡ getD events e noEvent .process .0) ⌝ }
 {
     let mut processes = [0u8; 64];

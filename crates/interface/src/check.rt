@@ -39,7 +39,7 @@ fn text_number(t: Text) -> u32
 }
 
 // Document 01's number of the answer.
-fn answer_number(v: Checked) -> u32
+pub(crate) fn answer_number(v: Checked) -> u32
     ensures { λ r. ⌜ r ≡ verdictOf v .number ⌝ }
 {
     let fault = v.fault;

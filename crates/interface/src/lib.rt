@@ -2,3 +2,4 @@
 pub mod check;
 pub mod rewrite;
 pub mod show;
+pub mod weaken;

@@ -36,7 +36,7 @@ fn meets(a: [bool; 64], b: [bool; 64]) -> bool
 }
 
 // The row of the first n entries of a view.
-pub(crate) fn marks(view: [u8; 64], n: usize) -> [bool; 64]
+pub fn marks(view: [u8; 64], n: usize) -> [bool; 64]
     requires { ⌜ (n ≤ 64) × ((k : ℕ) → k < n → getD view k 0 < 64) ⌝ }
     ensures { λ r. ⌜ ((e : ℕ) → inRow r e ≡ mem e (take n view)) ⌝ }
 {

@@ -1,0 +1,12 @@
+/* A plain check in C, with no proof: the measure of the benchmark, and no part of the product. */
+#ifndef PLAIN_H
+#define PLAIN_H
+
+#include <stddef.h>
+#include <stdint.h>
+
+/* Checks a certificate text for a history text: the same answer's number as walnutgleam_check. */
+uint32_t plain_check(const uint8_t *history, size_t history_length,
+                     const uint8_t *certificate, size_t certificate_length);
+
+#endif

@@ -1,0 +1,4 @@
+pub mod ListLaws
+pub mod RowsLaws
+pub mod SequentialLaws
+pub mod CausalLaws

@@ -1,0 +1,119 @@
+-- From converge to weak: what a certificate that passed gives to the cut of its view, and the record that is made. Assumes nothing.
+use Prim.Native.Nat.{ℕ, zero, suc, _+_, _≤_, _<_}
+use native.Mathlib.Omega.{arith}
+use mathlib.Core.Path.{_≡_, refl, sym, ap, ap₂, _∙_, subst, fun-ext}
+use mathlib.Core.Bool.{Bool, true, false, cond}
+use mathlib.Core.List.{List, [], _∷_, map}
+use mathlib.Core.Option.{Option, some}
+use lib.Dec.{ltb}
+use lib.ListN.{length, getD, take}
+use lib.Seq.{take-all}
+use borrow.Author.Tests.{ltb-true, lt-ltb, le-ltb, eq-eqb, ne-eqb}
+use Rattle.layout.proofs.Cases.{by-lt, by-eq}
+use Rattle.history.specs.declared.record.History as written-history
+use Rattle.history.specs.Record.{eventsIn}
+use Rattle.certificate.specs.declared.record.Criterion.{Criterion}
+use Rattle.certificate.specs.declared.record.Criterion.the-variants.{Weak, Converge}
+use Rattle.certificate.specs.declared.record.EventList.{EventList}
+use Rattle.certificate.specs.declared.record.Certificate as written-certificate
+use Rattle.certificate.specs.Record.{noList, entriesIn, rowsOf}
+use Rattle.certificate.specs.Record as text-record
+use Rattle.certificate.specs.Criteria.{hasPasts, viewNumbers}
+use Rattle.certificate.proofs.NumberingLaws.{numbers-few}
+use Rattle.criteria.specs.Tests.{table, keepIf, keep, more, one, count}
+use Rattle.criteria.specs.History.{History, size, IsView, isEvent, pastWith}
+use Rattle.criteria.specs.Certificate.{Certificate, listed, orderBy, order, viewCount, viewSet}
+use Rattle.criteria.specs.Weaken.{weakenedFrom, weakened}
+use Rattle.criteria.specs.Records.{historyOf, certificateOf}
+use Rattle.criteria.proofs.Lists.{mem-of-count, mem-getD, keep-take}
+use Rattle.criteria.proofs.Check.{Good, check-good}
+use Rattle.criteria.proofs.RecordLaws.{size-is, view-count}
+use Rattle.orders.specs.Rows.{inRows, ShortList, IsOrder}
+use Rattle.weakened.specs.Steps.{lengthsOf}
+use Rattle.faults.proofs.CheckLaws.{size-of, few-of, readable-of, short-past, event-views, view-same, facts, length-made}
+use Rattle.weakener.proofs.PassedLaws.{all-length}
+use Rattle.weakener.specs.Steps.{Passed, IsRecordOf}
+
+-- ---- the weakened certificate
+abbrev cutViews : ℕ → (ℕ → ℕ → Bool) → List ℕ → List (List ℕ)
+cutViews n R v = table n (λ e. keep (pastWith R e) v)
+
+converge-weak : (h : History) (c : Certificate) → c .criterion ≡ Converge
+    → weakened Weak h c ≡ some record { criterion = Weak; pasts = c .pasts; views = cutViews (size h) (order h c) (getD (c .views) 0 []) }
+unfolding weakened
+converge-weak h c q = ap (λ (w : Criterion). weakenedFrom w Weak h c) q
+
+module _ (h : written-history.History) (c : written-certificate.Certificate) (rows : List (List ℕ)) (q : c .criterion ≡ Converge) (p : Passed h c rows) where
+  few-views : length (viewNumbers (c .criterion) (eventsIn h)) ≤ 64
+  few-views = numbers-few (c .criterion) (eventsIn h) (omega (arith, size-is h, size-of h (p .history), few-of h (p .history)))
+
+  good : Good (historyOf h) (c .criterion) (order (historyOf h) (certificateOf h c rows)) (certificateOf h c rows .views)
+  unfolding certificateOf
+  good = check-good (historyOf h) (certificateOf h c rows) (readable-of h (p .history) c rows (p .certificate) few-views) (p .passes)
+
+  pub pasts-short : (k : ℕ) → ShortList (getD (c .pasts) k noList)
+  pasts-short = short-past h (p .history) c rows (p .certificate) few-views
+
+  one-view : viewCount (c .criterion) (historyOf h) ≡ 1
+  one-view = ap (λ (w : Criterion). viewCount w (historyOf h)) q
+
+  the-view : IsView (isEvent (historyOf h)) (getD (certificateOf h c rows .views) 0 [])
+  the-view =
+      subst (λ (w : Criterion). IsView (viewSet w (historyOf h) (order (historyOf h) (certificateOf h c rows)) 0) (getD (certificateOf h c rows .views) 0 [])) q
+      (good .isView 0 (omega (arith, one-view)))
+
+  -- it has all events
+  pub view-long : getD (c .lengths) 0 0 ≡ h .count
+  unfolding certificateOf
+  view-long =
+      length-made h (p .history) c rows (p .certificate) few-views 0
+      ∙ all-length (size (historyOf h)) (getD (certificateOf h c rows .views) 0 []) the-view
+      ∙ size-of h (p .history)
+
+  pub view-entries : (k : ℕ) → k < h .count → getD (getD rows 0 []) k 0 < 64
+  view-entries k l =
+      let e = event-views h (p .history) c rows (p .certificate) few-views 1 (omega arith) in
+      let x = e .entries 0 (omega arith) k (omega (arith, l, view-long)) in
+      omega (arith, x, few-of h (p .history))
+
+  view-is : take (h .count) (getD rows 0 []) ≡ getD (certificateOf h c rows .views) 0 []
+  unfolding certificateOf
+  view-is =
+      ap (λ (n : ℕ). take n (getD rows 0 [])) (sym view-long)
+      ∙ view-same h (p .history) c rows (p .certificate) few-views 1 (sym one-view ∙ view-count (c .criterion) h) 0 (omega arith)
+
+  -- the rows are the order of the lists
+  order-by : (w : Criterion) → w ≡ Converge → (n m : ℕ) → m ≡ n
+      → listed (map entriesIn (take n (c .pasts))) ≡ orderBy (hasPasts w) (historyOf h) (map entriesIn (take (cond (hasPasts w) m 0) (c .pasts)))
+  order-by w e n m s = rw (e, s)
+
+  module _ (rows-of : List (List Bool)) (o : IsOrder rows-of (listed (map entriesIn (take (h .count) (c .pasts))))) where
+    order-is : inRows rows-of ≡ order (historyOf h) (certificateOf h c rows)
+    unfolding certificateOf
+    order-is =
+        fun-ext (λ a. fun-ext (λ b. o a b))
+        ∙ order-by (c .criterion) q (h .count) (length (eventsIn h)) (sym (size-is h) ∙ size-of h (p .history))
+
+    views-are : cutViews (h .count) (inRows rows-of) (take (h .count) (getD rows 0 []))
+        ≡ cutViews (size (historyOf h)) (order (historyOf h) (certificateOf h c rows)) (getD (certificateOf h c rows .views) 0 [])
+    views-are =
+        ap (λ (n : ℕ). cutViews n (inRows rows-of) (take (h .count) (getD rows 0 []))) (sym (size-of h (p .history)))
+        ∙ ap₂ (cutViews (size (historyOf h))) order-is view-is
+
+    made : (lengths : List ℕ) (views : List (List ℕ)) → lengths ≡ lengthsOf views
+        → _≡_ {A = written-certificate.Certificate} (record { criterion = Weak; pasts = c .pasts; lengths = lengths })
+        (text-record.certificateOf Weak (certificateOf h c rows .pasts) views)
+    unfolding certificateOf text-record.certificateOf lengthsOf
+    made lengths views e =
+        ap₂ {C = written-certificate.Certificate} (λ (ps : List EventList) (ns : List ℕ). record { criterion = Weak; pasts = ps; lengths = ns })
+        (ap (λ (x : written-certificate.Certificate). x .pasts) (facts h (p .history) c rows (p .certificate) few-views .record-is)) e
+
+    pub converge-record : (lengths : List ℕ) (out : List (List ℕ))
+        → out ≡ rowsOf (cutViews (h .count) (inRows rows-of) (take (h .count) (getD rows 0 [])))
+        → lengths ≡ lengthsOf (cutViews (h .count) (inRows rows-of) (take (h .count) (getD rows 0 [])))
+        → IsRecordOf (weakened Weak (historyOf h) (certificateOf h c rows)) (record { criterion = Weak; pasts = c .pasts; lengths = lengths }) out
+    unfolding certificateOf
+    converge-record lengths out a b =
+        subst (λ (x : Option Certificate). IsRecordOf x (record { criterion = Weak; pasts = c .pasts; lengths = lengths }) out)
+        (sym (converge-weak (historyOf h) (certificateOf h c rows) q))
+        (made lengths _ (b ∙ ap lengthsOf views-are), a ∙ ap rowsOf views-are)

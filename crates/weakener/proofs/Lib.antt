@@ -1,0 +1,6 @@
+pub mod PassedLaws
+pub mod RecordLaws
+pub mod CausalRecords
+pub mod ConvergeRecords
+pub mod WeakenLaws
+pub mod TextLaws

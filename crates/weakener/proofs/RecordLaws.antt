@@ -1,0 +1,191 @@
+-- The records of weakened certificates are those of the lists. Assumes nothing.
+use Prim.Native.Nat.{ℕ}
+use mathlib.Core.Path.{_≡_, refl, sym, ap, ap₂, _∙_, subst}
+use mathlib.Core.Bool.{Bool, true, false, false≢true}
+use mathlib.Core.List.{List, [], map}
+use mathlib.Core.Option.{Option, none, some}
+use lib.ListN.{getD, take, replicate}
+use Rattle.history.specs.declared.record.History as written-history
+use Rattle.history.specs.Record.{pad}
+use Rattle.history.proofs.PadLaws.{pad-none}
+use Rattle.certificate.specs.declared.record.Criterion.{Criterion}
+use Rattle.certificate.specs.declared.record.Criterion.the-variants.{Pram, Weak, Causal, Converge, Sequential}
+use Rattle.certificate.specs.declared.record.EventList.{EventList}
+use Rattle.certificate.specs.declared.record.Certificate as written-certificate
+use Rattle.certificate.specs.Record.{noList, eventListOf, rowsOf}
+use Rattle.certificate.specs.Record as text-record
+use Rattle.criteria.specs.Tests.{table}
+use Rattle.criteria.specs.History.{History, size}
+use Rattle.criteria.specs.Certificate.{Certificate, viewCount}
+use Rattle.criteria.specs.Weaken.{precedes, pastsOf, upToIn, fromSequential, fromCausal, fromConverge, fromPram, fromWeak, weakenedFrom, weakened}
+use Rattle.criteria.specs.Records.{historyOf, certificateOf}
+use Rattle.faults.specs.Steps.{eventEach}
+use Rattle.weakened.specs.Steps.{lengthsOf}
+use Rattle.weakener.specs.Steps.{Passed, IsRecordOf}
+use Rattle.weakener.proofs.PassedLaws.{size-passed, fits-passed, one-begins}
+
+-- ---- the record of lists
+record-parts : (w : Criterion) (ps : List EventList) (ls : List ℕ) (pasts views : List (List ℕ))
+    → ps ≡ pad 64 noList (map eventListOf pasts) → ls ≡ lengthsOf views
+    → _≡_ {A = written-certificate.Certificate} (record { criterion = w; pasts = ps; lengths = ls }) (text-record.certificateOf w pasts views)
+unfolding text-record.certificateOf lengthsOf
+record-parts w ps ls pasts views p q = rw (p, q)
+
+is-record : (o : Option Certificate) (w : Criterion) (pasts views : List (List ℕ)) (x : written-certificate.Certificate) (rows : List (List ℕ))
+    → o ≡ some record { criterion = w; pasts = pasts; views = views } → x ≡ text-record.certificateOf w pasts views → rows ≡ rowsOf views → IsRecordOf o x rows
+is-record o w pasts views x rows q a b = subst (λ (y : Option Certificate). IsRecordOf y x rows) (sym q) (a, b)
+
+-- ---- from sequential
+from-sequential : (w : Criterion) (h : History) (c : Certificate) → c .criterion ≡ Sequential → weakened w h c ≡ fromSequential w h c (getD (c .views) 0 [])
+unfolding weakened
+from-sequential w h c q = ap (λ (x : Criterion). weakenedFrom x w h c) q
+
+pram-lists : (h : History) (c : Certificate) (v : List ℕ) (m : ℕ) → c .criterion ≡ Sequential → v ≡ getD (c .views) 0 [] → m ≡ viewCount Pram h
+    → weakened Pram h c ≡ some record { criterion = Pram; pasts = []; views = table m (λ _. v) }
+pram-lists h c v m q b k =
+    from-sequential Pram h c q
+    ∙ ap₂ (λ (n : ℕ) (u : List ℕ). some record { criterion = Pram; pasts = []; views = table n (λ _. u) }) (sym k) (sym b)
+
+event-lists : (w : Criterion) (h : History) (c : Certificate) (v : List ℕ) (n : ℕ) → eventEach w ≡ true → c .criterion ≡ Sequential → v ≡ getD (c .views) 0 [] → n ≡ size h
+    → weakened w h c ≡ some record { criterion = w; pasts = pastsOf n (precedes v); views = table n (upToIn v) }
+event-lists w h c v n t q b k =
+    from-sequential w h c q
+    ∙ go w t
+    ∙ ap₂ (λ (i : ℕ) (u : List ℕ). some record { criterion = w; pasts = pastsOf i (precedes u); views = table i (upToIn u) }) (sym k) (sym b)
+  where
+    go : (w : Criterion) → eventEach w ≡ true
+        → fromSequential w h c (getD (c .views) 0 [])
+        ≡ some record { criterion = w; pasts = pastsOf (size h) (precedes (getD (c .views) 0 [])); views = table (size h) (upToIn (getD (c .views) 0 [])) }
+    go Pram e = absurd (false≢true e)
+    go Weak e = refl
+    go Causal e = refl
+    go Converge e = absurd (false≢true e)
+    go Sequential e = absurd (false≢true e)
+
+converge-lists : (h : History) (c : Certificate) (v : List ℕ) (n : ℕ) → c .criterion ≡ Sequential → v ≡ getD (c .views) 0 [] → n ≡ size h
+    → weakened Converge h c ≡ some record { criterion = Converge; pasts = pastsOf n (precedes v); views = table 1 (λ _. v) }
+converge-lists h c v n q b k =
+    from-sequential Converge h c q
+    ∙ ap₂ (λ (i : ℕ) (u : List ℕ). some record { criterion = Converge; pasts = pastsOf i (precedes u); views = table 1 (λ _. u) }) (sym k) (sym b)
+
+-- ---- to itself
+only-itself : (wanted : Criterion) (h : History) (c : Certificate) (w : Criterion) → c .criterion ≡ w → ((d : Certificate) → weakenedFrom w wanted h c ≡ some d → d ≡ c)
+    → (d : Certificate) → weakened wanted h c ≡ some d → d ≡ c
+unfolding weakened
+only-itself wanted h c w q f d e = f d (ap (λ (x : Criterion). weakenedFrom x wanted h c) (sym q) ∙ e)
+
+same-some : (c d : Certificate) → some c ≡ some d → d ≡ c
+same-some c d e = cc
+
+same-none : (c d : Certificate) → none ≡ some d → d ≡ c
+same-none c d e = cc
+
+pub pram-itself : (wanted : Criterion) (h : History) (c : Certificate) → c .criterion ≡ Pram → (d : Certificate) → weakened wanted h c ≡ some d → d ≡ c
+pram-itself wanted h c q = only-itself wanted h c Pram q (go wanted)
+  where
+    go : (w : Criterion) (d : Certificate) → fromPram w c ≡ some d → d ≡ c
+    go Pram d e = same-some c d e
+    go Weak d e = same-none c d e
+    go Causal d e = same-none c d e
+    go Converge d e = same-none c d e
+    go Sequential d e = same-none c d e
+
+pub weak-itself : (wanted : Criterion) (h : History) (c : Certificate) → c .criterion ≡ Weak → (d : Certificate) → weakened wanted h c ≡ some d → d ≡ c
+weak-itself wanted h c q = only-itself wanted h c Weak q (go wanted)
+  where
+    go : (w : Criterion) (d : Certificate) → fromWeak w c ≡ some d → d ≡ c
+    go Pram d e = same-none c d e
+    go Weak d e = same-some c d e
+    go Causal d e = same-none c d e
+    go Converge d e = same-none c d e
+    go Sequential d e = same-none c d e
+
+-- causal to neither weak nor pram, and converge not to weak
+abbrev pub causal-keeps : Criterion → Bool
+causal-keeps Pram = false
+causal-keeps Weak = false
+causal-keeps Causal = true
+causal-keeps Converge = true
+causal-keeps Sequential = true
+
+abbrev pub converge-keeps : Criterion → Bool
+converge-keeps Pram = true
+converge-keeps Weak = false
+converge-keeps Causal = true
+converge-keeps Converge = true
+converge-keeps Sequential = true
+
+pub causal-itself : (wanted : Criterion) (h : History) (c : Certificate) → causal-keeps wanted ≡ true → c .criterion ≡ Causal
+    → (d : Certificate) → weakened wanted h c ≡ some d → d ≡ c
+causal-itself wanted h c t q = only-itself wanted h c Causal q (go wanted t)
+  where
+    go : (w : Criterion) → causal-keeps w ≡ true → (d : Certificate) → fromCausal w h c ≡ some d → d ≡ c
+    go Pram k d e = absurd (false≢true k)
+    go Weak k d e = absurd (false≢true k)
+    go Causal k d e = same-some c d e
+    go Converge k d e = same-none c d e
+    go Sequential k d e = same-none c d e
+
+pub converge-itself : (wanted : Criterion) (h : History) (c : Certificate) → converge-keeps wanted ≡ true → c .criterion ≡ Converge
+    → (d : Certificate) → weakened wanted h c ≡ some d → d ≡ c
+converge-itself wanted h c t q = only-itself wanted h c Converge q (go wanted t)
+  where
+    go : (w : Criterion) → converge-keeps w ≡ true → (d : Certificate) → fromConverge w h c ≡ some d → d ≡ c
+    go Pram k d e = same-none c d e
+    go Weak k d e = absurd (false≢true k)
+    go Causal k d e = same-none c d e
+    go Converge k d e = same-some c d e
+    go Sequential k d e = same-none c d e
+
+pub sequential-itself : (wanted : Criterion) (h : History) (c : Certificate) → wanted ≡ Sequential → c .criterion ≡ Sequential
+    → (d : Certificate) → weakened wanted h c ≡ some d → d ≡ c
+sequential-itself wanted h c t q = only-itself wanted h c Sequential q (λ d e. same-some c d (ap (λ (w : Criterion). fromSequential w h c (getD (c .views) 0 [])) (sym t) ∙ e))
+
+-- ---- the records that are made
+-- the criterion of the lists is that of the record
+pub same-criterion : (h : written-history.History) (c : written-certificate.Certificate) (rows : List (List ℕ)) (w : Criterion) → c .criterion ≡ w
+    → certificateOf h c rows .criterion ≡ w
+unfolding certificateOf
+same-criterion h c rows w q = q
+
+-- the criterion wanted is the one that was matched
+pub wanted-as : (w x : Criterion) (h : History) (c : Certificate) (r : written-certificate.Certificate) (rows : List (List ℕ)) → w ≡ x
+    → IsRecordOf (weakened x h c) r rows → IsRecordOf (weakened w h c) r rows
+wanted-as w x h c r rows q i = subst (λ (y : Criterion). IsRecordOf (weakened y h c) r rows) (sym q) i
+
+module _ (h : written-history.History) (c : written-certificate.Certificate) (rows : List (List ℕ)) (passed : Passed h c rows) where
+  own-record : IsRecordOf (some (certificateOf h c rows)) c rows
+  unfolding certificateOf
+  own-record = (fits-passed h c rows passed .record-is, fits-passed h c rows passed .rows-are)
+
+  pub itself-is : (o : Option Certificate) → ((d : Certificate) → o ≡ some d → d ≡ certificateOf h c rows) → IsRecordOf o c rows
+  itself-is none f = tt
+  itself-is (some d) f = subst (λ (x : Certificate). IsRecordOf (some x) c rows) (sym (f d refl)) own-record
+
+  module _ (is : c .criterion ≡ Sequential) (made : List (List ℕ)) (lengths : List ℕ) where
+    pub pram-is : (pasts : List EventList) (m : ℕ) → pasts ≡ replicate 64 noList → m ≡ viewCount Pram (historyOf h)
+        → made ≡ rowsOf (table m (λ _. take (h .count) (getD rows 0 []))) → lengths ≡ lengthsOf (table m (λ _. take (h .count) (getD rows 0 [])))
+        → IsRecordOf (weakened Pram (historyOf h) (certificateOf h c rows)) (record { criterion = Pram; pasts = pasts; lengths = lengths }) made
+    pram-is pasts m p k a b =
+        is-record _ Pram [] (table m (λ _. take (h .count) (getD rows 0 []))) _ made
+        (pram-lists (historyOf h) (certificateOf h c rows) _ m (same-criterion h c rows Sequential is) (one-begins h c rows passed is) k)
+        (record-parts Pram pasts lengths [] _ (p ∙ sym (pad-none 64 noList)) b)
+        a
+
+    pub events-is : (w : Criterion) (pasts : List EventList) → eventEach w ≡ true → pasts ≡ pad 64 noList (map eventListOf (pastsOf (h .count) (precedes (take (h .count) (getD rows 0 [])))))
+        → made ≡ rowsOf (table (h .count) (upToIn (take (h .count) (getD rows 0 [])))) → lengths ≡ lengthsOf (table (h .count) (upToIn (take (h .count) (getD rows 0 []))))
+        → IsRecordOf (weakened w (historyOf h) (certificateOf h c rows)) (record { criterion = w; pasts = pasts; lengths = lengths }) made
+    events-is w pasts t p a b =
+        is-record _ w _ _ _ made
+        (event-lists w (historyOf h) (certificateOf h c rows) _ (h .count) t (same-criterion h c rows Sequential is) (one-begins h c rows passed is) (sym (size-passed h c rows passed)))
+        (record-parts w pasts lengths _ _ p b)
+        a
+
+    pub converge-is : (pasts : List EventList) → pasts ≡ pad 64 noList (map eventListOf (pastsOf (h .count) (precedes (take (h .count) (getD rows 0 [])))))
+        → made ≡ rowsOf (table 1 (λ _. take (h .count) (getD rows 0 []))) → lengths ≡ lengthsOf (table 1 (λ _. take (h .count) (getD rows 0 [])))
+        → IsRecordOf (weakened Converge (historyOf h) (certificateOf h c rows)) (record { criterion = Converge; pasts = pasts; lengths = lengths }) made
+    converge-is pasts p a b =
+        is-record _ Converge _ _ _ made
+        (converge-lists (historyOf h) (certificateOf h c rows) _ (h .count) (same-criterion h c rows Sequential is) (one-begins h c rows passed is) (sym (size-passed h c rows passed)))
+        (record-parts Converge pasts lengths _ _ p b)
+        a

@@ -1,0 +1,100 @@
+-- Weakening on texts is weakening of the records that they are read as. Assumes nothing.
+use Prim.Native.Nat.{ℕ}
+use mathlib.Core.Path.{_≡_, refl, sym, ap, ap₂, _∙_, subst}
+use mathlib.Core.Bool.{Bool, cond}
+use mathlib.Core.List.{List}
+use mathlib.Core.Option.{Option, none, some}
+use lib.ListN.{length, replicate}
+use lib.Dec.{eqb}
+use borrow.Author.Tests.{eq-eqb, ne-eqb}
+use Rattle.history.specs.declared.record.History.{History}
+use Rattle.history.specs.Record.{eventsIn}
+use Rattle.history_reader.specs.ReadHistory.{readHistory}
+use Rattle.certificate.specs.declared.record.Criterion.{Criterion}
+use Rattle.certificate.specs.declared.record.Criterion.the-variants.{Pram}
+use Rattle.certificate.specs.declared.record.Certificate.{Certificate}
+use Rattle.certificate.specs.Record.{noRow}
+use Rattle.certificate_reader.specs.declared.read.CertificateRead.{CertificateRead}
+use Rattle.certificate_reader.specs.ReadCertificate.{readCertificate, rowsRead}
+use Rattle.criteria.specs.Check.{answerOf, check}
+use Rattle.criteria.specs.Weaken.{weakened}
+use Rattle.criteria.specs.Records.{historyOf, certificateOf}
+use Rattle.faults.specs.declared.finding.Finding.the-variants.{Nothing}
+use Rattle.checker.specs.CheckText.{Verdict, refused, checked, historyRead, certificateRead, checkText}
+use Rattle.checker.specs.Verdict.{verdictOf}
+use Rattle.checker.specs.WeakenText.{textIfSome, weakenedText, wantedOf, weakenedWanted, pairAnswer, pairLength, pairBytes, weakenAnswer, weakenLength, weakenBytes}
+use Rattle.checker.proofs.TextTheorems.{refused-as}
+use Rattle.checker.proofs.VerdictLaws.{refused-verdict, no-fault, of-texts, checked-read}
+use Rattle.weakener.specs.declared.weaken.Weakened.{Weakened}
+use Rattle.weakener.specs.Weakening.{weakeningOf, IsPair}
+use Rattle.weakener.proofs.WeakenLaws.{answered, pair-refused}
+
+-- an answer, its length and the buffer are those of the texts
+abbrev pub Weakens : List ℕ → List ℕ → ℕ → List ℕ → Weakened → List ℕ → Type 0
+Weakens history text wanted buffer k then =
+    (weakeningOf k ≡ weakenAnswer history text wanted buffer) × (k .length ≡ weakenLength history text wanted buffer)
+    × (then ≡ weakenBytes history text wanted buffer)
+
+module _ (history text : List ℕ) (wanted : ℕ) (buffer : List ℕ) (r : CertificateRead) (read : r ≡ readCertificate history text) where
+  -- a reading refusal
+  pub weakening-refused : (r .fault ≡ 0 → ⊥)
+      → Weakens history text wanted buffer
+      record {
+        checked = record { fault = r .fault; text = r .text; line = r .line; start = r .start; end = r .end; criterion = Pram; finding = Nothing };
+        refusal = 0;
+        length = 0;
+      }
+      buffer
+  unfolding weakenAnswer weakenLength weakenBytes
+  weakening-refused n =
+      let m : readCertificate history text .fault ≡ 0 → ⊥ = λ z. n (ap (λ (x : CertificateRead). x .fault) read ∙ z) in
+      let e = ne-eqb (readCertificate history text .fault) 0 m in
+      (refused-verdict history text r read n ∙ refused-as history text m ∙ rw e refl, rw e refl, rw e refl)
+
+  module _ (z : r .fault ≡ 0) (rows : List (List ℕ)) (rows-read : rows ≡ rowsRead history text (replicate 64 noRow)) where
+    -- both texts are read
+    weakening-read : (k : Weakened) (then : List ℕ)
+        → IsPair (checkText history text) (certificateRead history text .criterion) (weakenedWanted history text (wantedOf wanted)) buffer k then
+        → Weakens history text wanted buffer k then
+    unfolding weakenAnswer weakenLength weakenBytes
+    weakening-read k then p =
+        let e = eq-eqb (readCertificate history text .fault) 0 (no-fault history text r read z rows rows-read) in
+        (p .answers ∙ rw e refl, p .long ∙ rw e refl, p .bytes ∙ rw e refl)
+
+    criterion-read : r .certificate .criterion ≡ certificateRead history text .criterion
+    unfolding certificateRead certificateOf
+    criterion-read = ap (λ (x : CertificateRead). x .certificate .criterion) read
+
+    lists-read : (w : Criterion)
+        → textIfSome (eventsIn (r .history)) (weakened w (historyOf (r .history)) (certificateOf (r .history) (r .certificate) rows))
+        ≡ weakenedText history text w
+    unfolding weakenedText historyRead certificateRead
+    lists-read w =
+        of-texts history text r read z rows rows-read
+        (λ (h : History) (c : Certificate) (l : List (List ℕ)). textIfSome (eventsIn h) (weakened w (historyOf h) (certificateOf h c l)))
+
+    -- a number that is no criterion's
+    pub weakening-none : none ≡ wantedOf wanted → (k : Weakened) → k ≡ answered (r .certificate .criterion) Nothing 17 0
+        → Weakens history text wanted buffer k buffer
+    weakening-none q k e =
+        weakening-read k buffer
+        (subst (λ (o : Option Criterion). IsPair (checkText history text) (certificateRead history text .criterion) (weakenedWanted history text o) buffer k buffer) q
+        (subst (λ (x : Weakened). IsPair (checkText history text) (certificateRead history text .criterion) none buffer x buffer)
+        (sym (e ∙ ap (λ (c : Criterion). answered c Nothing 17 0) criterion-read))
+        (pair-refused (checkText history text) (certificateRead history text .criterion) none buffer refl)))
+
+    -- a criterion
+    pub weakening-named : (w : Criterion) → some w ≡ wantedOf wanted → (k : Weakened) (then : List ℕ)
+        → IsPair (checked (r .certificate .criterion) (answerOf (check (historyOf (r .history)) (certificateOf (r .history) (r .certificate) rows))))
+        (r .certificate .criterion)
+        (textIfSome (eventsIn (r .history)) (weakened w (historyOf (r .history)) (certificateOf (r .history) (r .certificate) rows))) buffer k then
+        → Weakens history text wanted buffer k then
+    weakening-named w q k then p =
+        weakening-read k then
+        (subst (λ (o : Option Criterion). IsPair (checkText history text) (certificateRead history text .criterion) (weakenedWanted history text o) buffer k then) q
+        (subst (λ (t : Option (List ℕ)). IsPair (checkText history text) (certificateRead history text .criterion) t buffer k then) (lists-read w)
+        (subst (λ (c : Criterion). IsPair (checkText history text) c
+        (textIfSome (eventsIn (r .history)) (weakened w (historyOf (r .history)) (certificateOf (r .history) (r .certificate) rows))) buffer k then) criterion-read
+        (subst (λ (v : Verdict). IsPair v (r .certificate .criterion)
+        (textIfSome (eventsIn (r .history)) (weakened w (historyOf (r .history)) (certificateOf (r .history) (r .certificate) rows))) buffer k then)
+        (checked-read history text r read z rows rows-read) p))))

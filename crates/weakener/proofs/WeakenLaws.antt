@@ -1,0 +1,193 @@
+-- Laws of the answer of a weakening. Assumes nothing.
+use Prim.Native.Nat.{ℕ, zero, suc, _≤_, _<_}
+use native.Mathlib.Omega.{arith}
+use mathlib.Core.Path.{_≡_, refl, sym, ap, ap₂, _∙_, subst}
+use mathlib.Core.Bool.{Bool, true, false, cond, _&&_, false≢true}
+use mathlib.Core.List.{List}
+use mathlib.Core.Option.{Option, none, some}
+use lib.ListN.{length, replicate}
+use lib.Dec.{eqb, leb}
+use borrow.Author.Tests.{eq-eqb, ne-eqb}
+use Rattle.layout.specs.Fill.{fill, after}
+use Rattle.layout.proofs.Cases.{by-bool}
+use Rattle.history.specs.declared.record.History as written-history
+use Rattle.history.specs.declared.record.Event.{Event}
+use Rattle.history.specs.Record.{eventsIn}
+use Rattle.history.specs.Readable.{within}
+use Rattle.history_theorems.proofs.Guarantees.{within-sound}
+use Rattle.certificate.specs.declared.record.Criterion.{Criterion}
+use Rattle.certificate.specs.declared.record.Certificate as written-certificate
+use Rattle.certificate.specs.Record as text-record
+use Rattle.certificate.specs.CertificateText.{certificateText}
+use Rattle.certificate.specs.Readable.{fits}
+use Rattle.certificate_reader.specs.declared.read.Text.the-variants.{Neither}
+use Rattle.certificate_writer.specs.declared.write.CertificateWritten.{CertificateWritten}
+use Rattle.certificate_writer.specs.WriteCertificate.{certificateWritten, certificateAfter}
+use Rattle.certificate_theorems.proofs.Guarantees.{fits-sound}
+use Rattle.criteria.specs.Certificate.{Certificate, Readable}
+use Rattle.criteria.specs.Check.{Fault, fault11, fault12, fault13, fault14, fault15, fault16, answerOf, check}
+use Rattle.criteria.specs.Weaken.{isPair, weakened}
+use Rattle.criteria.specs.Records.{historyOf, certificateOf}
+use Rattle.criteria.proofs.RecordLaws.{readable}
+use Rattle.criteria.proofs.Weaken.{isSome, weaken-accepted, pair-weakened}
+use Rattle.faults.specs.declared.finding.Finding.{Finding}
+use Rattle.faults.specs.declared.finding.Finding.the-variants.{Nothing}
+use Rattle.faults.specs.Finding.{findingOf, isFound}
+use Rattle.checker.specs.CheckText.{Verdict, checked}
+use Rattle.checker.specs.WeakenText.{textOfLists, textIfSome, wantedOf, pairAnswer, pairLength, pairBytes}
+use Rattle.checker.proofs.ListTexts.{lists-fit, text-lists}
+use Rattle.weakener.specs.declared.weaken.Weakened.{Weakened}
+use Rattle.weakener.specs.Steps.{Passed, IsRecordOf}
+use Rattle.weakener.specs.Weakening.{weakeningOf, IsPair}
+
+-- ---- the criterion wanted
+pub wanted-none : (n : ℕ) → (n ≡ 0 → ⊥) → (n ≡ 1 → ⊥) → (n ≡ 2 → ⊥) → (n ≡ 3 → ⊥) → (n ≡ 4 → ⊥) → none ≡ wantedOf n
+wanted-none zero a b c d e = absurd (a refl)
+wanted-none (suc zero) a b c d e = absurd (b refl)
+wanted-none (suc (suc zero)) a b c d e = absurd (c refl)
+wanted-none (suc (suc (suc zero))) a b c d e = absurd (d refl)
+wanted-none (suc (suc (suc (suc zero)))) a b c d e = absurd (e refl)
+wanted-none (suc (suc (suc (suc (suc n))))) a b c d e = refl
+
+-- ---- the answers
+-- what the code answers of texts that were read
+abbrev pub answered : Criterion → Finding → ℕ → ℕ → Weakened
+answered c f refusal long =
+    record {
+      checked = record { fault = 0; text = Neither; line = 0; start = 0; end = 0; criterion = c; finding = f };
+      refusal = refusal;
+      length = long;
+    }
+
+-- a fault is no acceptance
+found-number : (x : Option Fault) → isFound x ≡ true → answerOf x .number ≡ 0 → ⊥
+found-number none e z = false≢true e
+found-number (some (fault11 e)) q z = omega arith
+found-number (some (fault12 e)) q z = omega arith
+found-number (some (fault13 e)) q z = omega arith
+found-number (some (fault14 v)) q z = omega arith
+found-number (some (fault15 v)) q z = omega arith
+found-number (some (fault16 v e)) q z = omega arith
+
+module _ (v : Verdict) (c : Criterion) (o : Option (List ℕ)) (buffer : List ℕ) where
+  -- 17
+  pub pair-refused : o ≡ none → IsPair v c o buffer (answered c Nothing 17 0) buffer
+  pair-refused q = record {
+    answers = rw q refl;
+    long = rw q refl;
+    bytes = rw q refl;
+  }
+
+  -- 11 to 16
+  pub pair-found : (t : List ℕ) (f : Finding) → o ≡ some t → v ≡ checked c (answerOf (findingOf f)) → isFound (findingOf f) ≡ true
+      → IsPair v c o buffer (answered c f 0 0) buffer
+  pair-found t f q e found =
+      let n = ne-eqb (answerOf (findingOf f) .number) 0 (found-number (findingOf f) found) in
+      record {
+        answers = rw (q, e, n) refl;
+        long = rw (q, e, n, n) refl;
+        bytes = rw (q, e, n, n) refl;
+      }
+
+  -- 18, or the text
+  pub pair-written : (t : List ℕ) (w : CertificateWritten) (then : List ℕ) → o ≡ some t → v ≡ checked c (answerOf none)
+      → w ≡ cond (leb (length t) (length buffer)) record { number = 0; length = length t } record { number = 18; length = 0 }
+      → then ≡ after t buffer → IsPair v c o buffer (answered c Nothing (w .number) (w .length)) then
+  unfolding after
+  pair-written t w then q e p b = go (leb (length t) (length buffer)) refl
+    where
+      go : (room : Bool) → leb (length t) (length buffer) ≡ room → IsPair v c o buffer (answered c Nothing (w .number) (w .length)) then
+      go true r = record {
+        answers = rw (p, q, e, r) refl;
+        long = rw (p, q, e, r) refl;
+        bytes = b ∙ rw (q, e, r) refl;
+      }
+      go false r = record {
+        answers = rw (p, q, e, r) refl;
+        long = rw (p, q, e, r) refl;
+        bytes = b ∙ rw (q, e, r) refl;
+      }
+
+-- ---- the text of a weakened certificate
+text-some : (es : List Event) (o : Option Certificate) → isSome o ≡ false → textIfSome es o ≡ none
+text-some es none e = refl
+text-some es (some d) e = absurd (false≢true (sym e))
+
+module _ (h : written-history.History) (c : written-certificate.Certificate) (rows : List (List ℕ)) (w : Criterion) where
+  pub no-pair : isPair (c .criterion) w ≡ false → textIfSome (eventsIn h) (weakened w (historyOf h) (certificateOf h c rows)) ≡ none
+  unfolding certificateOf
+  no-pair e = text-some (eventsIn h) (weakened w (historyOf h) (certificateOf h c rows)) (pair-weakened w (historyOf h) (certificateOf h c rows) ∙ e)
+
+some-pair : (es : List Event) (o : Option Certificate) → isSome o ≡ true → (t : List ℕ) × (textIfSome es o ≡ some t)
+some-pair es none e = absurd (false≢true e)
+some-pair es (some d) e = (textOfLists es d, refl)
+
+module _ (h : written-history.History) (c : written-certificate.Certificate) (rows : List (List ℕ)) (w : Criterion) where
+  -- a fault of the check comes before 18
+  pub pair-faulty : isPair (c .criterion) w ≡ true → (f : Finding) → findingOf f ≡ check (historyOf h) (certificateOf h c rows)
+      → isFound (findingOf f) ≡ true → (buffer : List ℕ)
+      → IsPair (checked (c .criterion) (answerOf (check (historyOf h) (certificateOf h c rows)))) (c .criterion)
+      (textIfSome (eventsIn h) (weakened w (historyOf h) (certificateOf h c rows))) buffer (answered (c .criterion) f 0 0) buffer
+  unfolding certificateOf
+  pair-faulty pair f q found buffer =
+      let t = some-pair (eventsIn h) (weakened w (historyOf h) (certificateOf h c rows)) (pair-weakened w (historyOf h) (certificateOf h c rows) ∙ pair) in
+      pair-found (checked (c .criterion) (answerOf (check (historyOf h) (certificateOf h c rows)))) (c .criterion)
+      (textIfSome (eventsIn h) (weakened w (historyOf h) (certificateOf h c rows))) buffer (t .0) f (t .1)
+      (ap (λ (x : Option Fault). checked (c .criterion) (answerOf x)) (sym q)) found
+
+-- what the writer answers of a record within its limits
+module _ (h : written-history.History) (c : written-certificate.Certificate) (rows : List (List ℕ)) (w : within h ≡ true) (f : fits (eventsIn h) c rows ≡ true)
+    (t : List ℕ) (says : certificateText (eventsIn h) c rows ≡ t) (buffer : List ℕ) where
+  written-text : certificateWritten h c rows buffer
+      ≡ cond (leb (length t) (length buffer)) record { number = 0; length = length t } record { number = 18; length = 0 }
+  unfolding certificateWritten
+  written-text = rw (w, f, says) refl
+
+  after-text : certificateAfter h c rows buffer ≡ after t buffer
+  unfolding certificateAfter
+  after-text = rw (w, f, says) refl
+
+module _ (h : written-history.History) (c : written-certificate.Certificate) (rows : List (List ℕ)) (w : Criterion) (p : Passed h c rows) where
+  few : length (eventsIn h) ≤ 64
+  few = let s = within-sound h (p .history) in omega (arith, s .events, s .count)
+
+  lists-readable : Readable (historyOf h) (certificateOf h c rows)
+  lists-readable = readable h c rows (fits-sound (eventsIn h) c rows few (p .certificate))
+
+  -- the record of the weakened lists, written
+  pub pair-weakens : isPair (c .criterion) w ≡ true → (r : written-certificate.Certificate) (made : List (List ℕ))
+      → IsRecordOf (weakened w (historyOf h) (certificateOf h c rows)) r made
+      → (buffer : List ℕ) (wr : CertificateWritten) (then : List ℕ) → wr ≡ certificateWritten h r made buffer → then ≡ certificateAfter h r made buffer
+      → IsPair (checked (c .criterion) (answerOf (check (historyOf h) (certificateOf h c rows)))) (c .criterion)
+      (textIfSome (eventsIn h) (weakened w (historyOf h) (certificateOf h c rows))) buffer
+      (answered (c .criterion) Nothing (wr .number) (wr .length)) then
+  unfolding certificateOf
+  pair-weakens pair r made is buffer wr then q b = go (weakened w (historyOf h) (certificateOf h c rows)) refl
+    where
+      go : (o : Option Certificate) → weakened w (historyOf h) (certificateOf h c rows) ≡ o
+          → IsPair (checked (c .criterion) (answerOf (check (historyOf h) (certificateOf h c rows)))) (c .criterion)
+          (textIfSome (eventsIn h) (weakened w (historyOf h) (certificateOf h c rows))) buffer
+          (answered (c .criterion) Nothing (wr .number) (wr .length)) then
+      go none e = absurd (false≢true (sym (ap isSome e) ∙ pair-weakened w (historyOf h) (certificateOf h c rows) ∙ pair))
+      go (some d) e =
+          let a = weaken-accepted (historyOf h) w (certificateOf h c rows) d lists-readable (p .passes) e in
+          let fit = lists-fit h few d (a .readable) in
+          let says = text-lists h few d (a .readable) in
+          let same = subst (λ (o : Option Certificate). IsRecordOf o r made) e is in
+          pair-written (checked (c .criterion) (answerOf (check (historyOf h) (certificateOf h c rows)))) (c .criterion)
+          (textIfSome (eventsIn h) (weakened w (historyOf h) (certificateOf h c rows))) buffer (textOfLists (eventsIn h) d) wr then
+          (ap (textIfSome (eventsIn h)) e) (ap (λ (x : Option Fault). checked (c .criterion) (answerOf x)) (p .passes))
+          (q ∙ ap₂ (λ (x : written-certificate.Certificate) (l : List (List ℕ)). certificateWritten h x l buffer) (same .0) (same .1)
+          ∙ written-text h _ _ (p .history) fit (textOfLists (eventsIn h) d) says buffer)
+          (b ∙ ap₂ (λ (x : written-certificate.Certificate) (l : List (List ℕ)). certificateAfter h x l buffer) (same .0) (same .1)
+          ∙ after-text h _ _ (p .history) fit (textOfLists (eventsIn h) d) says buffer)
+
+-- nothing was found
+pub not-found : (x : Option Fault) → isFound x ≡ false → x ≡ none
+not-found none e = refl
+not-found (some f) e = absurd (false≢true (sym e))
+
+-- the same answer
+pub same-answer : {v : Verdict} {c : Criterion} {o : Option (List ℕ)} {buffer then : List ℕ} {r k : Weakened} → r ≡ k → IsPair v c o buffer k then
+    → IsPair v c o buffer r then
+same-answer {v} {c} {o} {buffer} {then} q p = subst (λ (x : Weakened). IsPair v c o buffer x then) (sym q) p

@@ -1,0 +1,3 @@
+// Weakening a certificate.
+pub mod records;
+pub mod weaken;
