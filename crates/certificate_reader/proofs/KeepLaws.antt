@@ -1,9 +1,9 @@
 -- Laws of the lists that are kept while the lines of pasts and of views are read. Assumes nothing.
-use Prim.Native.Nat.{ℕ, zero, suc, _+_, _-_, _≤_, _<_}
+use Prim.Native.Nat.{ℕ, suc, _+_, _-_, _≤_, _<_}
 use native.Mathlib.Numerals.{add-one}
 use native.Mathlib.Omega.{arith}
 use mathlib.Core.Path.{_≡_, refl, sym, ap, _∙_}
-use mathlib.Core.Bool.{Bool, true, false, cond, not, _&&_, _||_, false≢true}
+use mathlib.Core.Bool.{Bool, true, false, _&&_}
 use mathlib.Core.List.{List, [], _∷_, _++_, map, map-append}
 use lib.ListN.{length, getD, take, drop, set, replicate, length-map, length-append, drop-of-length-le}
 use lib.Seq.{drop-cons}
@@ -15,7 +15,7 @@ use Rattle.layout.specs.Number.{value}
 use Rattle.layout.specs.List.{itemsOf, allBelow, numbersOf}
 use Rattle.layout.proofs.Cases.{by-bool, by-eq, and-right}
 use Rattle.history.specs.Record.{pad}
-use Rattle.history.proofs.PadLaws.{pad-none, pad-set, pad-length, take-pad}
+use Rattle.history.proofs.PadLaws.{pad-set, take-pad}
 use Rattle.history.specs.declared.record.Event.{Event}
 use Rattle.certificate.specs.declared.record.Criterion.{Criterion}
 use Rattle.certificate.specs.declared.record.EventList.{EventList}
@@ -23,13 +23,13 @@ use Rattle.certificate.specs.declared.list.ListLine.{ListLine}
 use Rattle.certificate.specs.Record.{noList, noRow, eventListOf, rowOf, certificateOf, rowsOf, entriesIn}
 use Rattle.certificate.proofs.FitsLaws.{entries-made}
 use Rattle.certificate.specs.Criteria.{hasPasts, countFrom, viewNumbers, criterionOf}
-use Rattle.certificate.specs.Faults.{rising, criterionLine, listLayout, listLimits, pairFault, listFault, listSaid}
+use Rattle.certificate.specs.Faults.{criterionLine, listLayout, listLimits, pairFault, listFault, listSaid}
 use Rattle.certificate.specs.declared.numbers.ViewNumbers.{ViewNumbers}
 use Rattle.certificate.specs.Steps.Numbers.{viewNumbersOf}
 use Rattle.certificate.specs.declared.criterion.CriterionRead.{CriterionRead}
 use Rattle.certificate.specs.Steps.Lists.{listWith, listRead, criterionRead}
 use Rattle.certificate_reader.specs.declared.read.LinesRead.{LinesRead}
-use Rattle.certificate_reader.specs.ReadCertificate.{Lines, refusal, accepted, endFrom, headingFrom, listsFrom, viewsFrom, pastsFrom, bodyFrom, rowsAfter}
+use Rattle.certificate_reader.specs.ReadCertificate.{Lines, refusal, accepted, headingFrom, listsFrom, viewsFrom, pastsFrom, bodyFrom, rowsAfter}
 use Rattle.certificate_reader.specs.Steps.Lines.{linesRead, afterViews, viewLines, pastLines}
 use Rattle.certificate_reader.proofs.ReadLaws.{lists-cut, lists-more, lists-bad, lists-done}
 

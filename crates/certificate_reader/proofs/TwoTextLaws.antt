@@ -1,13 +1,12 @@
 -- Laws of reading the two texts: the answer and the rows in each case. Assumes nothing.
 use Prim.Native.Nat.{ℕ, _-_, _≤_}
-use mathlib.Core.Path.{_≡_, refl, sym, ap, _∙_}
+use mathlib.Core.Path.{_≡_, sym, ap, _∙_}
 use mathlib.Core.Bool.{cond}
 use mathlib.Core.List.{List, []}
 use lib.ListN.{length}
 use lib.Dec.{eqb}
 use borrow.Author.Tests.{eq-eqb, ne-eqb}
 use Rattle.layout.proofs.Cases.{by-eq}
-use Rattle.history.specs.declared.record.History.{History}
 use Rattle.history.specs.Record.{pad, eventsIn}
 use Rattle.history_reader.specs.declared.read.HistoryRead.{HistoryRead}
 use Rattle.history_reader.specs.ReadHistory.{readHistory}
@@ -21,7 +20,7 @@ use Rattle.certificate_reader.specs.declared.read.LinesRead.{LinesRead}
 use Rattle.certificate_reader.specs.declared.read.CertificateRead.{CertificateRead}
 use Rattle.certificate_reader.specs.ReadCertificate.{Lines, readLines, historyRefused, textOf, certificateRead, readCertificate, rowsAfter, rowsRead, partOf, faultyLine}
 use Rattle.certificate_reader.specs.Steps.Lines.{linesRead}
-use Rattle.certificate_reader.proofs.PlaceLaws.{Placed, placed-text}
+use Rattle.certificate_reader.proofs.PlaceLaws.{placed-text}
 
 -- x is the reading of the history text
 module _ (history text : List ℕ) (rows : List (List ℕ)) (x : HistoryRead) (q : x ≡ readHistory history) where

@@ -1,13 +1,13 @@
 // Reading a certificate text, given its history text.
 ghost use mathlib.Core.Path.{_≡_};
 ghost use Prim.Native.Nat.{_+_, _-_, _≤_};
-ghost use mathlib.Core.List.{List, [], map};
+ghost use mathlib.Core.List.{[], map};
 ghost use lib.ListN.{length, take, drop, replicate};
 ghost use Rattle.layout.specs.Split.{split};
 ghost use Rattle.history.specs.Record.{pad};
 ghost use Rattle.certificate.specs.Record.{noList, eventListOf, certificateOf, entriesIn};
 ghost use Rattle.certificate.specs.declared.record.Criterion.the-variants.{Pram};
-ghost use Rattle.certificate_reader.specs.ReadCertificate.{refusal, accepted, endFrom, listsFrom, viewsFrom, pastsFrom, bodyFrom, linesFrom, readLines, rowsAfter, readCertificate, rowsRead, faultyLine};
+ghost use Rattle.certificate_reader.specs.ReadCertificate.{refusal, viewsFrom, pastsFrom, bodyFrom, linesFrom, readLines, rowsAfter, readCertificate, rowsRead, faultyLine};
 ghost use Rattle.certificate_reader.specs.Steps.Lines.{linesRead, viewLines, pastLines};
 use certificate::criterion::has_pasts;
 use certificate::criterion::read_criterion;

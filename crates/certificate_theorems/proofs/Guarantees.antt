@@ -11,13 +11,12 @@ use borrow.Author.Tests.{leb-true, ltb-true}
 use Rattle.layout.proofs.Cases.{and-left, and-right}
 use Rattle.history.specs.declared.record.Event.{Event}
 use Rattle.history.specs.Readable.{allLess}
-use Rattle.history_reader.specs.ReadHistory.{readHistory}
 use Rattle.certificate.specs.declared.record.Certificate.{Certificate}
 use Rattle.certificate.specs.Record.{pastsIn, viewsIn}
 use Rattle.certificate.specs.Criteria.{viewNumbers, pastCount}
 use Rattle.certificate.specs.Faults.{rising}
 use Rattle.certificate.specs.Readable.{goodLists, fits}
-use Rattle.certificate.proofs.FitsLaws.{Fits, fits-facts}
+use Rattle.certificate.proofs.FitsLaws.{fits-facts}
 use Rattle.certificate_reader.specs.ReadCertificate.{readCertificate, rowsRead}
 use Rattle.certificate_theorems.proofs.Theorems.{eventsOf, few-events, no-fault-history, read-fits}
 

@@ -1,5 +1,5 @@
 -- Round trips of a whole text: the text of good pasts and views reads as them, and no other text reads. Assumes nothing.
-use Prim.Native.Nat.{ℕ, zero, suc, _+_, _≤_, _<_}
+use Prim.Native.Nat.{ℕ, suc, _+_, _≤_, _<_}
 use native.Mathlib.Omega.{arith}
 use mathlib.Core.Path.{_≡_, refl, sym, ap, ap₂, _∙_}
 use mathlib.Core.Bool.{Bool, true, false, cond, not, _&&_, _||_}
@@ -10,10 +10,9 @@ use borrow.Author.Tests.{le-leb, leb-true, eq-eqb, ne-eqb}
 use Rattle.layout.specs.Split.{split, join}
 use Rattle.layout.specs.Word.{same, pastHeading, viewHeading}
 use Rattle.layout.proofs.Cases.{by-bool, by-eq, and-left, and-right}
-use Rattle.layout.proofs.SplitLaws.{without, allWithout, split-append, join-split}
+use Rattle.layout.proofs.SplitLaws.{without, allWithout, join-split}
 use Rattle.layout.proofs.WordLaws.{same-true, same-refl}
 use Rattle.history.specs.declared.record.Event.{Event}
-use Rattle.history.specs.HistoryText.{linesText}
 use Rattle.history.specs.Readable.{allLess}
 use Rattle.history_theorems.proofs.TextRound.{split-lines, more}
 use Rattle.certificate.proofs.NumberingLaws.{count-long}

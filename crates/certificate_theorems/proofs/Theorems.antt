@@ -1,28 +1,25 @@
 -- The theorems of the certificate text: what is readable, and that reading and writing are inverse. Assumes nothing.
 use Prim.Native.Nat.{ℕ, _≤_}
 use native.Mathlib.Omega.{arith}
-use mathlib.Core.Path.{_≡_, refl, sym, ap, ap₂, _∙_}
-use mathlib.Core.Bool.{Bool, true, false, cond}
+use mathlib.Core.Path.{_≡_, sym, ap, ap₂, _∙_}
+use mathlib.Core.Bool.{true}
 use mathlib.Core.List.{List}
 use lib.ListN.{length}
-use lib.Dec.{eqb}
 use borrow.Author.Tests.{eq-eqb, ne-eqb}
 use Rattle.layout.proofs.Cases.{by-eq}
 use Rattle.history.specs.declared.record.Event.{Event}
-use Rattle.history.specs.declared.record.History.{History}
 use Rattle.history.specs.Record.{eventsIn}
 use Rattle.history_reader.specs.ReadHistory.{readHistory}
-use Rattle.history_theorems.proofs.Guarantees.{Sound, read-sound}
-use Rattle.certificate.specs.declared.record.Criterion.{Criterion}
+use Rattle.history_theorems.proofs.Guarantees.{read-sound}
 use Rattle.certificate.specs.declared.record.Certificate.{Certificate}
 use Rattle.certificate.specs.Record.{certificateOf, rowsOf, pastsIn, viewsIn}
 use Rattle.certificate.specs.Criteria.{viewNumbers, pastCount}
 use Rattle.certificate.specs.CertificateText.{textOf, certificateText}
 use Rattle.certificate.specs.Readable.{fits, Readable}
 use Rattle.certificate.proofs.FitsLaws.{Fits, fits-facts, facts-fit, pasts-in, views-in}
-use Rattle.certificate_reader.specs.declared.read.Text.the-variants.{Neither, HistoryText, CertificateText}
+use Rattle.certificate_reader.specs.declared.read.Text.the-variants.{Neither}
 use Rattle.certificate_reader.specs.declared.read.CertificateRead.{CertificateRead}
-use Rattle.certificate_reader.specs.ReadCertificate.{Lines, accepted, readLines, certificateRead, historyRefused, readCertificate, rowsAfter, rowsRead}
+use Rattle.certificate_reader.specs.ReadCertificate.{Lines, accepted, readLines, certificateRead, readCertificate, rowsAfter, rowsRead}
 use Rattle.certificate_theorems.proofs.TextRound.{text-read, Reads, read-text}
 use Rattle.certificate_theorems.proofs.TextLength.{text-short}
 

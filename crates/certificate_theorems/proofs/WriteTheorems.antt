@@ -1,7 +1,7 @@
 -- The theorems of writing a certificate: what 9 means, and what is read is written back. Assumes nothing.
 use Prim.Native.Nat.{ℕ, _≤_}
 use native.Mathlib.Omega.{arith}
-use mathlib.Core.Path.{_≡_, refl, sym, ap, _∙_}
+use mathlib.Core.Path.{_≡_, refl, ap}
 use mathlib.Core.Bool.{Bool, true, false, _&&_}
 use mathlib.Core.List.{List}
 use lib.ListN.{length}
@@ -22,9 +22,8 @@ use Rattle.certificate.specs.CertificateText.{certificateText}
 use Rattle.certificate.specs.Readable.{fits}
 use Rattle.certificate_reader.specs.declared.read.CertificateRead.{CertificateRead}
 use Rattle.certificate_reader.specs.ReadCertificate.{readCertificate, rowsRead}
-use Rattle.certificate_writer.specs.declared.write.CertificateWritten.{CertificateWritten}
 use Rattle.certificate_writer.specs.WriteCertificate.{writable, certificateWritten, certificateAfter}
-use Rattle.certificate_theorems.proofs.Theorems.{eventsOf, no-fault-history, read-as, read-written, read-fits, written-read, written-rows}
+use Rattle.certificate_theorems.proofs.Theorems.{eventsOf, no-fault-history, read-written, read-fits, written-read, written-rows}
 
 -- readable texts stand for a history's record and for a certificate's record with its rows: they are read as these
 pub record Stands (h : History) (c : Certificate) (rows : List (List ℕ)) (history text : List ℕ) : Type 0 where

@@ -1,14 +1,13 @@
 -- A certificate text is a text of bytes: each of its numbers is below 256. Assumes nothing.
-use Prim.Native.Nat.{ℕ, _≤_, _<_}
+use Prim.Native.Nat.{ℕ, _<_}
 use native.Mathlib.Omega.{arith}
-use mathlib.Core.Path.{_≡_, refl, _∙_}
-use mathlib.Core.Bool.{Bool, true, false, cond, _&&_}
+use mathlib.Core.Path.{_≡_, refl}
+use mathlib.Core.Bool.{Bool, true, false, cond}
 use mathlib.Core.List.{List, [], _∷_, _++_, map}
 use lib.ListN.{length}
 use lib.Dec.{leb, ltb}
 use borrow.Author.Tests.{leb-true, lt-ltb}
 use Rattle.layout.specs.Split.{join}
-use Rattle.layout.specs.Word.{criterionWord, pastHeading, viewHeading}
 use Rattle.layout.specs.Number.{isDigit, allDigits, startsWell, isNumber, spell}
 use Rattle.layout.specs.List.{listText}
 use Rattle.layout.proofs.Cases.{and-left, and-right}

@@ -1,15 +1,12 @@
 -- The third demand holds. Assumes nothing.
 use Prim.Native.Nat.{ℕ, _≤_, _<_}
 use mathlib.Core.Path.{_≡_, refl, sym, ap, ap₂, _∙_, subst}
-use mathlib.Core.Bool.{Bool, true, false, cond}
+use mathlib.Core.Bool.{true}
 use mathlib.Core.List.{List}
-use mathlib.Core.Option.{Option, none, some}
+use mathlib.Core.Option.{Option, some}
 use lib.ListN.{length}
-use lib.Dec.{eqb, leb}
+use lib.Dec.{eqb}
 use borrow.Author.Tests.{eq-eqb, le-leb, lt-leb}
-use Rattle.layout.specs.Fill.{fill}
-use Rattle.history.specs.declared.record.History.{History}
-use Rattle.history.specs.HistoryText.{historyText}
 use Rattle.history.specs.Readable as history-readable
 use Rattle.history_reader.specs.declared.read.HistoryRead.{HistoryRead}
 use Rattle.history_reader.specs.ReadHistory.{readHistory}
@@ -19,13 +16,12 @@ use Rattle.certificate.specs.Criteria as text
 use Rattle.certificate_reader.specs.ReadCertificate.{readCertificate}
 use Rattle.certificate_theorems.proofs.Theorems.{eventsOf}
 use Rattle.criteria.specs.Criteria.{Meets}
-use Rattle.criteria.specs.Certificate.{Certificate}
-use Rattle.criteria.specs.Check.{Fault, answerOf, check}
+use Rattle.criteria.specs.Check.{Fault, answerOf}
 use Rattle.criteria.specs.Weaken.{isPair}
 use Rattle.criteria.specs.Records.{historyOf}
 use Rattle.criteria.proofs.Meeting.{complete}
-use Rattle.checker.specs.CheckText.{Verdict, checked, historyRead, certificateRead, checkText, Accepted, Names}
-use Rattle.checker.specs.WeakenText.{wantedOf, weakenedText, weakenedWanted, plain, pairAnswer, pairLength, pairBytes, weakenAnswer, weakenLength, weakenBytes}
+use Rattle.checker.specs.CheckText.{checked, historyRead, certificateRead, checkText, Accepted, Names}
+use Rattle.checker.specs.WeakenText.{wantedOf, weakenedText, weakenedWanted, plain, weakenAnswer, weakenLength, weakenBytes}
 use Rattle.checker.specs.Demand3.{Bytes, Certified, Weakens, Written, TooShort, Demand3}
 use Rattle.checker.proofs.TextTheorems.{checked-as, accepted-read, accepted-passes, accepted-names, accepted-meets, text-of, text-accepted}
 use Rattle.checker.proofs.WeakenTheorems.{text-is-lists, weakened-bytes, weakened-accepted, weakened-pair}

@@ -1,41 +1,33 @@
 -- The theorems of the check on texts: what acceptance means; no history is accepted under a criterion that it breaks; and one that
 -- meets a criterion has an accepted certificate text. Assumes nothing.
-use Prim.Native.Nat.{ℕ, zero, suc, _≤_, _<_}
+use Prim.Native.Nat.{ℕ}
 use native.Mathlib.Omega.{arith}
 use mathlib.Core.Path.{_≡_, refl, sym, ap, ap₂, _∙_, subst}
-use mathlib.Core.Bool.{Bool, true, false, cond, not, _&&_, _||_, false≢true}
-use mathlib.Core.List.{List, [], _∷_}
+use mathlib.Core.Bool.{true}
+use mathlib.Core.List.{List}
 use mathlib.Core.Option.{Option, none, some}
-use lib.ListN.{length, getD, replicate}
-use lib.Dec.{eqb, leb, ltb}
-use borrow.Author.Tests.{eq-eqb, ne-eqb, le-leb, lt-ltb}
+use lib.ListN.{replicate}
+use borrow.Author.Tests.{eq-eqb, ne-eqb}
 use Rattle.layout.proofs.Cases.{by-eq}
-use Rattle.history.specs.Record.{eventsIn}
-use Rattle.history.specs.Readable.{allLess}
 use Rattle.history_reader.specs.ReadHistory.{readHistory}
 use Rattle.history_theorems.proofs.Guarantees as history-guarantees
 use Rattle.certificate.specs.declared.record.Criterion.{Criterion}
-use Rattle.certificate.specs.Record.{noRow, pastsIn, viewsIn}
+use Rattle.certificate.specs.Record.{noRow}
 use Rattle.certificate.specs.Record as text-record
 use Rattle.certificate.specs.Criteria as text
-use Rattle.certificate.specs.Faults.{rising}
 use Rattle.certificate.specs.CertificateText.{certificateText}
-use Rattle.certificate.specs.Readable.{goodLists, fits}
-use Rattle.certificate.proofs.FitsLaws.{facts-fit, pasts-in, views-in}
+use Rattle.certificate.specs.Readable.{fits}
 use Rattle.certificate_reader.specs.declared.read.Text.the-variants.{Neither}
 use Rattle.certificate_reader.specs.declared.read.CertificateRead.{CertificateRead}
-use Rattle.certificate_reader.specs.ReadCertificate.{readCertificate, rowsRead}
+use Rattle.certificate_reader.specs.ReadCertificate.{readCertificate}
 use Rattle.certificate_theorems.proofs.Theorems.{eventsOf, few-events, no-fault-history, written-read, written-rows}
 use Rattle.certificate_theorems.proofs.Guarantees as certificate-guarantees
-use Rattle.criteria.specs.Tests.{mem, RisingFrom, Rising}
-use Rattle.criteria.specs.History.{History, size}
 use Rattle.criteria.specs.Criteria.{Meets}
-use Rattle.criteria.specs.Certificate.{Certificate, pastCount, viewCount, EventsOf, Readable}
+use Rattle.criteria.specs.Certificate.{Certificate, Readable}
 use Rattle.criteria.specs.Check.{Fault, fault11, fault12, fault13, fault14, fault15, fault16, answerOf, check}
-use Rattle.criteria.specs.Records.{historyOf, certificateOf}
-use Rattle.criteria.proofs.Lists.{true-or-left, true-or-right}
+use Rattle.criteria.specs.Records.{certificateOf}
 use Rattle.criteria.proofs.Meeting.{sound, complete}
-use Rattle.criteria.proofs.RecordLaws.{size-is, past-count, view-count, few-processes, readable}
+use Rattle.criteria.proofs.RecordLaws.{few-processes, readable}
 use Rattle.checker.proofs.ListTexts.{lists-fit, pasts-back, views-back}
 use Rattle.checker.specs.CheckText.{Verdict, refused, checked, historyRead, rowsOf, certificateRead, checkText, Accepted, Names}
 

@@ -1,13 +1,12 @@
 -- What the check answers of two texts is the verdict of the definitions. Assumes nothing.
 use Prim.Native.Nat.{ℕ, _≤_, _<_}
 use native.Mathlib.Omega.{arith}
-use mathlib.Core.Path.{_≡_, refl, sym, ap, ap₂, _∙_, subst}
-use mathlib.Core.Bool.{Bool, true, cond}
+use mathlib.Core.Path.{_≡_, sym, ap, ap₂, _∙_, subst}
+use mathlib.Core.Bool.{true}
 use mathlib.Core.List.{List}
-use mathlib.Core.Option.{Option, none, some}
+use mathlib.Core.Option.{Option}
 use lib.ListN.{replicate}
-use lib.Dec.{eqb}
-use borrow.Author.Tests.{eq-eqb, ne-eqb}
+use borrow.Author.Tests.{ne-eqb}
 use Rattle.layout.proofs.Cases.{by-eq}
 use Rattle.history.specs.declared.record.History.{History}
 use Rattle.history.specs.Record.{eventsIn}
@@ -28,7 +27,6 @@ use Rattle.criteria.specs.Records.{historyOf, certificateOf}
 use Rattle.faults.specs.declared.finding.Finding.{Finding}
 use Rattle.faults.specs.declared.finding.Finding.the-variants.{Nothing}
 use Rattle.faults.specs.Finding.{findingOf, orNone}
-use Rattle.checker.specs.declared.check.Checked.{Checked}
 use Rattle.checker.specs.CheckText.{Verdict, refused, checked, historyRead, rowsOf, certificateRead, checkText}
 use Rattle.checker.specs.Verdict.{verdictOf}
 use Rattle.checker.proofs.TextTheorems.{checked-as, refused-as}

@@ -1,31 +1,28 @@
 -- The weakened text of an accepted certificate text is accepted and names the criterion wanted; to itself it is the text unchanged.
 -- Assumes nothing.
 use Prim.Native.Nat.{ℕ}
-use mathlib.Core.Path.{_≡_, refl, sym, ap, ap₂, _∙_, subst}
+use mathlib.Core.Path.{_≡_, refl, sym, ap, _∙_, subst}
 use mathlib.Core.Bool.{Bool, true, false, false≢true}
 use mathlib.Core.List.{List}
 use mathlib.Core.Option.{Option, none, some}
-use lib.ListN.{length, replicate}
+use lib.ListN.{replicate}
 use Rattle.history.specs.declared.record.Event.{Event}
-use Rattle.history.specs.Record.{eventsIn}
 use Rattle.history_reader.specs.ReadHistory.{readHistory}
 use Rattle.certificate.specs.declared.record.Criterion.{Criterion}
 use Rattle.certificate.specs.declared.record.Criterion.the-variants.{Pram, Weak, Causal, Converge, Sequential}
 use Rattle.certificate.specs.Record.{noRow}
 use Rattle.certificate.specs.Record as text-record
 use Rattle.certificate.specs.Criteria as text
-use Rattle.certificate.specs.CertificateText.{textOf, certificateText}
-use Rattle.certificate_reader.specs.ReadCertificate.{readCertificate, rowsRead}
+use Rattle.certificate.specs.CertificateText.{certificateText}
 use Rattle.certificate_theorems.proofs.Theorems.{eventsOf, few-events, no-fault-history, read-written}
 use Rattle.criteria.specs.History.{History}
 use Rattle.criteria.specs.Certificate.{Certificate, Readable}
-use Rattle.criteria.specs.Check.{check}
 use Rattle.criteria.specs.Weaken.{isPair, weakenedFrom, weakened}
 use Rattle.criteria.specs.Records.{certificateOf}
 use Rattle.criteria.proofs.Weaken as on-lists
-use Rattle.checker.specs.CheckText.{Verdict, historyRead, rowsOf, certificateRead, checkText, Accepted, Names}
+use Rattle.checker.specs.CheckText.{historyRead, certificateRead, Accepted, Names}
 use Rattle.checker.specs.WeakenText.{textOfLists, textIfSome, weakenedText}
-use Rattle.checker.proofs.TextTheorems.{accepted-read, accepted-passes, accepted-names, lists-readable, text-of, text-accepted}
+use Rattle.checker.proofs.TextTheorems.{accepted-read, accepted-passes, lists-readable, text-of, text-accepted}
 use Rattle.checker.specs.Demand3.{Bytes}
 use Rattle.checker.proofs.ListTexts.{text-lists}
 use Rattle.checker.proofs.ByteLaws.{text-bytes}

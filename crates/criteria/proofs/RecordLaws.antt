@@ -1,18 +1,18 @@
 -- The lists of records that were read are what the theorems ask: their counts and numbers are the text's, and what the readers
 -- guarantee is `FewProcesses` and `Readable`. Assumes nothing.
-use Prim.Native.Nat.{ℕ, zero, suc, _+_, _≤_, _<_}
+use Prim.Native.Nat.{ℕ, zero, suc, _+_, _<_}
 use native.Mathlib.Nat.{not-suc-le-zero}
 use native.Mathlib.Omega.{arith}
 use mathlib.Core.Path.{_≡_, refl, sym, ap, _∙_}
-use mathlib.Core.Bool.{Bool, true, false, cond, _&&_, _||_, false≢true}
+use mathlib.Core.Bool.{Bool, true, false, cond, false≢true}
 use mathlib.Core.List.{List, [], _∷_, map}
 use lib.ListN.{length, getD, length-map, List·getD-eq-default}
 use lib.Dec.{eqb, ltb}
-use borrow.Author.Tests.{eqb-true, eq-eqb, ltb-true}
+use borrow.Author.Tests.{eqb-true, ltb-true}
 use Rattle.layout.proofs.Cases.{by-lt, and-left, and-right}
 use Rattle.history.specs.declared.record.Event as written-event
 use Rattle.history.specs.declared.record.History as written-history
-use Rattle.history.specs.Record.{noEvent, objectsIn, eventsIn}
+use Rattle.history.specs.Record.{noEvent, eventsIn}
 use Rattle.history_theorems.proofs.Guarantees as history-guarantees
 use Rattle.certificate.specs.declared.record.Criterion.{Criterion}
 use Rattle.certificate.specs.declared.record.Criterion.the-variants.{Pram, Weak, Causal, Converge, Sequential}
@@ -23,7 +23,7 @@ use Rattle.certificate.specs.Criteria as text
 use Rattle.certificate.specs.Faults.{rising}
 use Rattle.certificate.proofs.NumberingLaws.{count-long}
 use Rattle.certificate_theorems.proofs.Guarantees as certificate-guarantees
-use Rattle.criteria.specs.Tests.{any, keepIf, keep, upTo, mem, RisingFrom, Rising}
+use Rattle.criteria.specs.Tests.{keepIf, keep, upTo, mem, RisingFrom, Rising}
 use Rattle.criteria.specs.History.{Event, History, size, event, process, own}
 use Rattle.criteria.specs.Certificate.{active, processes, pastCount, viewCount, viewNumber, EventsOf, Readable}
 use Rattle.criteria.specs.Records.{eventOf, historyOf, certificateOf}

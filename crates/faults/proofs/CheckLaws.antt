@@ -1,22 +1,21 @@
 -- What a history and a certificate within their limits give to the steps of the check, and the check as these steps. Assumes nothing.
-use Prim.Native.Nat.{ℕ, zero, suc, _≤_, _<_}
+use Prim.Native.Nat.{ℕ, _≤_, _<_}
 use native.Mathlib.Omega.{arith}
 use mathlib.Core.Path.{_≡_, refl, sym, ap, ap₂, _∙_, subst, fun-ext}
 use mathlib.Core.Bool.{Bool, true, false, cond, _&&_}
-use mathlib.Core.List.{List, [], _∷_, map}
+use mathlib.Core.List.{List, [], map}
 use mathlib.Core.Option.{Option, none, some}
-use lib.ListN.{length, getD, take, length-map, List·getD-map, List·getD-eq-default}
+use lib.ListN.{length, getD, take, length-map, List·getD-map}
 use lib.Seq.{getD-take}
-use lib.Dec.{eqb, ltb}
-use borrow.Author.Tests.{lt-ltb, le-ltb}
+use lib.Dec.{ltb}
+use borrow.Author.Tests.{le-ltb}
 use Rattle.layout.proofs.Cases.{by-lt}
 use Rattle.history.specs.declared.record.History as written-history
 use Rattle.history.specs.Record.{noEvent, eventsIn, pad}
 use Rattle.history.specs.Readable.{within}
-use Rattle.history.proofs.PadLaws.{getD-pad, take-pad, pad-length}
+use Rattle.history.proofs.PadLaws.{getD-pad, pad-length}
 use Rattle.history_theorems.proofs.Guarantees.{Sound, within-sound}
 use Rattle.certificate.specs.declared.record.EventList.{EventList}
-use Rattle.certificate.specs.declared.record.Criterion.{Criterion}
 use Rattle.certificate.specs.declared.record.Certificate as written-certificate
 use Rattle.certificate.specs.declared.numbers.ViewNumbers.{ViewNumbers}
 use Rattle.certificate.specs.Record.{noList, noRow, eventListOf, rowOf, rowsOf, entriesIn, beginnings, pastsIn, viewsIn}
@@ -29,13 +28,13 @@ use Rattle.certificate.proofs.FitsLaws.{Fits, fits-facts}
 use Rattle.certificate_theorems.proofs.Guarantees.{SoundCertificate, fits-sound}
 use Rattle.criteria.specs.Tests.{or, mem}
 use Rattle.criteria.specs.History.{Event, History, size, process, programOrder}
-use Rattle.criteria.specs.Certificate.{Certificate, listed, orderBy, order, pastCount, viewCount, viewNumber, Readable}
+use Rattle.criteria.specs.Certificate.{Certificate, listed, orderBy, order, pastCount, Readable}
 use Rattle.criteria.specs.Check.{Fault, find11, find12, find13, find14, find15, find16, check}
 use Rattle.criteria.specs.Records.{eventOf, historyOf, certificateOf}
 use Rattle.criteria.proofs.Lists.{mem-getD}
 use Rattle.criteria.proofs.Loops.{any-default}
 use Rattle.criteria.proofs.Check.{OfEvents, listed-events, program-causal}
-use Rattle.criteria.proofs.RecordLaws.{size-is, event-is, past-count, view-count, view-number, readable}
+use Rattle.criteria.proofs.RecordLaws.{size-is, event-is, view-count, view-number, readable}
 use Rattle.orders.specs.Rows.{inRows, IsOrder, ShortList, ShortViews, viewAt, programIn}
 use Rattle.orders.proofs.ProgramLaws.{program-is}
 use Rattle.faults.specs.Finding.{isFound}

@@ -1,6 +1,6 @@
 // Faults 14 and 15.
 ghost use mathlib.Core.Path.{_≡_};
-ghost use Prim.Native.Nat.{ℕ, _≤_, _<_};
+ghost use Prim.Native.Nat.{_≤_, _<_};
 ghost use Rattle.criteria.specs.Tests.{lowest, foundIf};
 ghost use Rattle.criteria.specs.Check.{notItsSet};
 ghost use Rattle.orders.specs.Rows.{foundAt, viewAt, ShortViews};

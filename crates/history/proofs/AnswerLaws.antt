@@ -1,16 +1,15 @@
 -- Laws of a field that holds an answer. Assumes nothing.
 use Prim.Native.Nat.{ℕ, _≤_, _<_}
 use native.Mathlib.Omega.{arith}
-use mathlib.Core.Path.{_≡_, refl, sym, ap, _∙_}
-use mathlib.Core.Bool.{Bool, true, false, cond, _&&_}
+use mathlib.Core.Path.{_≡_, sym, ap, _∙_}
+use mathlib.Core.Bool.{true, false}
 use mathlib.Core.List.{List}
 use lib.ListN.{length, take, getD}
 use lib.Seq.{getD-take}
-use lib.Dec.{leb}
 use borrow.Author.Tests.{le-leb}
 use Rattle.layout.specs.declared.list.ListRead.the-variants.{NotList, Over, Many, Listed}
 use Rattle.layout.specs.Fill.{fill}
-use Rattle.layout.specs.List.{itemsOf, allNumbers, allBelow, listOf, numbersOf, leading}
+use Rattle.layout.specs.List.{itemsOf, listOf, numbersOf, leading}
 use Rattle.layout.proofs.ListLaws.{is-list, list-not, list-over, list-many, numbers-below, numbers-kept}
 use Rattle.history.specs.Record.{answerOf, noAnswer}
 use Rattle.history.specs.Steps.Fields.{isAnswer, answerField}

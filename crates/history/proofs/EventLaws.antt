@@ -1,11 +1,10 @@
 -- Laws of the line of an event. Assumes nothing.
-use Prim.Native.Nat.{ℕ, _-_, _+_, _≤_, _<_}
-use native.Mathlib.Omega.{arith}
-use mathlib.Core.Path.{_≡_, refl, sym, ap, ap₂, _∙_}
-use mathlib.Core.Bool.{Bool, true, false, cond, not, _&&_, _||_, false≢true}
-use mathlib.Core.List.{List, [], _∷_}
-use lib.ListN.{length, getD, take, drop, length-map}
-use lib.Dec.{eqb, leb, ltb}
+use Prim.Native.Nat.{ℕ, _-_, _≤_, _<_}
+use mathlib.Core.Path.{_≡_, refl, sym, ap, _∙_}
+use mathlib.Core.Bool.{Bool, true, cond, not, _&&_, _||_}
+use mathlib.Core.List.{List, []}
+use lib.ListN.{length, getD, take, length-map}
+use lib.Dec.{leb, ltb}
 use lib.Seq.{length-take-le, getD-take}
 use borrow.Author.Tests.{eq-eqb, ne-eqb, ltb-true}
 use Rattle.layout.specs.Split.{split}
@@ -15,17 +14,15 @@ use Rattle.layout.specs.List.{itemsOf, allNumbers, allBelow, numbersOf}
 use Rattle.layout.proofs.Cases.{by-bool, by-eq, and-left, and-right}
 use Rattle.history.specs.declared.record.Op.{Op}
 use Rattle.history.specs.declared.record.Object.{Object}
-use Rattle.history.specs.declared.record.Answer.{Answer}
 use Rattle.history.specs.declared.record.Event.{Event}
 use Rattle.history.specs.declared.field.NumberField.{NumberField}
 use Rattle.history.specs.declared.field.OptionalField.{OptionalField}
 use Rattle.history.specs.declared.answer.AnswerField.{AnswerField}
-use Rattle.history.specs.declared.event.EventRead.{EventRead}
-use Rattle.history.specs.Record.{noObject, noAnswer, answerOf}
+use Rattle.history.specs.Record.{noObject, answerOf}
 use Rattle.history.specs.Kinds.{isOp, opOf, hasOp, takesValue, canAnswer}
 use Rattle.history.specs.Faults.{firstFault, isOptional, optional, eventLayout, eventLimits, eventFits, eventLong, objectNamed, eventFault, faultyEvent, eventWith, eventSaid, eventSix, eventFields, eventLine}
 use Rattle.history.specs.Steps.Fields.{isBelow, numberField, optionalField, isAnswer, answerField, judgedFault, eventJudged}
-use Rattle.history.proofs.FaultLaws.{InOrder, fault-same, fault-none, below-is, number-is, optional-is}
+use Rattle.history.proofs.FaultLaws.{fault-same, fault-none, below-is, number-is, optional-is}
 
 -- ---- an event, or its fault
 module _ (fault : ℕ) (e : Event) where

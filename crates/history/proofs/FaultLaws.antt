@@ -1,18 +1,16 @@
 -- Laws of the first fault of a line, and of fields that hold a number. Assumes nothing.
 use Prim.Native.Nat.{ℕ, _-_, _≤_, _<_}
 use native.Mathlib.Omega.{arith}
-use mathlib.Core.Path.{_≡_, refl, sym, ap, ap₂, _∙_}
-use mathlib.Core.Bool.{Bool, true, false, cond, not, _&&_, _||_, false≢true}
-use mathlib.Core.List.{List, [], _∷_}
-use lib.ListN.{length, getD, take, drop}
-use lib.Dec.{eqb, ltb}
-use borrow.Author.Tests.{lt-ltb, le-ltb, ltb-true}
+use mathlib.Core.Path.{_≡_, refl, ap₂}
+use mathlib.Core.Bool.{Bool, true, false, cond, _||_}
+use mathlib.Core.List.{List}
+use lib.Dec.{ltb}
+use borrow.Author.Tests.{lt-ltb, le-ltb}
 use Rattle.layout.specs.declared.number.Number.the-variants.{NotNumber, Value, Over}
 use Rattle.layout.specs.Word.{same, dash}
 use Rattle.layout.specs.Number.{isNumber, value, numberOf}
-use Rattle.layout.proofs.Cases.{by-bool, and-left, and-right}
+use Rattle.layout.proofs.Cases.{by-bool}
 use Rattle.layout.proofs.NumberLaws.{not-number, over-number, value-number}
-use Rattle.history.specs.declared.field.NumberField.{NumberField}
 use Rattle.history.specs.Faults.{firstFault, isOptional, optional}
 use Rattle.history.specs.Steps.Fields.{isBelow, numberField, optionalField}
 

@@ -1,23 +1,20 @@
 -- Laws of the line of an object. Assumes nothing.
-use Prim.Native.Nat.{ℕ, _-_, _+_, _≤_, _<_}
-use native.Mathlib.Omega.{arith}
-use mathlib.Core.Path.{_≡_, refl, sym, ap, ap₂, _∙_}
-use mathlib.Core.Bool.{Bool, true, false, cond, not, _&&_, _||_, false≢true, and-true}
-use mathlib.Core.List.{List, [], _∷_}
-use lib.ListN.{length, getD, take, drop}
-use lib.Dec.{eqb, ltb}
+use Prim.Native.Nat.{ℕ, _-_}
+use mathlib.Core.Path.{_≡_, refl, sym, _∙_}
+use mathlib.Core.Bool.{Bool, true, cond, not, _&&_, _||_, and-true}
+use mathlib.Core.List.{List, []}
+use lib.ListN.{length, getD}
+use lib.Dec.{ltb}
 use borrow.Author.Tests.{eq-eqb, ne-eqb}
-use Rattle.layout.specs.Split.{find, split}
+use Rattle.layout.specs.Split.{split}
 use Rattle.layout.specs.Word.{same, dash}
 use Rattle.layout.specs.Number.{isNumber, value, spell}
-use Rattle.layout.proofs.Cases.{by-bool, and-left, and-right, and-false}
-use Rattle.layout.proofs.SplitLaws.{cut-more, cut-last}
+use Rattle.layout.proofs.Cases.{by-bool, and-right, and-false}
 use Rattle.history.specs.declared.record.Kind.{Kind}
-use Rattle.history.specs.declared.record.Object.{Object}
 use Rattle.history.specs.declared.field.OptionalField.{OptionalField}
 use Rattle.history.specs.declared.object.ObjectRead.{ObjectRead}
 use Rattle.history.specs.Kinds.{isKind, kindOf, isWindow}
-use Rattle.history.specs.Faults.{firstFault, isOptional, optional, objectLayout, objectLimits, objectFits, objectFault, faultyObject, objectWith, objectThree, objectFields, objectLine}
+use Rattle.history.specs.Faults.{firstFault, isOptional, objectLayout, objectLimits, objectFits, objectFault, faultyObject, objectThree, objectFields, objectLine}
 use Rattle.history.specs.Steps.Fields.{isBelow, optionalField}
 use Rattle.history.proofs.FaultLaws.{InOrder, fault-same, fault-none, below-is, optional-is}
 

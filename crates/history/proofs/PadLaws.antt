@@ -5,7 +5,7 @@ use native.Mathlib.Numerals.{add-one}
 use native.Mathlib.Omega.{arith}
 use mathlib.Core.Path.{_≡_, refl, sym, ap, _∙_}
 use mathlib.Core.List.{List, [], _∷_, _++_, append-assoc, append-nil}
-use lib.ListN.{length, getD, take, drop, set, replicate, length-set, length-append, length-replicate, List·getD-append, List·getD-eq-default}
+use lib.ListN.{length, getD, take, set, replicate, length-set, length-append, length-replicate, List·getD-append, List·getD-eq-default}
 use lib.Seq.{take-append-seam, set-append-seam, take-suc, take-suc-set, length-take-le, getD-append-add}
 use Rattle.layout.proofs.Cases.{by-lt}
 use Rattle.history.specs.Record.{pad}

@@ -1,8 +1,7 @@
 -- The history record and the lists that it stands for.
 use Prim.Native.Nat.{ℕ, _-_}
-use mathlib.Core.List.{List, [], _++_}
+use mathlib.Core.List.{List, _++_}
 use lib.ListN.{length, take, replicate}
-use Rattle.history.specs.declared.record.ProcessNo.{ProcessNo}
 use Rattle.history.specs.declared.record.Kind.the-variants.{Register}
 use Rattle.history.specs.declared.record.Op.the-variants.{Write}
 use Rattle.history.specs.declared.record.Object.{Object}

@@ -1,7 +1,7 @@
 -- The faulty line that a refusal names lies within the text. Assumes nothing.
-use Prim.Native.Nat.{ℕ, suc, _+_, _≤_, _<_}
+use Prim.Native.Nat.{ℕ, _+_, _≤_}
 use native.Mathlib.Omega.{arith}
-use mathlib.Core.Path.{_≡_, refl, sym, ap, _∙_}
+use mathlib.Core.Path.{_≡_, refl, ap}
 use mathlib.Core.Bool.{Bool, true, false, cond}
 use mathlib.Core.List.{List, [], _∷_, _++_}
 use lib.ListN.{length, length-append}
@@ -9,7 +9,7 @@ use lib.Dec.{eqb, leb}
 use borrow.Author.Tests.{eq-eqb, ne-eqb}
 use Rattle.layout.specs.Split.{split, join}
 use Rattle.layout.specs.Word.{same, objectHeading, eventHeading}
-use Rattle.layout.proofs.Cases.{by-bool, by-eq}
+use Rattle.layout.proofs.Cases.{by-eq}
 use Rattle.layout.proofs.SplitLaws.{join-split}
 use Rattle.history.specs.declared.record.Object.{Object}
 use Rattle.history.specs.declared.record.Event.{Event}

@@ -1,12 +1,12 @@
 -- Laws of reading a history text, a line at a time. Assumes nothing.
-use Prim.Native.Nat.{ℕ, suc, _+_, _-_, _≤_, _<_}
+use Prim.Native.Nat.{ℕ, _+_, _-_, _≤_, _<_}
 use native.Mathlib.Nat.{not-suc-le-zero}
 use native.Mathlib.Omega.{arith}
-use mathlib.Core.Path.{_≡_, refl, sym, ap, ap₂, _∙_}
-use mathlib.Core.Bool.{Bool, true, false, cond, _&&_, _||_}
+use mathlib.Core.Path.{_≡_, refl, sym, ap, _∙_}
+use mathlib.Core.Bool.{true, false, cond, _&&_, _||_}
 use mathlib.Core.List.{List, [], _∷_, _++_}
-use lib.ListN.{length, take, drop, length-take, length-drop}
-use lib.Dec.{eqb, leb, ltb}
+use lib.ListN.{length, take, drop}
+use lib.Dec.{eqb, ltb}
 use borrow.Author.Tests.{eq-eqb, ne-eqb, eqb-false, ltb-true, le-leb, lt-leb}
 use Rattle.layout.specs.Split.{find, split}
 use Rattle.layout.specs.Word.{same, dash, objectHeading, eventHeading}
@@ -18,7 +18,6 @@ use Rattle.history.specs.declared.record.Object.{Object}
 use Rattle.history.specs.declared.record.Event.{Event}
 use Rattle.history.specs.declared.object.ObjectRead.{ObjectRead}
 use Rattle.history.specs.declared.event.EventRead.{EventRead}
-use Rattle.history_reader.specs.declared.read.HistoryRead.{HistoryRead}
 use Rattle.history.specs.declared.record.History.{History}
 use Rattle.history.specs.Record.{pad, noObject, noEvent, historyOf}
 use Rattle.history.proofs.PadLaws.{Filled, filled-count}

@@ -4,13 +4,12 @@ use native.Mathlib.Omega.{arith}
 use mathlib.Core.Path.{_≡_, refl, sym, ap, _∙_}
 use mathlib.Core.Bool.{Bool, true, false, cond}
 use mathlib.Core.List.{List, [], _∷_, _++_}
-use lib.ListN.{length, getD, take, drop, length-append, length-drop}
+use lib.ListN.{length, getD, drop, length-append, length-drop}
 use lib.Seq.{length-take-le}
-use lib.Dec.{eqb, ltb, leb}
+use lib.Dec.{eqb, leb}
 use borrow.Author.Tests.{eq-eqb, ne-eqb, eqb-true, lt-ltb, le-ltb}
 use Rattle.layout.specs.Split.{find, split, partStart}
 use Rattle.layout.specs.Word.{same, objectHeading, eventHeading}
-use Rattle.layout.proofs.Cases.{by-bool}
 use Rattle.layout.proofs.SplitLaws.{part-here}
 use Rattle.history.specs.declared.record.Object.{Object}
 use Rattle.history.specs.declared.record.Event.{Event}

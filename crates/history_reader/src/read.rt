@@ -1,10 +1,10 @@
 // Reading a history text.
 ghost use mathlib.Core.Path.{_≡_};
 ghost use Prim.Native.Nat.{_+_, _-_, _≤_, _<_};
-ghost use mathlib.Core.List.{List, []};
+ghost use mathlib.Core.List.{[]};
 ghost use lib.ListN.{length, take, drop, replicate};
 ghost use Rattle.layout.specs.Split.{split};
-ghost use Rattle.history.specs.Record.{pad, noObject, noEvent, noHistory};
+ghost use Rattle.history.specs.Record.{pad, noObject, noEvent};
 ghost use Rattle.history_reader.specs.ReadHistory.{refusal, eventsFrom, objectsFrom, linesFrom, readHistory, faultyLine};
 use history::answer::no_answer;
 use history::event::read_event;

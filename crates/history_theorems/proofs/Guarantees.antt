@@ -15,7 +15,7 @@ use Rattle.history.specs.declared.record.History.{History}
 use Rattle.history.specs.Record.{noObject, noEvent, valuesIn, objectsIn, eventsIn}
 use Rattle.history.specs.Kinds.{hasOp, canAnswer}
 use Rattle.history.specs.Readable.{goodObject, goodObjects, allLess, allZero, goodValue, goodAnswer, goodEvent, goodEvents, within}
-use Rattle.history.proofs.WithinLaws.{Limits, within-limits}
+use Rattle.history.proofs.WithinLaws.{within-limits}
 use Rattle.history_reader.specs.ReadHistory.{readHistory}
 use Rattle.history_theorems.proofs.Theorems.{read-within}
 

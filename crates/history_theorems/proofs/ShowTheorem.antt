@@ -1,5 +1,5 @@
 -- The line that is shown is the text of that event. Assumes nothing.
-use Prim.Native.Nat.{ℕ, zero, suc, _+_, _-_, _≤_, _<_}
+use Prim.Native.Nat.{ℕ, zero, suc, _+_, _-_, _<_}
 use native.Mathlib.Omega.{arith}
 use mathlib.Core.Path.{_≡_, refl, sym, ap, ap₂, _∙_}
 use mathlib.Core.List.{List, [], _∷_, _++_}
@@ -12,10 +12,10 @@ use Rattle.history.specs.declared.record.Object.{Object}
 use Rattle.history.specs.declared.record.Event.{Event}
 use Rattle.history.specs.Record.{noEvent, objectsIn, eventsIn}
 use Rattle.history.specs.HistoryText.{eventText, objectLines, eventLines, textOf, historyText}
-use Rattle.history.proofs.WithinLaws.{Limits, within-limits}
+use Rattle.history.proofs.WithinLaws.{within-limits}
 use Rattle.history_reader.specs.declared.show.Shown.{Shown}
 use Rattle.history_reader.specs.ReadHistory.{readHistory}
-use Rattle.history_reader.specs.Show.{lineShown, shown, shownLine}
+use Rattle.history_reader.specs.Show.{lineShown, shownLine}
 use Rattle.history_reader.proofs.ShowLaws.{show-line}
 use Rattle.history_theorems.proofs.TextRound.{text-parts}
 use Rattle.history_theorems.proofs.Theorems.{read-within, read-written}

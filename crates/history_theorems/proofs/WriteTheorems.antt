@@ -15,7 +15,6 @@ use Rattle.history.specs.HistoryText.{historyText}
 use Rattle.history.specs.Readable.{within}
 use Rattle.history_reader.specs.declared.read.HistoryRead.{HistoryRead}
 use Rattle.history_reader.specs.ReadHistory.{readHistory}
-use Rattle.history_writer.specs.declared.write.HistoryWritten.{HistoryWritten}
 use Rattle.history_writer.specs.WriteHistory.{historyWritten, historyAfter}
 use Rattle.history_theorems.proofs.Theorems.{written-read, read-written, read-within}
 

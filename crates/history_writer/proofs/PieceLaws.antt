@@ -1,9 +1,8 @@
 -- Laws of the fields of a line as they are written. Assumes nothing.
-use Prim.Native.Nat.{ℕ, zero, suc, _+_, _-_, _≤_, _<_}
-use native.Mathlib.Nat.{not-suc-le-zero}
+use Prim.Native.Nat.{ℕ, _+_, _-_, _≤_, _<_}
 use native.Mathlib.Numerals.{add-one}
 use native.Mathlib.Omega.{arith}
-use mathlib.Core.Path.{_≡_, refl, sym, ap, ap₂, _∙_}
+use mathlib.Core.Path.{_≡_, refl, sym, ap, _∙_}
 use mathlib.Core.Bool.{Bool, true, false, cond}
 use mathlib.Core.List.{List, [], _∷_, _++_, map, append-assoc, append-nil}
 use lib.ListN.{length, getD, take, drop, length-append, length-take, length-drop, length-map, drop-of-length-le}
@@ -14,14 +13,14 @@ use Rattle.layout.specs.Split.{join}
 use Rattle.layout.specs.Word.{dash}
 use Rattle.layout.specs.Number.{spell}
 use Rattle.layout.specs.List.{listText}
-use Rattle.layout.proofs.Cases.{by-bool, by-eq}
+use Rattle.layout.proofs.Cases.{by-eq}
 use Rattle.history_writer.specs.declared.line.Field.{Field}
 use Rattle.history_writer.specs.declared.line.Field.the-variants.{Dash, Number}
 use Rattle.history.specs.declared.record.Object.{Object}
 use Rattle.history.specs.declared.record.Event.{Event}
 use Rattle.history.specs.Kinds.{kindWord, opWord, isWindow, takesValue}
 use Rattle.history.specs.Record.{valuesIn}
-use Rattle.history.specs.HistoryText.{linesText, objectText, eventText, objectLines, eventLines}
+use Rattle.history.specs.HistoryText.{objectText, eventText}
 use Rattle.history_writer.specs.Steps.Lines.{fieldText, piecesText, objectFieldsOf, eventFieldsOf}
 
 -- one field and the byte behind it

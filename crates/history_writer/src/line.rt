@@ -1,6 +1,6 @@
 // Writing a line: fields with a space between each two, and a line feed at the end.
 ghost use mathlib.Core.Path.{_≡_};
-ghost use Prim.Native.Nat.{_+_, _*_, _≤_, _<_};
+ghost use Prim.Native.Nat.{_+_, _≤_, _<_};
 ghost use mathlib.Core.List.{[], _∷_, _++_, map};
 ghost use mathlib.Core.Bool.{cond};
 ghost use lib.Dec.{eqb};

@@ -1,6 +1,5 @@
 -- The number of a weakening's answer. Assumes nothing.
-use Prim.Native.Nat.{ℕ}
-use mathlib.Core.Path.{_≡_, sym, refl}
+use mathlib.Core.Path.{_≡_, refl}
 use borrow.Author.Tests.{eq-eqb, ne-eqb}
 use Rattle.checker.specs.Verdict.{verdictOf}
 use Rattle.weakener.specs.declared.weaken.Weakened.{Weakened}

@@ -1,16 +1,14 @@
 -- Laws of lists as they are read. Assumes nothing.
 use Prim.Native.Nat.{ℕ, zero, suc, _+_, _-_, _≤_, _<_, zero-le}
 use native.Mathlib.Nat.{add-zero, zero-add, not-suc-le-zero, le-of-suc-le-suc}
-use native.Mathlib.Numerals.{add-one}
 use native.Mathlib.Omega.{arith}
-use mathlib.Core.Path.{_≡_, refl, sym, ap, ap₂, _∙_}
-use mathlib.Core.Bool.{Bool, true, false, cond, _&&_, false≢true}
+use mathlib.Core.Path.{_≡_, refl, sym, ap, _∙_}
+use mathlib.Core.Bool.{true, false, cond, _&&_, false≢true}
 use mathlib.Core.List.{List, [], _∷_, _++_, map}
 use lib.ListN.{length, getD, take, drop, set, length-set, length-drop, length-map}
 use lib.Seq.{getD-drop, length-take-le, take-at}
 use lib.Dec.{eqb, leb, ltb}
 use borrow.Author.Tests.{le-leb, lt-leb, lt-ltb, le-ltb, leb-true, ltb-true, eq-eqb, ne-eqb, eqb-true}
-use Rattle.layout.specs.declared.number.Number.the-variants.{Value}
 use Rattle.layout.specs.declared.list.ListRead.{ListRead}
 use Rattle.layout.specs.declared.list.ListRead.the-variants.{NotList, Over, Many, Listed}
 use Rattle.layout.specs.Split.{find, split}

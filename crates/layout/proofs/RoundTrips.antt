@@ -5,11 +5,10 @@ use Prim.Native.Nat.{ℕ, suc, _≤_, _<_}
 use native.Mathlib.Nat.{not-suc-le-zero}
 use native.Mathlib.Omega.{arith}
 use mathlib.Core.Path.{_≡_, refl, sym, ap, ap₂, _∙_}
-use mathlib.Core.Bool.{true, false, cond, _&&_, false≢true}
+use mathlib.Core.Bool.{true, false, false≢true}
 use mathlib.Core.List.{List, [], _∷_, map}
 use lib.ListN.{length}
-use lib.Dec.{leb}
-use borrow.Author.Tests.{le-leb, lt-ltb, ltb-true}
+use borrow.Author.Tests.{le-leb, lt-ltb}
 use Rattle.layout.specs.declared.list.ListRead.the-variants.{Listed}
 use Rattle.layout.specs.Split.{split, join}
 use Rattle.layout.specs.Word.{same, dash}
@@ -20,7 +19,7 @@ use Rattle.layout.proofs.SplitLaws.{allWithout, split-join, join-split,
 use Rattle.layout.proofs.WordLaws.{same-true, same-false, same-refl}
 use Rattle.layout.proofs.NumberLaws.{digit-low}
 use Rattle.layout.proofs.SpellLaws.{number-spell, value-spell, spell-value, number-without}
-use Rattle.layout.proofs.ListLaws.{IsList, is-list}
+use Rattle.layout.proofs.ListLaws.{is-list}
 
 -- ---- the items of a list's text are the spellings of its numbers
 spells-without : (xs : List ℕ) → allWithout 44 (map spell xs) ≡ true

@@ -14,8 +14,8 @@ use history::record::Op;
 // Pop and peek take the newest of them, or the oldest.
 pub struct State {
     pub numbers: [u8; 72],
-    pub head: usize,
-    pub tail: usize,
+    pub head: u8,
+    pub tail: u8,
     pub newest: bool,
 }
 
@@ -61,7 +61,7 @@ fn at_most_eight(n: usize) -> usize
 }
 
 // A state of so many values of the start.
-fn started(tail: usize, newest: bool) -> State
+fn started(tail: u8, newest: bool) -> State
     ensures { λ r. ⌜ Starts tail newest r ⌝ }
 {
     State {
@@ -83,10 +83,7 @@ impl State {
             Kind::Register => started(1, false),
             Kind::Queue => started(0, false),
             Kind::Stack => started(0, true),
-            Kind::Window => {
-                let width = o.width as usize;
-                started(width, false)
-            }
+            Kind::Window => started(o.width, false),
         }
     }
 
@@ -96,10 +93,11 @@ impl State {
         ensures { λ r. ⌜ Changed self Op.Push (no .0) r ⌝ }
     {
         let mut s = self;
-        let at = s.tail;
+        let end = s.tail;
+        let at = end as usize;
         let number = no.0;
         s.numbers[at] = number;
-        s.tail = at + 1;
+        s.tail = end + 1;
         s
     }
 
@@ -109,12 +107,13 @@ impl State {
         ensures { λ r. ⌜ Changed self Op.Write (no .0) r ⌝ }
     {
         let mut s = self;
-        let at = s.tail;
         let first = s.head;
+        let end = s.tail;
+        let at = end as usize;
         let number = no.0;
         s.numbers[at] = number;
-        s.tail = at + 1;
-        if first < at {
+        s.tail = end + 1;
+        if first < end {
             s.head = first + 1;
             return s;
         }
@@ -162,8 +161,8 @@ impl State {
         ensures { λ r. ⌜ Shows self r ⌝ }
     {
         let s = self;
-        let oldest = s.head;
-        let end = s.tail;
+        let oldest = s.head as usize;
+        let end = s.tail as usize;
         if oldest == end {
             return none();
         }
@@ -183,8 +182,8 @@ impl State {
         ensures { λ r. ⌜ Answered self Op.Read r ⌝ }
     {
         let s = self;
-        let first = s.head;
-        let end = s.tail;
+        let first = s.head as usize;
+        let end = s.tail as usize;
         let n = at_most_eight(end - first);
         let mut numbers = [64u8; 8];
         let mut i = 0;

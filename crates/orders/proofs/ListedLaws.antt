@@ -1,6 +1,5 @@
 -- Laws of the rows of pasts. Assumes nothing.
-use Prim.Native.Nat.{ℕ, zero, suc, _+_, _≤_, _<_}
-use native.Mathlib.Nat.{not-suc-le-zero}
+use Prim.Native.Nat.{ℕ, zero, suc, _+_, _<_}
 use native.Mathlib.Omega.{arith}
 use mathlib.Core.Path.{_≡_, refl, sym, ap, _∙_}
 use mathlib.Core.Bool.{Bool, false}
@@ -13,7 +12,7 @@ use Rattle.certificate.specs.declared.record.EventList.{EventList}
 use Rattle.certificate.specs.Record.{entriesIn}
 use Rattle.criteria.specs.Tests.{mem}
 use Rattle.criteria.specs.Certificate.{listed}
-use Rattle.orders.specs.Rows.{inRow, inRows, IsOrder}
+use Rattle.orders.specs.Rows.{inRow, IsOrder}
 
 -- ---- rows of nothing
 pub blank-row : (n a : ℕ) → getD (replicate n false) a false ≡ false

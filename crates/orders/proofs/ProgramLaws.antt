@@ -1,9 +1,9 @@
 -- Laws of the rows of program order. Assumes nothing.
-use Prim.Native.Nat.{ℕ, zero, suc, _+_, _≤_, _<_}
+use Prim.Native.Nat.{ℕ, _+_, _<_}
 use native.Mathlib.Omega.{arith}
-use mathlib.Core.Path.{_≡_, refl, sym, ap, _∙_}
+use mathlib.Core.Path.{_≡_, refl, sym, _∙_}
 use mathlib.Core.Bool.{Bool, true, false, _&&_}
-use mathlib.Core.List.{List, [], _∷_, map}
+use mathlib.Core.List.{List, [], map}
 use lib.ListN.{length, getD, set, replicate, getD-replicate, List·getD-eq-default, List·getD-map}
 use lib.Seq.{getD-set-same, getD-set-other}
 use lib.Dec.{eqb, ltb}
@@ -11,7 +11,7 @@ use borrow.Author.Tests.{lt-ltb, le-ltb}
 use Rattle.layout.proofs.Cases.{by-eq, by-lt}
 use Rattle.history.specs.declared.record.Op.the-variants.{Read}
 use Rattle.criteria.specs.History.{Event, History, size, process, programOrder}
-use Rattle.orders.specs.Rows.{inRow, inRows, IsOrder, IsEarlier, programIn}
+use Rattle.orders.specs.Rows.{inRows, IsOrder, IsEarlier, programIn}
 use Rattle.orders.proofs.ListedLaws.{blank-row}
 
 -- ---- a row that is being filled

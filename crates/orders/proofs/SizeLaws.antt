@@ -1,11 +1,10 @@
 -- The tests over 64 places are those over the events of a history: nothing stands past the last event. Assumes nothing.
 use Prim.Native.Nat.{ℕ, zero, suc, _≤_, _<_}
 use native.Mathlib.Omega.{arith}
-use mathlib.Core.Path.{_≡_, refl, sym, ap, _∙_}
+use mathlib.Core.Path.{_≡_, refl, ap, _∙_}
 use mathlib.Core.Bool.{Bool, true, false, not, _&&_, _||_}
 use mathlib.Core.List.{List}
 use lib.Dec.{eqb}
-use borrow.Author.Tests.{eq-eqb}
 use Rattle.layout.proofs.Cases.{by-lt, by-bool}
 use Rattle.criteria.specs.Tests.{any, count, one, mem}
 use Rattle.criteria.specs.Check.{lacksPast, notItsSet}

@@ -4,25 +4,24 @@ use native.Mathlib.Nat.{not-suc-le-zero}
 use native.Mathlib.Numerals.{add-one}
 use native.Mathlib.Omega.{arith}
 use mathlib.Core.Path.{_≡_, refl, sym, ap, ap₂, _∙_}
-use mathlib.Core.Bool.{Bool, true, false, not, _&&_}
+use mathlib.Core.Bool.{Bool, true, not, _&&_}
 use mathlib.Core.List.{List, [], _∷_, _++_, map, map-append}
 use mathlib.Core.Option.{Option}
-use lib.ListN.{length, getD, take, drop, set, length-map, length-set, take-append-drop, List·getD-append}
+use lib.ListN.{length, getD, take, drop, length-map, length-set, take-append-drop, List·getD-append}
 use lib.Seq.{length-take-le, getD-take, set-append-left, ext-getD}
 use lib.Dec.{eqb}
 use borrow.Author.Tests.{eq-eqb}
 use Rattle.history.specs.declared.record.Kind.the-variants.{Register}
-use Rattle.history.specs.declared.record.Op.the-variants.{Read}
 use Rattle.history.specs.declared.record.Object.{Object}
 use Rattle.history.specs.declared.record.Event as written-event
 use Rattle.history.specs.declared.record.History as written-history
 use Rattle.history.specs.Record.{noObject, noEvent, objectsIn, eventsIn}
 use Rattle.history.proofs.PadLaws.{take-more}
 use Rattle.history_theorems.proofs.Guarantees.{SoundEvent, Sound}
-use Rattle.criteria.specs.Tests.{foundIf, or, table, mem, sameList}
+use Rattle.criteria.specs.Tests.{foundIf, or, table, mem}
 use Rattle.criteria.specs.Object.{fresh, after}
 use Rattle.criteria.specs.History.{Event, History, event, object}
-use Rattle.criteria.specs.Replay.{Contents, start, answered, changed}
+use Rattle.criteria.specs.Replay.{Contents, start, changed}
 use Rattle.criteria.specs.Check.{right, firstWrong}
 use Rattle.criteria.specs.Records.{eventOf, historyOf}
 use Rattle.criteria.proofs.Lists.{true-or-left, true-or-right}

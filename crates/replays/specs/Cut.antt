@@ -1,9 +1,8 @@
 -- The first wrong answer of a view that is cut down to the past of an event and that event, whose answer alone is visible.
 use Prim.Native.Nat.{ℕ}
-use mathlib.Core.Bool.{Bool, _||_}
+use mathlib.Core.Bool.{Bool}
 use mathlib.Core.List.{List}
 use mathlib.Core.Option.{Option}
-use lib.Dec.{eqb}
 use Rattle.criteria.specs.Tests.{keep}
 use Rattle.criteria.specs.History.{History, only, pastWith}
 use Rattle.criteria.specs.Replay.{Contents}

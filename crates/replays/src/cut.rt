@@ -1,6 +1,5 @@
 // 16 of converge: the lowest event whose answer the view, cut down to its past and it, does not give.
 ghost use mathlib.Core.Path.{_≡_};
-ghost use Prim.Native.Nat.{_≤_};
 ghost use lib.ListN.{take};
 ghost use Rattle.criteria.specs.Tests.{lowest};
 ghost use Rattle.replays.specs.Replay.{lightHistory, contentsIn, foundEvent, Ready};

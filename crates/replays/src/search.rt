@@ -2,11 +2,10 @@
 ghost use mathlib.Core.Path.{_≡_};
 ghost use Prim.Native.Nat.{ℕ, _≤_, _<_};
 ghost use mathlib.Core.List.{[]};
-ghost use lib.ListN.{getD, take};
+ghost use lib.ListN.{getD};
 ghost use Rattle.criteria.specs.Tests.{lowest};
-ghost use Rattle.criteria.specs.Check.{firstWrong};
-ghost use Rattle.replays.specs.Replay.{lightHistory, contentsIn, isVisible, Ready};
-ghost use Rattle.replays.specs.Search.{noVisible, placeOf, wrongIn};
+ghost use Rattle.replays.specs.Replay.{lightHistory, contentsIn, Ready};
+ghost use Rattle.replays.specs.Search.{placeOf, wrongIn};
 use crate::replay::Light;
 use crate::replay::Visible;
 use crate::replay::replay;

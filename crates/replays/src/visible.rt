@@ -1,6 +1,6 @@
 // Which answers are visible in the replay of each view.
 ghost use mathlib.Core.Path.{_≡_};
-ghost use Prim.Native.Nat.{ℕ, _≤_, _<_};
+ghost use Prim.Native.Nat.{ℕ, _<_};
 ghost use lib.ListN.{getD};
 ghost use Rattle.replays.specs.Visible.{visibleIn, visibleAt};
 ghost use Rattle.replays.specs.Search.{noVisible};

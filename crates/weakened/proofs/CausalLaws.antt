@@ -8,20 +8,19 @@ use mathlib.Core.Logic.{_⊎_, inl, inr}
 use mathlib.Core.Bool.{Bool, true, false, not, _||_, cond}
 use mathlib.Core.List.{List, [], _∷_, _++_, append-assoc, append-nil}
 use lib.Dec.{eqb, ltb}
-use lib.ListN.{length, getD, take, set, replicate, length-append, length-take}
+use lib.ListN.{length, getD, take, set, length-append, length-take}
 use lib.Seq.{getD-set-same, getD-set-other, length-take-le, getD-take}
 use Rattle.layout.proofs.Cases.{by-eq}
 use Rattle.history.specs.Record.{pad}
-use Rattle.history.proofs.PadLaws.{pad-none, pad-set, take-pad, take-more}
+use Rattle.history.proofs.PadLaws.{pad-set, take-pad, take-more}
 use Rattle.certificate.specs.declared.record.EventList.{EventList}
-use Rattle.certificate.specs.Record.{eventListOf, noRow, rowOf, rowsOf, entriesIn}
-use Rattle.criteria.specs.Tests.{highest, table, upTo, keep, one, mem, place}
+use Rattle.certificate.specs.Record.{eventListOf, entriesIn}
+use Rattle.criteria.specs.Tests.{highest, upTo, keep, one, mem, place}
 use Rattle.criteria.specs.History.{pastWith}
 use Rattle.criteria.specs.Weaken.{completed}
 use Rattle.criteria.proofs.Lists.{by-test, or-true, count-append, count-keep, count-upTo, count-out, mem-append, mem-keep, mem-upTo, keep-append, keep-cong, place-in, Once, length-once}
 use Rattle.orders.specs.Rows.{inRow, inRows, viewAt}
-use Rattle.weakened.specs.Steps.{lengthsOf, lastIn}
-use Rattle.weakened.proofs.RowsLaws.{rows-more, lengths-more}
+use Rattle.weakened.specs.Steps.{lastIn}
 
 -- ---- the last number that passes, searched from above
 module _ (f : ℕ → Bool) (n : ℕ) where

@@ -12,13 +12,13 @@ use borrow.Author.Tests.{lt-ltb, ltb-true}
 use Rattle.history.specs.Record.{pad}
 use Rattle.history.proofs.PadLaws.{pad-none, take-pad}
 use Rattle.certificate.specs.declared.record.EventList.{EventList}
-use Rattle.certificate.specs.Record.{noList, noRow, eventListOf, entriesIn, rowOf, rowsOf}
+use Rattle.certificate.specs.Record.{noList, eventListOf, entriesIn, rowsOf}
 use Rattle.criteria.specs.Tests.{table, upTo, keep, mem, place}
 use Rattle.criteria.specs.Weaken.{precedes, pastsOf, upToIn}
 use Rattle.criteria.proofs.Lists.{by-test, same-test, place-in, place-out, mem-take, take-mem, keep-cong}
 use Rattle.orders.specs.Rows.{inRow}
 use Rattle.weakened.specs.Steps.{lengthsOf}
-use Rattle.weakened.proofs.RowsLaws.{rows-more, lengths-more, lists-more}
+use Rattle.weakened.proofs.RowsLaws.{lists-more}
 
 -- ---- what precedes an event
 

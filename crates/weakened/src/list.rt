@@ -1,6 +1,6 @@
 // Lists of events in arrays.
 ghost use mathlib.Core.Path.{_≡_};
-ghost use Prim.Native.Nat.{ℕ, _≤_, _<_};
+ghost use Prim.Native.Nat.{_≤_, _<_};
 ghost use lib.ListN.{take};
 ghost use Rattle.certificate.specs.Record.{eventListOf};
 ghost use Rattle.criteria.specs.Tests.{keep, upTo, place};

@@ -3,7 +3,7 @@ ghost use mathlib.Core.Path.{_≡_};
 ghost use Prim.Native.Nat.{ℕ, _≤_, _<_};
 ghost use mathlib.Core.Bool.{true};
 ghost use mathlib.Core.List.{map};
-ghost use lib.ListN.{length, take, getD};
+ghost use lib.ListN.{take, getD};
 ghost use Rattle.history.specs.Record.{pad};
 ghost use Rattle.certificate.specs.Record.{noList, eventListOf, rowsOf};
 ghost use Rattle.criteria.specs.Tests.{keep, upTo, table, mem};

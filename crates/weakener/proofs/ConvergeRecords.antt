@@ -1,15 +1,11 @@
 -- From converge to weak: what a certificate that passed gives to the cut of its view, and the record that is made. Assumes nothing.
-use Prim.Native.Nat.{ℕ, zero, suc, _+_, _≤_, _<_}
+use Prim.Native.Nat.{ℕ, _≤_, _<_}
 use native.Mathlib.Omega.{arith}
-use mathlib.Core.Path.{_≡_, refl, sym, ap, ap₂, _∙_, subst, fun-ext}
-use mathlib.Core.Bool.{Bool, true, false, cond}
-use mathlib.Core.List.{List, [], _∷_, map}
+use mathlib.Core.Path.{_≡_, sym, ap, ap₂, _∙_, subst, fun-ext}
+use mathlib.Core.Bool.{Bool, cond}
+use mathlib.Core.List.{List, [], map}
 use mathlib.Core.Option.{Option, some}
-use lib.Dec.{ltb}
 use lib.ListN.{length, getD, take}
-use lib.Seq.{take-all}
-use borrow.Author.Tests.{ltb-true, lt-ltb, le-ltb, eq-eqb, ne-eqb}
-use Rattle.layout.proofs.Cases.{by-lt, by-eq}
 use Rattle.history.specs.declared.record.History as written-history
 use Rattle.history.specs.Record.{eventsIn}
 use Rattle.certificate.specs.declared.record.Criterion.{Criterion}
@@ -20,12 +16,11 @@ use Rattle.certificate.specs.Record.{noList, entriesIn, rowsOf}
 use Rattle.certificate.specs.Record as text-record
 use Rattle.certificate.specs.Criteria.{hasPasts, viewNumbers}
 use Rattle.certificate.proofs.NumberingLaws.{numbers-few}
-use Rattle.criteria.specs.Tests.{table, keepIf, keep, more, one, count}
+use Rattle.criteria.specs.Tests.{table, keep, count}
 use Rattle.criteria.specs.History.{History, size, IsView, isEvent, pastWith}
 use Rattle.criteria.specs.Certificate.{Certificate, listed, orderBy, order, viewCount, viewSet}
 use Rattle.criteria.specs.Weaken.{weakenedFrom, weakened}
 use Rattle.criteria.specs.Records.{historyOf, certificateOf}
-use Rattle.criteria.proofs.Lists.{mem-of-count, mem-getD, keep-take}
 use Rattle.criteria.proofs.Check.{Good, check-good}
 use Rattle.criteria.proofs.RecordLaws.{size-is, view-count}
 use Rattle.orders.specs.Rows.{inRows, ShortList, IsOrder}

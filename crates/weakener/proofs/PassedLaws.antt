@@ -19,7 +19,7 @@ use Rattle.certificate.specs.Record as text-record
 use Rattle.certificate.specs.Criteria.{viewNumbers}
 use Rattle.certificate.proofs.FitsLaws.{Fits, fits-facts}
 use Rattle.certificate.proofs.NumberingLaws.{numbers-few}
-use Rattle.criteria.specs.Tests.{keepIf, keep, more, one, count, mem}
+use Rattle.criteria.specs.Tests.{keepIf, keep, more, count, mem}
 use Rattle.criteria.specs.History.{size, IsView, isEvent}
 use Rattle.criteria.specs.Certificate.{viewCount, viewSet, order, Readable}
 use Rattle.criteria.specs.Records.{historyOf, certificateOf}

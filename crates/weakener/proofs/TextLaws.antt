@@ -1,15 +1,12 @@
 -- Weakening on texts is weakening of the records that they are read as. Assumes nothing.
 use Prim.Native.Nat.{ℕ}
-use mathlib.Core.Path.{_≡_, refl, sym, ap, ap₂, _∙_, subst}
-use mathlib.Core.Bool.{Bool, cond}
+use mathlib.Core.Path.{_≡_, refl, sym, ap, _∙_, subst}
 use mathlib.Core.List.{List}
 use mathlib.Core.Option.{Option, none, some}
 use lib.ListN.{length, replicate}
-use lib.Dec.{eqb}
 use borrow.Author.Tests.{eq-eqb, ne-eqb}
 use Rattle.history.specs.declared.record.History.{History}
 use Rattle.history.specs.Record.{eventsIn}
-use Rattle.history_reader.specs.ReadHistory.{readHistory}
 use Rattle.certificate.specs.declared.record.Criterion.{Criterion}
 use Rattle.certificate.specs.declared.record.Criterion.the-variants.{Pram}
 use Rattle.certificate.specs.declared.record.Certificate.{Certificate}
@@ -20,9 +17,8 @@ use Rattle.criteria.specs.Check.{answerOf, check}
 use Rattle.criteria.specs.Weaken.{weakened}
 use Rattle.criteria.specs.Records.{historyOf, certificateOf}
 use Rattle.faults.specs.declared.finding.Finding.the-variants.{Nothing}
-use Rattle.checker.specs.CheckText.{Verdict, refused, checked, historyRead, certificateRead, checkText}
-use Rattle.checker.specs.Verdict.{verdictOf}
-use Rattle.checker.specs.WeakenText.{textIfSome, weakenedText, wantedOf, weakenedWanted, pairAnswer, pairLength, pairBytes, weakenAnswer, weakenLength, weakenBytes}
+use Rattle.checker.specs.CheckText.{Verdict, checked, historyRead, certificateRead, checkText}
+use Rattle.checker.specs.WeakenText.{textIfSome, weakenedText, wantedOf, weakenedWanted, weakenAnswer, weakenLength, weakenBytes}
 use Rattle.checker.proofs.TextTheorems.{refused-as}
 use Rattle.checker.proofs.VerdictLaws.{refused-verdict, no-fault, of-texts, checked-read}
 use Rattle.weakener.specs.declared.weaken.Weakened.{Weakened}

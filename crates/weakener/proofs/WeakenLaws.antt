@@ -1,15 +1,14 @@
 -- Laws of the answer of a weakening. Assumes nothing.
-use Prim.Native.Nat.{ℕ, zero, suc, _≤_, _<_}
+use Prim.Native.Nat.{ℕ, zero, suc, _≤_}
 use native.Mathlib.Omega.{arith}
 use mathlib.Core.Path.{_≡_, refl, sym, ap, ap₂, _∙_, subst}
-use mathlib.Core.Bool.{Bool, true, false, cond, _&&_, false≢true}
+use mathlib.Core.Bool.{Bool, true, false, cond, false≢true}
 use mathlib.Core.List.{List}
 use mathlib.Core.Option.{Option, none, some}
-use lib.ListN.{length, replicate}
-use lib.Dec.{eqb, leb}
-use borrow.Author.Tests.{eq-eqb, ne-eqb}
-use Rattle.layout.specs.Fill.{fill, after}
-use Rattle.layout.proofs.Cases.{by-bool}
+use lib.ListN.{length}
+use lib.Dec.{leb}
+use borrow.Author.Tests.{ne-eqb}
+use Rattle.layout.specs.Fill.{after}
 use Rattle.history.specs.declared.record.History as written-history
 use Rattle.history.specs.declared.record.Event.{Event}
 use Rattle.history.specs.Record.{eventsIn}
@@ -34,11 +33,11 @@ use Rattle.faults.specs.declared.finding.Finding.{Finding}
 use Rattle.faults.specs.declared.finding.Finding.the-variants.{Nothing}
 use Rattle.faults.specs.Finding.{findingOf, isFound}
 use Rattle.checker.specs.CheckText.{Verdict, checked}
-use Rattle.checker.specs.WeakenText.{textOfLists, textIfSome, wantedOf, pairAnswer, pairLength, pairBytes}
+use Rattle.checker.specs.WeakenText.{textOfLists, textIfSome, wantedOf}
 use Rattle.checker.proofs.ListTexts.{lists-fit, text-lists}
 use Rattle.weakener.specs.declared.weaken.Weakened.{Weakened}
 use Rattle.weakener.specs.Steps.{Passed, IsRecordOf}
-use Rattle.weakener.specs.Weakening.{weakeningOf, IsPair}
+use Rattle.weakener.specs.Weakening.{IsPair}
 
 -- ---- the criterion wanted
 pub wanted-none : (n : ℕ) → (n ≡ 0 → ⊥) → (n ≡ 1 → ⊥) → (n ≡ 2 → ⊥) → (n ≡ 3 → ⊥) → (n ≡ 4 → ⊥) → none ≡ wantedOf n

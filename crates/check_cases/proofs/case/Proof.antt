@@ -6,8 +6,7 @@ use Rattle.check_cases.proofs.case.Reads as reads
 use Rattle.check_cases.proofs.case.Lts as lts
 use Rattle.check_cases.proofs.say.Reads as say-reads
 use Rattle.verdict_lines.proofs.print.print_check.Reads as print-check-reads
-use Prim.Native.Nat.{ℕ, _≤_, _<_}
-use mathlib.Core.Path.{_≡_, sym}
+use mathlib.Core.Path.{sym}
 use lib.Seq.{length-take-le}
 
 say-requires : tie.Need-say-requires

@@ -1,7 +1,7 @@
 -- The fields of a line as they are written.
 use Prim.Native.Nat.{ℕ}
 use mathlib.Core.Bool.{Bool, true, cond, _&&_}
-use mathlib.Core.List.{List, [], _∷_, _++_, map}
+use mathlib.Core.List.{List, [], _∷_, _++_}
 use lib.Dec.{leb}
 use Rattle.layout.specs.Word.{dash}
 use Rattle.layout.specs.Number.{spell}

@@ -7,9 +7,7 @@ use Rattle.walnutgleam.proofs.main.Lts as lts
 use Rattle.io.proofs.write_all.Reads as write-all-reads
 use Rattle.verdict_lines.proofs.print.print_check.Reads as print-check-reads
 use Rattle.walnutgleam.proofs.read_file.Reads as read-file-reads
-use Prim.Native.Nat.{ℕ, _≤_, _<_}
-use native.Mathlib.Omega.{arith}
-use mathlib.Core.Path.{_≡_, sym}
+use mathlib.Core.Path.{sym}
 use lib.Seq.{length-take-le}
 
 slice-aggregate-read-file : tie.Need-slice-aggregate-read-file

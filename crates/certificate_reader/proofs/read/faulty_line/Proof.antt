@@ -1,6 +1,5 @@
 -- `faulty_line` meets its contract: the place that a refusal names lies within the text that it is in. Assumes nothing.
 use Prim.Native.Nat.{_≤_}
-use mathlib.Core.Path.{_≡_}
 use lib.ListN.{length}
 use Rattle.certificate_reader.specs.declared.read.Text.the-variants.{Neither, HistoryText, CertificateText}
 use Rattle.certificate_reader.proofs.TwoTextLaws.{PlacedIn, placed-two, faulty-part}

@@ -1,5 +1,4 @@
 -- `no_certificate` meets its contract. Assumes nothing.
-use mathlib.Core.Path.{refl}
 use Rattle.history.specs.Record.{pad}
 use Rattle.certificate.specs.Record.{certificateOf}
 use borrow.Author.Needs.{needs}

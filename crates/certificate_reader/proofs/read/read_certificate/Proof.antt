@@ -1,9 +1,8 @@
 -- `read_certificate` meets its contract: the history's refusals come first. Assumes nothing.
-use native.Mathlib.Omega.{arith}
 use Prim.Native.Nat.{_≤_}
 use mathlib.Core.Path.{_≡_, sym, ap, _∙_}
 use Rattle.history_reader.specs.declared.read.HistoryRead.{HistoryRead}
-use Rattle.history_theorems.proofs.Guarantees.{Sound, read-sound}
+use Rattle.history_theorems.proofs.Guarantees.{read-sound}
 use Rattle.certificate_reader.proofs.TwoTextLaws.{history-answer, history-rows, lines-rows, bad-answer, good-answer}
 use borrow.Author.Needs.{needs}
 use Rattle.certificate_reader.proofs.read.read_certificate.Statement.{statement}

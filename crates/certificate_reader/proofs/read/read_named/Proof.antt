@@ -1,7 +1,7 @@
 -- `read_named` meets its contract: the first line names the criterion. Assumes nothing.
 use native.Mathlib.Omega.{arith}
-use Prim.Native.Nat.{ℕ, _<_, _-_, _+_}
-use mathlib.Core.Path.{_≡_, sym, ap, _∙_}
+use Prim.Native.Nat.{_<_, _-_, _+_}
+use mathlib.Core.Path.{sym, ap, _∙_}
 use lib.ListN.{length, take, drop}
 use Rattle.layout.specs.Split.{split}
 use Rattle.history.proofs.FaultLaws.{strict}

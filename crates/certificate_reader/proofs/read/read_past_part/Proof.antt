@@ -1,8 +1,8 @@
 -- `read_past_part` meets its contract: the heading, and then its lines. Assumes nothing.
 use native.Mathlib.Omega.{arith}
-use Prim.Native.Nat.{ℕ, _<_, _-_, _+_}
-use mathlib.Core.Path.{_≡_, sym, _∙_}
-use lib.ListN.{length, take, drop}
+use Prim.Native.Nat.{_<_, _-_}
+use mathlib.Core.Path.{sym, _∙_}
+use lib.ListN.{length, take}
 use Rattle.layout.specs.Word.{pastHeading}
 use Rattle.history.proofs.FaultLaws.{strict}
 use Rattle.certificate_reader.specs.Steps.Lines.{pastLines}

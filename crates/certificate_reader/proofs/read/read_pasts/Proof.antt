@@ -2,15 +2,13 @@
 -- nothing.
 use native.Mathlib.Omega.{arith}
 use Prim.Native.Nat.{ℕ, _≤_, _<_, _-_, _+_}
-use mathlib.Core.Path.{_≡_, refl, sym, ap, _∙_}
-use mathlib.Core.Bool.{true}
+use mathlib.Core.Path.{_≡_, sym, ap, _∙_}
 use mathlib.Core.List.{List, map}
 use lib.ListN.{length, take, drop, length-set}
 use Rattle.layout.specs.Split.{split}
 use Rattle.history.specs.Record.{pad}
 use Rattle.history.proofs.FaultLaws.{strict}
 use Rattle.certificate.specs.Record.{noList, eventListOf, entriesIn}
-use Rattle.certificate.specs.Steps.Lists.{listRead}
 use Rattle.certificate_reader.specs.ReadCertificate.{viewsFrom}
 use Rattle.certificate_reader.specs.Steps.Lines.{pastLines}
 use Rattle.certificate_reader.proofs.KeepLaws.{ReadingPasts, pasts-begin, pasts-end, pasts-cut, pasts-bad, pasts-more, lists-in, refused, passed-on}

@@ -1,9 +1,9 @@
 -- `read_view_part` meets its contract: the heading, and then its lines. Assumes nothing.
 use native.Mathlib.Omega.{arith}
-use Prim.Native.Nat.{ℕ, _<_, _-_, _+_}
-use mathlib.Core.Path.{_≡_, sym, _∙_}
+use Prim.Native.Nat.{_<_, _-_}
+use mathlib.Core.Path.{sym, _∙_}
 use mathlib.Core.List.{map}
-use lib.ListN.{length, take, drop}
+use lib.ListN.{length, take}
 use Rattle.layout.specs.Word.{viewHeading}
 use Rattle.history.proofs.FaultLaws.{strict}
 use Rattle.certificate.specs.Record.{entriesIn}

@@ -2,14 +2,13 @@
 -- nothing.
 use native.Mathlib.Omega.{arith}
 use Prim.Native.Nat.{ℕ, _≤_, _<_, _-_, _+_}
-use mathlib.Core.Path.{_≡_, refl, sym, ap, ap₂, _∙_}
+use mathlib.Core.Path.{_≡_, refl, sym, ap, _∙_}
 use mathlib.Core.Bool.{false}
-use mathlib.Core.List.{List, [], _∷_, map}
+use mathlib.Core.List.{map}
 use lib.ListN.{length, take, drop, getD, length-set}
 use lib.Seq.{length-take-le, getD-take}
-use Rattle.layout.specs.Split.{find, split}
+use Rattle.layout.specs.Split.{split}
 use Rattle.history.proofs.FaultLaws.{strict}
-use Rattle.certificate.specs.declared.list.ListLine.{ListLine}
 use Rattle.certificate.specs.Record.{entriesIn}
 use Rattle.certificate.specs.Steps.Lists.{listRead}
 use Rattle.certificate_reader.specs.ReadCertificate.{accepted}

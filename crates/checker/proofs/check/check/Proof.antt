@@ -6,7 +6,6 @@ use Rattle.checker.proofs.check.check.Reads as reads
 use Rattle.checker.proofs.check.check.Lts as lts
 use Rattle.certificate_reader.proofs.read.read_certificate.Reads as read-certificate-reads
 use Rattle.faults.proofs.check.check_records.Reads as check-records-reads
-use Prim.Native.Nat.{ℕ}
 use mathlib.Core.Path.{_≡_}
 use Rattle.checker.proofs.VerdictLaws.{refused-verdict, within-read, fits-read, checked-verdict}
 

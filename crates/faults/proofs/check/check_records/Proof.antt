@@ -14,12 +14,11 @@ use Rattle.faults.proofs.replayed.replay_fault.Reads as replay-fault-re
 use Rattle.faults.proofs.viewed.event_each.Reads as event-each-reads
 use Rattle.faults.proofs.viewed.view_fault.Reads as view-fault-reads
 use Rattle.orders.proofs.listed.program_rows.Reads as program-rows-reads
-use Prim.Native.Nat.{ℕ, _≤_, _<_}
+use Prim.Native.Nat.{ℕ, _≤_}
 use native.Mathlib.Omega.{arith}
 use mathlib.Core.Path.{_≡_, sym, ap, _∙_}
 use mathlib.Core.Bool.{Bool, true, false, cond}
-use mathlib.Core.List.{List}
-use lib.ListN.{length, getD}
+use lib.ListN.{length}
 use Rattle.history.specs.Record.{eventsIn}
 use Rattle.certificate.specs.Criteria.{hasPasts, viewNumbers}
 use Rattle.criteria.specs.History.{programOrder}

@@ -1,6 +1,5 @@
 -- `answer_field` meets its contract, by what the field is as a list. Assumes nothing.
-use mathlib.Core.Path.{sym, ap, _∙_}
-use Rattle.history.specs.declared.answer.AnswerField.{AnswerField}
+use mathlib.Core.Path.{sym, _∙_}
 use Rattle.history.proofs.AnswerLaws.{answer-not, answer-over, answer-many, answer-few, answer-small, answer-listed}
 use borrow.Author.Needs.{needs}
 use Rattle.history.proofs.answer.answer_field.Statement.{statement}

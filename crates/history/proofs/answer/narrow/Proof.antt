@@ -1,10 +1,10 @@
 -- `narrow` meets its contract: the values so far are the first items. Assumes nothing.
 use native.Mathlib.Omega.{arith}
 use borrow.Author.Needs.{needs}
-use Prim.Native.Nat.{ℕ, _≤_, _<_, _-_, _+_}
-use mathlib.Core.Path.{_≡_, refl, sym, ap, ap₂, _∙_}
-use mathlib.Core.List.{List, [], _∷_}
-use lib.ListN.{length, take, getD, set, length-set}
+use Prim.Native.Nat.{ℕ, _≤_, _-_}
+use mathlib.Core.Path.{_≡_, sym, ap, ap₂, _∙_}
+use mathlib.Core.List.{List}
+use lib.ListN.{length, take, getD, length-set}
 use lib.Seq.{length-take-le}
 use Rattle.history.specs.declared.record.Answer.{Answer}
 use Rattle.history.specs.Record.{pad, answerOf}

@@ -1,9 +1,9 @@
 -- `read_event` meets its contract: the fields are cut one after the other. Assumes nothing.
 use native.Mathlib.Omega.{arith}
-use Prim.Native.Nat.{ℕ, _+_, _-_}
-use mathlib.Core.Path.{_≡_, refl, sym, _∙_}
-use mathlib.Core.List.{List, [], _∷_}
-use lib.ListN.{length, take, drop}
+use Prim.Native.Nat.{_+_, _-_}
+use mathlib.Core.Path.{refl, sym, _∙_}
+use mathlib.Core.List.{[], _∷_}
+use lib.ListN.{take, drop}
 use Rattle.layout.proofs.SplitLaws.{Cut, cut-begins, cut-next, cut-ends, split-some}
 use Rattle.history.proofs.FaultLaws.{strict}
 use Rattle.history.proofs.EventLaws.{event-count, event-six}

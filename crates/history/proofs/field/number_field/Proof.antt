@@ -1,6 +1,6 @@
 -- `number_field` meets its contract, by what the field is as a number. Assumes nothing.
 use native.Mathlib.Omega.{arith}
-use mathlib.Core.Path.{sym, ap, _∙_}
+use mathlib.Core.Path.{sym, _∙_}
 use Rattle.layout.proofs.NumberLaws.{value-number}
 use Rattle.history.proofs.FaultLaws.{field-not, field-value, field-over}
 use borrow.Author.Needs.{needs}

@@ -1,7 +1,6 @@
 -- `optional_field` meets its contract: `-`, or a number. Assumes nothing.
 use mathlib.Core.Path.{sym, ap, _∙_}
 use Rattle.history.specs.declared.field.NumberField.{NumberField}
-use Rattle.history.specs.declared.field.OptionalField.{OptionalField}
 use mathlib.Core.Bool.{false}
 use Rattle.history.proofs.FaultLaws.{optional-none, optional-some}
 use borrow.Author.Needs.{needs}

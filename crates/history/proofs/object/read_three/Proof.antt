@@ -1,5 +1,4 @@
 -- `read_three` meets its contract: what it judges is the first fault of the fields. Assumes nothing.
-use Prim.Native.Nat.{ℕ}
 use mathlib.Core.Path.{_≡_, sym, ap, _∙_}
 use Rattle.history.specs.Faults.{faultyObject, objectFault}
 use Rattle.history.proofs.ObjectLaws.{object-judged, three-faulty, three-object}

@@ -1,5 +1,4 @@
 -- `can_answer` meets its contract, by the op. Assumes nothing.
-use mathlib.Core.Path.{sym}
 use borrow.Author.Needs.{needs}
 use Rattle.history.proofs.word.can_answer.Statement.{statement}
 use Rattle.history.proofs.word.can_answer.Tie as tie

@@ -1,6 +1,5 @@
 -- `read_op` meets its contract: the word is the first that it is the same as. Assumes nothing.
 use mathlib.Core.Path.{sym, _∙_}
-use mathlib.Core.Bool.{_||_, cond}
 use Rattle.history.specs.Kinds.{isOp, opOf}
 use borrow.Author.Needs.{needs}
 use Rattle.history.proofs.word.read_op.Statement.{statement}

@@ -1,10 +1,9 @@
 -- `faulty_line` meets its contract: the place that a refusal names lies within the text. Assumes nothing.
-use Prim.Native.Nat.{ℕ, _≤_, _-_}
-use mathlib.Core.Path.{_≡_, sym, ap, _∙_}
-use mathlib.Core.List.{List}
+use Prim.Native.Nat.{_-_}
+use mathlib.Core.Path.{ap}
 use lib.ListN.{length, take, drop}
 use Rattle.history_reader.specs.declared.read.HistoryRead.{HistoryRead}
-use Rattle.history_reader.specs.ReadHistory.{readHistory, faultyLine}
+use Rattle.history_reader.specs.ReadHistory.{faultyLine}
 use Rattle.history_reader.proofs.PlaceLaws.{Placed, placed-history}
 use borrow.Author.Needs.{needs}
 use Rattle.history_reader.proofs.read.faulty_line.Statement.{statement}

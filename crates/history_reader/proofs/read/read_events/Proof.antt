@@ -2,8 +2,8 @@
 use native.Mathlib.Omega.{arith}
 use borrow.Author.Needs.{needs}
 use Prim.Native.Nat.{ℕ, _≤_, _<_, _-_, _+_}
-use mathlib.Core.Path.{_≡_, refl, sym, ap, ap₂, _∙_}
-use mathlib.Core.List.{List, [], _∷_, _++_}
+use mathlib.Core.Path.{_≡_, refl, sym, ap, _∙_}
+use mathlib.Core.List.{List, []}
 use lib.ListN.{length, take, drop}
 use lib.Seq.{length-take-le}
 use Rattle.layout.specs.Split.{split}
@@ -11,7 +11,7 @@ use Rattle.history.specs.declared.record.Event.{Event}
 use Rattle.history.specs.declared.record.History.{History}
 use Rattle.history.specs.declared.event.EventRead.{EventRead}
 use Rattle.history.specs.Faults.{eventLine}
-use Rattle.history.specs.Record.{noEvent, historyOf}
+use Rattle.history.specs.Record.{noEvent}
 use Rattle.history_reader.specs.ReadHistory.{eventsFrom}
 use Rattle.history.proofs.FaultLaws.{strict}
 use Rattle.history.proofs.PadLaws.{Filled, filled-none, filled-count, filled-take, filled-more}

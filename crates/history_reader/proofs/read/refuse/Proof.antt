@@ -1,8 +1,8 @@
 -- `refuse` meets its contract: an empty part starts at 0. Assumes nothing.
 use native.Mathlib.Omega.{arith}
-use Prim.Native.Nat.{ℕ, _-_, _+_}
-use mathlib.Core.Path.{_≡_, refl}
-use borrow.Author.Tests.{eq-eqb, ne-eqb}
+use Prim.Native.Nat.{_-_, _+_}
+use mathlib.Core.Path.{_≡_}
+use borrow.Author.Tests.{ne-eqb}
 use borrow.Author.Needs.{needs}
 use Rattle.history_reader.proofs.read.refuse.Statement.{statement}
 use Rattle.history_reader.proofs.read.refuse.Tie as tie

@@ -1,7 +1,7 @@
 -- `find_event` meets its contract: the place of the event's line is that of a line of the text. Assumes nothing.
 use native.Mathlib.Omega.{arith}
 use Prim.Native.Nat.{_+_, _≤_}
-use mathlib.Core.Path.{_≡_, _∙_}
+use mathlib.Core.Path.{_∙_}
 use lib.ListN.{length}
 use Rattle.history_reader.proofs.PlaceLaws.{Placed, placed-history}
 use Rattle.history_reader.proofs.ShowLaws.{few-declared, show-bad, show-line, show-none, line-places}

@@ -1,7 +1,7 @@
 -- `put_line` meets its contract: the fields left, written behind what is there, complete the line. Assumes nothing.
 use native.Mathlib.Omega.{arith}
 use borrow.Author.Needs.{needs}
-use Prim.Native.Nat.{ℕ, _≤_, _+_, _-_}
+use Prim.Native.Nat.{_≤_, _+_, _-_}
 use mathlib.Core.Path.{_≡_}
 use mathlib.Core.List.{map, [], _∷_, _++_}
 use lib.ListN.{length, take, drop, getD}

@@ -1,12 +1,11 @@
 -- `put_piece` meets its contract: the byte stands behind the field. Assumes nothing.
 use native.Mathlib.Omega.{arith}
-use Prim.Native.Nat.{ℕ, _+_, _<_, _≤_}
-use mathlib.Core.Path.{_≡_, refl, sym, ap, _∙_}
-use mathlib.Core.List.{List, [], _∷_, _++_}
+use Prim.Native.Nat.{_<_}
+use mathlib.Core.Path.{ap, _∙_}
+use mathlib.Core.List.{[], _∷_}
 use lib.ListN.{length, length-append, length-set}
 use Rattle.layout.proofs.FillLaws.{fill-length, fill-byte}
 use Rattle.history_writer.specs.Steps.Lines.{fieldText}
-use borrow.Author.Needs.{needs}
 use Rattle.history_writer.proofs.line.put_piece.Statement.{statement}
 use Rattle.history_writer.proofs.line.put_piece.Tie as tie
 

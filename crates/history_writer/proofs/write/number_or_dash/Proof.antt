@@ -1,5 +1,4 @@
 -- `number_or_dash` meets its contract. Assumes nothing.
-use borrow.Author.Needs.{needs}
 use Rattle.history_writer.proofs.write.number_or_dash.Statement.{statement}
 use Rattle.history_writer.proofs.write.number_or_dash.Tie as tie
 

@@ -1,6 +1,5 @@
 -- `put_event` meets its contract. Assumes nothing.
-use mathlib.Core.Path.{sym, ap, _∙_}
-use lib.ListN.{length}
+use mathlib.Core.Path.{sym}
 use Rattle.history_writer.proofs.PieceLaws.{event-line, items-are}
 use borrow.Author.Needs.{needs}
 use Rattle.history_writer.proofs.write.put_event.Statement.{statement}

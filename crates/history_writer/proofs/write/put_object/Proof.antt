@@ -1,7 +1,6 @@
 -- `put_object` meets its contract. Assumes nothing.
-use mathlib.Core.Path.{sym, ap, _∙_}
+use mathlib.Core.Path.{sym}
 use mathlib.Core.List.{[]}
-use lib.ListN.{length}
 use Rattle.history_writer.proofs.PieceLaws.{object-line}
 use borrow.Author.Needs.{needs}
 use Rattle.history_writer.proofs.write.put_object.Statement.{statement}

@@ -3,7 +3,7 @@
 use native.Mathlib.Omega.{arith}
 use borrow.Author.Needs.{needs}
 use Prim.Native.Nat.{_≤_, _+_, _*_, _-_}
-use mathlib.Core.Path.{_≡_, refl, sym, ap, _∙_}
+use mathlib.Core.Path.{_≡_, refl, sym, ap}
 use lib.ListN.{length, drop}
 use Rattle.layout.specs.Steps.List.{tailText}
 use Rattle.layout.proofs.ListTextLaws.{list-empty, tail-long, tail-end, tail-list}

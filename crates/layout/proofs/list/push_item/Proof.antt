@@ -1,9 +1,5 @@
 -- `push_item` meets its contract, by the answer so far. Assumes nothing.
-use Prim.Native.Nat.{ℕ}
-use mathlib.Core.Path.{_≡_, refl, sym, ap, _∙_}
-use mathlib.Core.List.{List}
-use lib.ListN.{length-set}
-use Rattle.layout.specs.declared.list.ListRead.{ListRead}
+use mathlib.Core.Path.{sym}
 use Rattle.layout.specs.Steps.List.{pushed, kept}
 use Rattle.layout.proofs.ListLaws.{many-below, many-over, pushed-over, pushed-many, pushed-listed, kept-over, kept-many, kept-listed}
 use borrow.Author.Needs.{needs}

@@ -1,9 +1,6 @@
 -- `put_items` meets its contract: the first number, and the others behind it. Assumes nothing.
 use native.Mathlib.Omega.{arith}
-use Prim.Native.Nat.{ℕ}
-use mathlib.Core.Path.{ap}
-use mathlib.Core.List.{List}
-use lib.ListN.{length, getD, drop}
+use lib.ListN.{getD, drop}
 use Rattle.layout.specs.Number.{spell}
 use Rattle.layout.specs.List.{listText}
 use Rattle.layout.specs.Steps.List.{tailText}

@@ -1,6 +1,6 @@
 -- `push_digit` meets its contract. Assumes nothing.
 use native.Mathlib.Omega.{arith}
-use mathlib.Core.Path.{sym, ap, _∙_}
+use mathlib.Core.Path.{sym}
 use Rattle.layout.proofs.NumberLaws.{push-more, push-still}
 use borrow.Author.Needs.{needs}
 use Rattle.layout.proofs.number.push_digit.Statement.{statement}

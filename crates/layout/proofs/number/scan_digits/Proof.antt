@@ -5,9 +5,8 @@ use Prim.Native.Nat.{_≤_, _+_, _*_, _-_}
 use mathlib.Core.Path.{_≡_, refl, sym, ap, _∙_}
 use mathlib.Core.List.{List}
 use Prim.Native.Nat.{ℕ}
-use mathlib.Core.Bool.{true, false}
 use lib.ListN.{length, drop, getD}
-use Rattle.layout.specs.Number.{isDigit, valueFrom, value, below}
+use Rattle.layout.specs.Number.{valueFrom, value, below}
 use Rattle.layout.specs.Steps.Number.{digits}
 use Rattle.layout.proofs.NumberLaws.{digit-is, digit-low, digit-high, digits-stop, digits-next, digits-end, below-push, below-none}
 use Rattle.layout.proofs.number.scan_digits.Statement.{statement}

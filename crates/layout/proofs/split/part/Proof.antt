@@ -1,5 +1,5 @@
 -- `part` meets its contract: from where it begins to the next byte b. Assumes nothing.
-use mathlib.Core.Path.{_≡_, sym, _∙_}
+use mathlib.Core.Path.{sym, _∙_}
 use Rattle.layout.proofs.SplitLaws.{part-here}
 use borrow.Author.Needs.{needs}
 use Rattle.layout.proofs.split.part.Statement.{statement}

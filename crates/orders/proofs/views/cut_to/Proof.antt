@@ -3,7 +3,7 @@ use native.Mathlib.Omega.{arith}
 use Prim.Native.Nat.{ℕ, _≤_, _<_, _-_, _+_}
 use mathlib.Core.Path.{_≡_, refl, ap, _∙_}
 use lib.ListN.{length, take, getD, set, length-set}
-use Rattle.criteria.specs.Tests.{keep, one}
+use Rattle.criteria.specs.Tests.{keep}
 use Rattle.orders.specs.Rows.{inRow}
 use Rattle.orders.proofs.CutLaws.{cut-more}
 use borrow.Author.Needs.{needs}

@@ -1,15 +1,11 @@
 -- `first_wrong` meets its contract: nothing is wrong in the views before k. Assumes nothing.
 use native.Mathlib.Omega.{arith}
-use Prim.Native.Nat.{ℕ, _≤_, _<_, _-_, _+_}
+use Prim.Native.Nat.{ℕ, _≤_, _<_, _-_}
 use mathlib.Core.Path.{_≡_}
-use mathlib.Core.List.{List, []}
 use mathlib.Core.Option.{Option, none}
-use lib.ListN.{getD, take}
-use Rattle.criteria.specs.History.{History}
-use Rattle.criteria.specs.Check.{firstWrong}
 use Rattle.replays.specs.declared.search.Place.{Place}
-use Rattle.replays.specs.Replay.{lightHistory, contentsIn, isVisible}
-use Rattle.replays.specs.Search.{noVisible, wrongIn}
+use Rattle.replays.specs.Replay.{lightHistory, contentsIn}
+use Rattle.replays.specs.Search.{wrongIn}
 use Rattle.replays.proofs.SearchLaws.{wrong-here, wrong-not, place-found, place-none, place-on}
 use borrow.Author.Needs.{needs}
 use Rattle.replays.proofs.search.first_wrong.Statement.{statement}

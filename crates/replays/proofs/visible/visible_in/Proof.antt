@@ -1,5 +1,4 @@
 -- `visible_in` meets its contract, criterion by criterion. Assumes nothing.
-use mathlib.Core.Path.{refl}
 use borrow.Author.Needs.{needs}
 use Rattle.replays.proofs.visible.visible_in.Statement.{statement}
 use Rattle.replays.proofs.visible.visible_in.Tie as tie

@@ -3,7 +3,6 @@ use Rattle.weakener.proofs.weaken.wanted_of.Statement.{statement}
 use Rattle.weakener.proofs.weaken.wanted_of.Tie as tie
 use Rattle.weakener.proofs.weaken.wanted_of.Reads as reads
 use Rattle.weakener.proofs.weaken.wanted_of.Lts as lts
-use Prim.Native.Nat.{ℕ}
 use mathlib.Core.Path.{_≡_, sym, ap}
 use Rattle.checker.specs.WeakenText.{wantedOf}
 use Rattle.weakener.proofs.WeakenLaws.{wanted-none}

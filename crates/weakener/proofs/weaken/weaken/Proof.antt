@@ -8,9 +8,7 @@ use Rattle.certificate_reader.proofs.read.read_certificate.Reads as read-certif
 use Rattle.weakener.proofs.weaken.answer.Reads as answer-reads
 use Rattle.weakener.proofs.weaken.wanted_of.Reads as wanted-of-reads
 use Rattle.weakener.proofs.weaken.weaken_record.Reads as weaken-record-reads
-use Prim.Native.Nat.{ℕ}
 use mathlib.Core.Path.{_≡_, sym, ap, _∙_}
-use mathlib.Core.Option.{none, some}
 use Rattle.checker.proofs.VerdictLaws.{within-read, fits-read}
 use Rattle.weakener.specs.Weakening.{criterionOf}
 use Rattle.weakener.proofs.TextLaws.{weakening-refused, weakening-none, weakening-named}

@@ -10,15 +10,10 @@ use Rattle.faults.proofs.finding.is_found.Reads as is-found-reads
 use Rattle.weakener.proofs.records.weakened_record.Reads as weakened-record-reads
 use Rattle.weakener.proofs.weaken.answer.Reads as answer-reads
 use Rattle.weakener.proofs.weaken.is_pair.Reads as is-pair-reads
-use Prim.Native.Nat.{ℕ}
 use mathlib.Core.Path.{_≡_, sym, _∙_}
 use mathlib.Core.Bool.{true, false}
 use borrow.Author.Tests.{not-true, not-false}
-use mathlib.Core.List.{List}
-use mathlib.Core.Option.{none}
-use Rattle.criteria.specs.Check.{check}
 use Rattle.criteria.specs.Weaken.{isPair}
-use Rattle.criteria.specs.Records.{historyOf, certificateOf}
 use Rattle.faults.specs.Finding.{findingOf, isFound}
 use Rattle.weakener.specs.Steps.{Passed}
 use Rattle.weakener.proofs.WeakenLaws.{pair-refused, no-pair, pair-faulty, pair-weakens, not-found, same-answer}

@@ -5,6 +5,12 @@ use borrow.Author.Needs.{needs}
 use Rattle.objects.proofs.state.State.ended.Statement.{statement}
 use Rattle.objects.proofs.state.State.ended.Tie as tie
 
+cast-oldest : tie.Need-cast-oldest
+cast-oldest c = search needs
+
+cast-end : tie.Need-cast-end
+cast-end c = search needs
+
 none-requires : tie.Need-none-requires
 none-requires c κs = search needs
 
@@ -46,6 +52,8 @@ pub ended-spec : {M : Type 1} → statement M
 ended-spec =
     tie.close
     (tie.spec
+    cast-oldest
+    cast-end
     none-requires
     returns
     sub-at

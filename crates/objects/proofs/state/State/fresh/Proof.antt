@@ -29,9 +29,6 @@ started-requires-3 c κs = search needs
 enum-told-4 : tie.Need-enum-told-4
 enum-told-4 c = search needs
 
-cast-width : tie.Need-cast-width
-cast-width c = search needs
-
 started-requires-4 : tie.Need-started-requires-4
 started-requires-4 c κs = search needs
 
@@ -55,8 +52,8 @@ returns-3 c =
 
 returns-4 : tie.Need-returns-4
 returns-4 c =
-    let o = c .before .before .before .before .args .o in
-    let kind = c .before .before .enum-told4 .given .1 in
+    let o = c .before .before .before .args .o in
+    let kind = c .before .enum-told4 .given .1 in
     fresh-law o Window (c .started4 .result) _ false kind (omega arith) (c .started4 .ensures) refl refl
 
 pub fresh-spec : {M : Type 1} → statement M
@@ -70,7 +67,6 @@ fresh-spec =
     enum-told-3
     started-requires-3
     enum-told-4
-    cast-width
     started-requires-4
     returns
     returns-2

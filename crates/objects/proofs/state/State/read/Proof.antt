@@ -16,6 +16,12 @@ Inv-loop s first end n numbers₀ i₀ numbers i =
 abbrev μ-loop : tie.MeasureT-loop
 μ-loop s first end n numbers₀ i₀ numbers i = n - i
 
+cast-first : tie.Need-cast-first Inv-loop μ-loop
+cast-first c = search needs
+
+cast-end : tie.Need-cast-end Inv-loop μ-loop
+cast-end c = search needs
+
 sub-at-most-eight : tie.Need-sub-at-most-eight Inv-loop μ-loop
 sub-at-most-eight c = search needs
 
@@ -65,6 +71,8 @@ read-spec =
     (tie.spec
     Inv-loop
     μ-loop
+    cast-first
+    cast-end
     sub-at-most-eight
     at-most-eight-requires
     loop-holds

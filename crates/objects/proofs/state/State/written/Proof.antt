@@ -5,6 +5,9 @@ use borrow.Author.Needs.{needs}
 use Rattle.objects.proofs.state.State.written.Statement.{statement}
 use Rattle.objects.proofs.state.State.written.Tie as tie
 
+cast-at : tie.Need-cast-at
+cast-at c = search needs
+
 element-write-s : tie.Need-element-write-s
 element-write-s c = search needs
 
@@ -27,4 +30,4 @@ returns-2 c =
     write-begins s (c .before .pre .0) (omega arith) len (c .before .pre .1) _
 
 pub written-spec : {M : Type 1} → statement M
-written-spec = tie.close (tie.spec element-write-s add-s add-s-2 returns returns-2)
+written-spec = tie.close (tie.spec cast-at element-write-s add-s add-s-2 returns returns-2)

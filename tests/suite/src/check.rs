@@ -1,0 +1,200 @@
+//! The check of a certificate of a history, and what it answers.
+
+use crate::certificate::{Certificate, CertificateRules, Criterion, View};
+use crate::history::{History, HistoryRules};
+use crate::objects::{ObjectRules, State};
+use crate::texts::{Refusal, Text};
+
+/// A number for none in the places of a verdict.
+pub const NONE: u32 = 0xFFFF_FFFF;
+
+/// The answer number with all that it carries.
+#[derive(Clone, Copy, PartialEq, Eq, Debug, Default)]
+pub struct Verdict {
+    pub answer: u32,
+    pub criterion: Option<Criterion>,
+    pub refusal: Option<Refusal>,
+    pub view: Option<usize>,
+    pub event: Option<usize>,
+}
+
+impl Verdict {
+    pub fn refused(refusal: Refusal) -> Verdict {
+        Verdict { answer: refusal.answer, refusal: Some(refusal), ..Verdict::default() }
+    }
+
+    /// The seven places in the order that the header gives.
+    pub fn places(&self) -> [u32; 7] {
+        let number = |place: Option<usize>| place.map_or(NONE, |number| number as u32);
+        let text = match self.refusal.map(|refusal| refusal.text) {
+            None => 0,
+            Some(Text::History) => 1,
+            Some(Text::Certificate) => 2,
+        };
+        [
+            self.criterion.map_or(NONE, Criterion::number),
+            text,
+            number(self.refusal.map(|refusal| refusal.line)),
+            number(self.view),
+            number(self.event),
+            self.refusal.map_or(0, |refusal| refusal.start as u32),
+            self.refusal.map_or(0, |refusal| refusal.length as u32),
+        ]
+    }
+}
+
+/// A fault of the check: its number, and its view and event.
+pub type Fault = (u32, Option<usize>, Option<usize>);
+
+/// How a certificate is checked. A wrong checker overrides one of these; the defaults are document 01's.
+pub trait CheckRules: ObjectRules {
+    /// 11: the lowest e whose past lacks an earlier event of its process.
+    fn lacks_own(&self, history: &History, certificate: &Certificate) -> Option<Fault> {
+        let lacks = |e: &usize| (0..*e).any(|f| history.program_order(f, *e) && !certificate.pasts[*e].contains(&f));
+        (0..certificate.pasts.len()).find(lacks).map(|e| (11, None, Some(e)))
+    }
+
+    /// 12: the lowest e in past(e).
+    fn in_own_past(&self, certificate: &Certificate) -> Option<Fault> {
+        (0..certificate.pasts.len()).find(|e| certificate.pasts[*e].contains(e)).map(|e| (12, None, Some(e)))
+    }
+
+    /// 13: the lowest e with f in past(e), g in past(f), g not in past(e).
+    fn not_transitive(&self, certificate: &Certificate) -> Option<Fault> {
+        let pasts = &certificate.pasts;
+        let lacks = |e: &usize| pasts[*e].iter().any(|f| pasts[*f].iter().any(|g| !pasts[*e].contains(g)));
+        (0..pasts.len()).find(lacks).map(|e| (13, None, Some(e)))
+    }
+
+    /// Is the event in the set that the view orders? All events, or past(e) and e.
+    fn in_set(&self, certificate: &Certificate, view: &View, event: usize) -> bool {
+        match certificate.criterion {
+            Criterion::Sequential | Criterion::Pram | Criterion::Converge => true,
+            Criterion::Weak | Criterion::Causal => event == view.number || certificate.pasts[view.number].contains(&event),
+        }
+    }
+
+    /// Is this view its set, each once?
+    fn is_its_set(&self, history: &History, certificate: &Certificate, view: &View) -> bool {
+        (0..history.events.len()).all(|event| {
+            let times = view.order.iter().filter(|entry| **entry == event).count();
+            times == usize::from(self.in_set(certificate, view, event))
+        })
+    }
+
+    /// 14: the lowest view that isn't its set, each once.
+    fn not_its_set(&self, history: &History, certificate: &Certificate) -> Option<Fault> {
+        let view = certificate.views.iter().find(|view| !self.is_its_set(history, certificate, view))?;
+        Some((14, Some(view.number), None))
+    }
+
+    /// Does a come before b in the order that the views extend?
+    fn before(&self, history: &History, certificate: &Certificate, a: usize, b: usize) -> bool {
+        if certificate.criterion.has_pasts() {
+            certificate.pasts[b].contains(&a)
+        } else {
+            history.program_order(a, b)
+        }
+    }
+
+    /// 15: the lowest view against its order.
+    fn against(&self, history: &History, certificate: &Certificate) -> Option<Fault> {
+        let turned = |view: &&View| {
+            let order = &view.order;
+            (0..order.len()).any(|j| (0..j).any(|i| self.before(history, certificate, order[j], order[i])))
+        };
+        let view = certificate.views.iter().find(turned)?;
+        Some((15, Some(view.number), None))
+    }
+
+    /// Is the event's answer visible in the view?
+    fn visible(&self, history: &History, certificate: &Certificate, view: &View, event: usize) -> bool {
+        match certificate.criterion {
+            Criterion::Sequential => true,
+            Criterion::Pram => history.events[event].process == view.number,
+            Criterion::Weak => event == view.number,
+            Criterion::Causal => history.events[event].process == history.events[view.number].process,
+            // The cuts of converge see one event each.
+            Criterion::Converge => false,
+        }
+    }
+
+    /// Every event of the view changes its object. Gives the first event with a visible answer that the replay doesn't give.
+    fn replay(&self, history: &History, order: &[usize], visible: &dyn Fn(usize) -> bool) -> Option<usize> {
+        let mut states: Vec<State> = history.objects.iter().map(|object| object.start()).collect();
+        for e in order {
+            let event = &history.events[*e];
+            let answer = self.act(&history.objects[event.object], &mut states[event.object], event.op, event.value);
+            if visible(*e) && answer != event.answer {
+                return Some(*e);
+            }
+        }
+        None
+    }
+
+    /// The view of converge cut down to past(e) and e.
+    fn cut(&self, certificate: &Certificate, e: usize) -> Vec<usize> {
+        let kept = |event: &usize| *event == e || certificate.pasts[e].contains(event);
+        certificate.views[0].order.iter().copied().filter(kept).collect()
+    }
+
+    /// The order in which converge looks at the events.
+    fn converge_events(&self, history: &History) -> Vec<usize> {
+        (0..history.events.len()).collect()
+    }
+
+    /// 16: a visible answer that the replay doesn't give.
+    fn wrong_answer(&self, history: &History, certificate: &Certificate) -> Option<Fault> {
+        if certificate.criterion == Criterion::Converge {
+            let wrong = |e: &usize| self.replay(history, &self.cut(certificate, *e), &|event| event == *e).is_some();
+            return self.converge_events(history).into_iter().find(wrong).map(|e| (16, Some(0), Some(e)));
+        }
+        certificate.views.iter().find_map(|view| {
+            let event = self.replay(history, &view.order, &|event| self.visible(history, certificate, view, event))?;
+            Some((16, Some(view.number), Some(event)))
+        })
+    }
+
+    /// The faults in order, each over all events or views before the next.
+    fn fault(&self, history: &History, certificate: &Certificate) -> Option<Fault> {
+        None.or_else(|| self.lacks_own(history, certificate))
+            .or_else(|| self.in_own_past(certificate))
+            .or_else(|| self.not_transitive(certificate))
+            .or_else(|| self.not_its_set(history, certificate))
+            .or_else(|| self.against(history, certificate))
+            .or_else(|| self.wrong_answer(history, certificate))
+    }
+
+    /// The verdict on two records.
+    fn verdict_of(&self, history: &History, certificate: &Certificate) -> Verdict {
+        let (answer, view, event) = self.fault(history, certificate).unwrap_or((0, None, None));
+        Verdict { answer, criterion: Some(certificate.criterion), refusal: None, view, event }
+    }
+}
+
+/// All the rules together, and the check of two texts.
+pub trait Rules: HistoryRules + CertificateRules + CheckRules {
+    /// Reads both texts: the history's refusals, then the certificate's.
+    fn read_both(&self, history: &[u8], certificate: &[u8]) -> Result<(History, Certificate), Refusal> {
+        let (history, _) = self.read_history(history)?;
+        let certificate = self.read_certificate(&history, certificate)?;
+        Ok((history, certificate))
+    }
+
+    fn check_texts(&self, history: &[u8], certificate: &[u8]) -> Verdict {
+        match self.read_both(history, certificate) {
+            Ok((history, certificate)) => self.verdict_of(&history, &certificate),
+            Err(refusal) => Verdict::refused(refusal),
+        }
+    }
+}
+
+/// Document 01's rules: every default above.
+pub struct Document01;
+
+impl ObjectRules for Document01 {}
+impl crate::texts::NumberRules for Document01 {}
+impl HistoryRules for Document01 {}
+impl CertificateRules for Document01 {}
+impl CheckRules for Document01 {}
+impl Rules for Document01 {}

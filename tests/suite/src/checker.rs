@@ -1,0 +1,208 @@
+//! The functions of the header as a trait, the archive that is tested, and the model behind the same trait.
+
+use crate::check::Rules;
+use crate::weaken::weaken_texts;
+
+/// Lent memory between guards. A checker is given the middle part; every item, guards too, is compared afterwards.
+#[derive(Clone, PartialEq, Eq, Debug)]
+pub struct Lent<T> {
+    pub all: Vec<T>,
+    pub start: usize,
+    pub length: usize,
+}
+
+pub const GUARD: usize = 16;
+
+impl<T: Copy> Lent<T> {
+    /// A part of the given length, filled by a function of the place so that a moved item shows.
+    pub fn new(length: usize, fill: impl Fn(usize) -> T) -> Lent<T> {
+        Lent { all: (0..length + 2 * GUARD).map(fill).collect(), start: GUARD, length }
+    }
+
+    pub fn part(&mut self) -> &mut [T] {
+        &mut self.all[self.start..self.start + self.length]
+    }
+}
+
+/// Start and length of a shown line.
+#[derive(Clone, Copy, PartialEq, Eq, Debug)]
+pub struct Shown {
+    pub start: u64,
+    pub length: u64,
+}
+
+pub trait Checker {
+    fn check(&self, history: &[u8], certificate: &[u8]) -> u32;
+    fn verdict(&self, history: &[u8], certificate: &[u8], places: &mut Lent<u32>) -> u32;
+    fn show(&self, history: &[u8], event: u32, shown: &mut Shown) -> u32;
+    fn rewrite_history(&self, history: &[u8], buffer: &mut Lent<u8>, length: &mut u64) -> u32;
+    fn rewrite_certificate(&self, history: &[u8], certificate: &[u8], buffer: &mut Lent<u8>, length: &mut u64) -> u32;
+    fn weaken(&self, history: &[u8], certificate: &[u8], wanted: u32, buffer: &mut Lent<u8>, length: &mut u64) -> u32;
+}
+
+extern "C" {
+    fn walnutgleam_check(history: *const u8, history_length: usize, certificate: *const u8, certificate_length: usize) -> u32;
+    fn walnutgleam_verdict(
+        history: *const u8,
+        history_length: usize,
+        certificate: *const u8,
+        certificate_length: usize,
+        places: *mut u32,
+        places_length: usize,
+    ) -> u32;
+    fn walnutgleam_show(history: *const u8, history_length: usize, event: u32, start: *mut u64, length: *mut u64) -> u32;
+    fn walnutgleam_rewrite_history(
+        history: *const u8,
+        history_length: usize,
+        buffer: *mut u8,
+        buffer_length: usize,
+        length: *mut u64,
+    ) -> u32;
+    fn walnutgleam_rewrite_certificate(
+        history: *const u8,
+        history_length: usize,
+        certificate: *const u8,
+        certificate_length: usize,
+        buffer: *mut u8,
+        buffer_length: usize,
+        length: *mut u64,
+    ) -> u32;
+    fn walnutgleam_weaken(
+        history: *const u8,
+        history_length: usize,
+        certificate: *const u8,
+        certificate_length: usize,
+        wanted: u32,
+        buffer: *mut u8,
+        buffer_length: usize,
+        length: *mut u64,
+    ) -> u32;
+}
+
+/// The archive that the build linked.
+pub struct Archive;
+
+// SAFETY of the calls below: every pointer comes from a slice or a reference and goes with its length. A part of a lent buffer
+// lies within its guards, so that even a small overrun is seen and does no harm.
+impl Checker for Archive {
+    fn check(&self, history: &[u8], certificate: &[u8]) -> u32 {
+        unsafe { walnutgleam_check(history.as_ptr(), history.len(), certificate.as_ptr(), certificate.len()) }
+    }
+
+    fn verdict(&self, history: &[u8], certificate: &[u8], places: &mut Lent<u32>) -> u32 {
+        unsafe {
+            walnutgleam_verdict(
+                history.as_ptr(),
+                history.len(),
+                certificate.as_ptr(),
+                certificate.len(),
+                places.all.as_mut_ptr().add(places.start),
+                places.length,
+            )
+        }
+    }
+
+    fn show(&self, history: &[u8], event: u32, shown: &mut Shown) -> u32 {
+        unsafe { walnutgleam_show(history.as_ptr(), history.len(), event, &mut shown.start, &mut shown.length) }
+    }
+
+    fn rewrite_history(&self, history: &[u8], buffer: &mut Lent<u8>, length: &mut u64) -> u32 {
+        unsafe {
+            walnutgleam_rewrite_history(
+                history.as_ptr(),
+                history.len(),
+                buffer.all.as_mut_ptr().add(buffer.start),
+                buffer.length,
+                length,
+            )
+        }
+    }
+
+    fn rewrite_certificate(&self, history: &[u8], certificate: &[u8], buffer: &mut Lent<u8>, length: &mut u64) -> u32 {
+        unsafe {
+            walnutgleam_rewrite_certificate(
+                history.as_ptr(),
+                history.len(),
+                certificate.as_ptr(),
+                certificate.len(),
+                buffer.all.as_mut_ptr().add(buffer.start),
+                buffer.length,
+                length,
+            )
+        }
+    }
+
+    fn weaken(&self, history: &[u8], certificate: &[u8], wanted: u32, buffer: &mut Lent<u8>, length: &mut u64) -> u32 {
+        unsafe {
+            walnutgleam_weaken(
+                history.as_ptr(),
+                history.len(),
+                certificate.as_ptr(),
+                certificate.len(),
+                wanted,
+                buffer.all.as_mut_ptr().add(buffer.start),
+                buffer.length,
+                length,
+            )
+        }
+    }
+
+}
+
+/// A model: rules, and what the functions of the header make of them. With document 01's rules it is what the archive is
+/// compared with; with other rules it is a wrong checker.
+pub struct Model<R>(pub R);
+
+/// A text goes into the buffer's first bytes, or 18; a refusal changes no byte and gives length 0.
+fn put(result: Result<Vec<u8>, u32>, buffer: &mut Lent<u8>, length: &mut u64) -> u32 {
+    *length = 0;
+    match result {
+        Err(answer) => answer,
+        Ok(text) if buffer.length < text.len() => 18,
+        Ok(text) => {
+            buffer.part()[..text.len()].copy_from_slice(&text);
+            *length = text.len() as u64;
+            0
+        }
+    }
+}
+
+impl<R: Rules> Checker for Model<R> {
+    fn check(&self, history: &[u8], certificate: &[u8]) -> u32 {
+        self.0.check_texts(history, certificate).answer
+    }
+
+    fn verdict(&self, history: &[u8], certificate: &[u8], places: &mut Lent<u32>) -> u32 {
+        let verdict = self.0.check_texts(history, certificate);
+        for (to, from) in places.part().iter_mut().zip(verdict.places()) {
+            *to = from;
+        }
+        verdict.answer
+    }
+
+    fn show(&self, history: &[u8], event: u32, shown: &mut Shown) -> u32 {
+        let (answer, start, length) = match self.0.read_history(history) {
+            Err(refusal) => (refusal.answer, refusal.start, refusal.length),
+            Ok((_, lines)) => match lines.get(event as usize) {
+                Some(line) => (0, line.start, line.length),
+                None => (19, 0, 0),
+            },
+        };
+        *shown = Shown { start: start as u64, length: length as u64 };
+        answer
+    }
+
+    fn rewrite_history(&self, history: &[u8], buffer: &mut Lent<u8>, length: &mut u64) -> u32 {
+        let result = self.0.read_history(history).map(|(record, _)| record.text()).map_err(|refusal| refusal.answer);
+        put(result, buffer, length)
+    }
+
+    fn rewrite_certificate(&self, history: &[u8], certificate: &[u8], buffer: &mut Lent<u8>, length: &mut u64) -> u32 {
+        let result = self.0.read_both(history, certificate);
+        put(result.map(|(_, record)| record.text()).map_err(|refusal| refusal.answer), buffer, length)
+    }
+
+    fn weaken(&self, history: &[u8], certificate: &[u8], wanted: u32, buffer: &mut Lent<u8>, length: &mut u64) -> u32 {
+        put(weaken_texts(&self.0, history, certificate, wanted), buffer, length)
+    }
+}

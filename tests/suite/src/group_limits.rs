@@ -1,0 +1,103 @@
+//! Texts at the limits of their lengths and one byte past them, and the longest readable ones.
+
+use crate::certificate::{Certificate, Criterion, CERTIFICATE_LIMIT};
+use crate::compare::{Call, Comparer};
+use crate::history::{Event, History, HISTORY_LIMIT};
+use crate::objects::{Kind, Op};
+use crate::random::Random;
+use crate::samples::{object, q, window};
+
+/// The history with the longest text.
+pub fn longest_history() -> History {
+    let mut objects = vec![object(Kind::Register); 15];
+    objects.push(window(8));
+    let mut history = History { objects, events: vec![] };
+    for number in 0..64 {
+        let answer = vec![65_535 - number % 3; 8];
+        history.events.push(Event { process: number as usize % 8, object: 15, op: Op::Read, value: None, answer });
+    }
+    history
+}
+
+/// A certificate of it with the longest text that reads.
+pub fn longest_certificate(history: &History) -> Certificate {
+    let all: Vec<usize> = (0..64).collect();
+    // Repeats in a view are read, so every entry of a view may have two digits.
+    Certificate::new(history, Criterion::Causal, vec![all; 64], vec![vec![63; 64]; 64])
+}
+
+/// A text made as long as wanted by what stands at its end.
+fn padded(text: &[u8], length: usize, pad: &[u8], last: &[u8]) -> Vec<u8> {
+    let mut padded = text.to_vec();
+    while padded.len() + last.len() < length {
+        padded.push(pad[(padded.len() - text.len()) % pad.len()]);
+    }
+    padded.truncate(length.saturating_sub(last.len()));
+    padded.extend(last);
+    padded
+}
+
+pub fn limits(comparer: &mut Comparer, random: &mut Random, _: usize) {
+    let history = q().text();
+    let certificate: &[u8] = b"criterion sequential\nview order\n0 0,1\n";
+    let pads: [&[u8]; 10] = [b"7", b"7,", b"0", b",", b" ", b"\n", b"x", b"\0", b"2 0 0 push 7 -\n", b"1 0 0 pop - 7\n"];
+    for pad in pads {
+        for last in [&b"\n"[..], b"", b"7\n"] {
+            for more in 0..4 {
+                let h = padded(&history[..history.len() - 1], HISTORY_LIMIT - 1 + more, pad, last);
+                comparer.check(&h, certificate);
+                comparer.compare(Call::Show { event: 1 }, &h, certificate);
+                comparer.compare(Call::RewriteHistory { buffer: 20_000 }, &h, certificate);
+                let h = padded(b"", HISTORY_LIMIT - 1 + more, pad, last);
+                comparer.check(&h, certificate);
+                let c = padded(&certificate[..certificate.len() - 1], CERTIFICATE_LIMIT - 1 + more, pad, last);
+                comparer.check(&history, &c);
+                comparer.compare(Call::RewriteCertificate { buffer: 40_000 }, &history, &c);
+                let c = padded(b"", CERTIFICATE_LIMIT - 1 + more, pad, last);
+                comparer.check(&history, &c);
+                // Both too long, and a faulty history with a certificate that is too long.
+                comparer.check(&padded(&history, HISTORY_LIMIT + more, pad, last), &c);
+                comparer.check(b"object\n", &c);
+            }
+        }
+        if comparer.done() {
+            return;
+        }
+    }
+    for length in [65_535, 65_536, 65_537, 70_000, 200_000] {
+        comparer.check(&vec![b'\n'; length], certificate);
+        comparer.check(&history, &vec![b'0'; length]);
+    }
+    // Long numbers and long lists on a line, with every last item.
+    for count in [3, 64, 65, 255, 256, 257, 4_000] {
+        for item in ["0", "7", "65535", "65536", "01", "-", ""] {
+            for place in [0, count / 2, count - 1] {
+                let mut items = vec!["1"; count];
+                items[place] = item;
+                let list = items.join(",");
+                let event = format!("object kind width\n0 queue -\nevent process object op value answer\n0 0 0 pop - {list}\n");
+                comparer.check(event.as_bytes(), certificate);
+                let view = format!("criterion sequential\nview order\n0 {list}\n");
+                comparer.check(&history, view.as_bytes());
+                let past = format!("criterion weak\nevent past\n0 {list}\n");
+                comparer.check(&history, past.as_bytes());
+                let number = items.concat();
+                let event = format!("object kind width\n0 queue -\nevent process object op value answer\n0 {number} 0 pop - 7\n");
+                comparer.check(event.as_bytes(), certificate);
+            }
+        }
+    }
+    let longest = longest_history();
+    let (h, c) = (longest.text(), longest_certificate(&longest).text());
+    if !comparer.until_first {
+        // Counted by hand in readings 23: the longest texts that read.
+        assert_eq!((h.len(), c.len()), (4_289, 24_339), "the longest readable texts");
+    }
+    comparer.check(&h, &c);
+    for (length, call) in [(h.len(), true), (c.len(), false)] {
+        for buffer in [0, 1, length - 1, length, length + 1, length + 1 + random.under(9)] {
+            let call = if call { Call::RewriteHistory { buffer } } else { Call::RewriteCertificate { buffer } };
+            comparer.compare(call, &h, &c);
+        }
+    }
+}

@@ -1,0 +1,121 @@
+//! Lent memory of every size: the shown line, the buffers of writing, the slices of places; and texts with neighbours in memory.
+
+use crate::compare::{Call, Comparer};
+use crate::damage::{damage_certificate, damage_text};
+use crate::group_random::pair;
+use crate::make::register_history;
+use crate::random::Random;
+
+/// Shows every event and beyond.
+pub fn show(comparer: &mut Comparer, random: &mut Random, rounds: usize) {
+    let beyond = [65, 127, 128, 255, 256, 257, 320, 65_535, 65_536, 65_537, 1 << 24, 0x7FFF_FFFF, 0x8000_0000, 0xFFFF_FFFE, 0xFFFF_FFFF];
+    for events in 0..=64 {
+        let text = register_history(events, 8).text();
+        for event in (0..=events as u32 + 1).chain(beyond) {
+            comparer.compare(Call::Show { event }, &text, b"");
+        }
+    }
+    for _ in 0..rounds.div_ceil(16) {
+        let (history, _) = pair(random);
+        let mut text = history.text();
+        if random.once_in(3) {
+            damage_text(random, &mut text);
+        }
+        for event in (0..=history.events.len() as u32 + 1).chain(beyond) {
+            comparer.compare(Call::Show { event }, &text, b"");
+        }
+        if comparer.done() {
+            return;
+        }
+    }
+}
+
+/// The lengths of buffers to try for a text: all of them for a short text, and those around its own for a long one.
+pub fn lengths_around(text: usize) -> Vec<usize> {
+    if text <= 150 {
+        return (0..text + 20).collect();
+    }
+    let mut lengths: Vec<usize> = (0..4).collect();
+    lengths.extend(text - 12..text + 12);
+    lengths.push(2 * text);
+    lengths
+}
+
+/// Writes into buffers of every length around the text's.
+pub fn buffers(comparer: &mut Comparer, random: &mut Random, rounds: usize) {
+    for round in 0..rounds.div_ceil(16) {
+        let (history, certificate) = pair(random);
+        let (mut history, mut certificate) = (history.text(), certificate.text());
+        if round % 4 == 3 {
+            if random.once_in(2) {
+                damage_text(random, &mut history);
+            } else {
+                damage_text(random, &mut certificate);
+            }
+        }
+        for buffer in lengths_around(history.len()) {
+            comparer.compare(Call::RewriteHistory { buffer }, &history, &certificate);
+        }
+        for buffer in lengths_around(certificate.len()) {
+            comparer.compare(Call::RewriteCertificate { buffer }, &history, &certificate);
+        }
+        if comparer.done() {
+            return;
+        }
+    }
+}
+
+/// Slices of 0 to 9 places for answers of all kinds.
+pub fn slices(comparer: &mut Comparer, random: &mut Random, rounds: usize) {
+    for round in 0..rounds.div_ceil(4) {
+        let (history, mut certificate) = pair(random);
+        if round % 3 == 1 {
+            damage_certificate(random, &history, &mut certificate);
+        }
+        let (mut history, mut certificate) = (history.text(), certificate.text());
+        if round % 3 == 2 {
+            if random.once_in(2) {
+                damage_text(random, &mut history);
+            } else {
+                damage_text(random, &mut certificate);
+            }
+        }
+        for places in 0..=9 {
+            comparer.compare(Call::Verdict { places }, &history, &certificate);
+        }
+        if comparer.done() {
+            return;
+        }
+    }
+}
+
+/// The same texts with other bytes just before and behind them: none of these may matter.
+pub fn neighbours(comparer: &mut Comparer, random: &mut Random, rounds: usize) {
+    let before: [&[u8]; 4] = [b"", b"object kind width\n", b"1", b"\n"];
+    let behind: [&[u8]; 6] = [b"", b"\n", b"0\n", b"9", b",1\n", b"2 0 0 read - 0\n"];
+    for _ in 0..rounds.div_ceil(8) {
+        let (history, certificate) = pair(random);
+        let (mut history, mut certificate) = (history.text(), certificate.text());
+        match random.under(4) {
+            0 => damage_text(random, &mut history),
+            1 => damage_text(random, &mut certificate),
+            2 => drop(history.pop()),
+            _ => drop(certificate.pop()),
+        }
+        for behind in behind {
+            let before = *random.pick(&before);
+            let h = [before, &history, behind].concat();
+            let c = [before, &certificate, behind].concat();
+            let (h, c) = (&h[before.len()..before.len() + history.len()], &c[before.len()..before.len() + certificate.len()]);
+            comparer.check(h, c);
+            comparer.compare(Call::Show { event: random.under(66) as u32 }, h, c);
+        }
+        if comparer.done() {
+            return;
+        }
+    }
+    // Empty texts, each with a pointer to a byte that isn't part of it.
+    let byte = b"object kind width\n";
+    comparer.check(&byte[..0], &byte[..0]);
+    comparer.check(&byte[3..3], byte);
+}

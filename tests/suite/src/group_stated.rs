@@ -1,0 +1,356 @@
+//! What document 01 states outright: the sample dispensers with their answers and places, and texts whose fault its words name. The
+//! numbers are written here by hand, so that the model is held to them as well.
+
+use crate::certificate::Criterion;
+use crate::check::{Document01, Rules, NONE};
+use crate::compare::{crop, Call, Comparer};
+use crate::history::History;
+use crate::random::Random;
+use crate::samples::{c, certificate, m, q, r, w};
+
+/// Holds the checker and the model to a stated answer and its places: criterion, text, line, view, event, start, length.
+fn stated(comparer: &mut Comparer, name: &str, history: &[u8], certificate: &[u8], answer: u32, places: [u32; 7]) {
+    if comparer.done() {
+        return;
+    }
+    let verdict = Document01.check_texts(history, certificate);
+    assert_eq!((verdict.answer, verdict.places()), (answer, places), "the model itself differs from what is stated: {name}");
+    let given = comparer.check(history, certificate);
+    comparer.note(given == answer, || format!("{name}: given {given}, stated {answer} for \"{}\"", crop(certificate)));
+    // The other functions on the same texts.
+    for call in [
+        Call::Show { event: 0 },
+        Call::Show { event: 2 },
+        Call::RewriteHistory { buffer: history.len() },
+        Call::RewriteCertificate { buffer: certificate.len() },
+        Call::Weaken { wanted: 1, buffer: certificate.len() + 30 },
+        Call::Weaken { wanted: 4, buffer: certificate.len() },
+    ] {
+        comparer.compare(call, history, certificate);
+    }
+}
+
+fn carried(criterion: Criterion, view: Option<u32>, event: Option<u32>) -> [u32; 7] {
+    [criterion.number(), 0, NONE, view.unwrap_or(NONE), event.unwrap_or(NONE), 0, 0]
+}
+
+/// The sample dispensers and the edges.
+pub fn samples(comparer: &mut Comparer, _: &mut Random, _: usize) {
+    use Criterion::{Causal, Converge, Pram, Sequential, Weak};
+    let mut say = |name: &str, history: &History, certificate: crate::certificate::Certificate, answer, view, event| {
+        let places = carried(certificate.criterion, view, event);
+        stated(comparer, name, &history.text(), &certificate.text(), answer, places);
+    };
+    say("Q sequential 0,1", &q(), certificate(&q(), Sequential, &[], &[&[0, 1]]), 0, None, None);
+    say("Q sequential 1,0", &q(), certificate(&q(), Sequential, &[], &[&[1, 0]]), 16, Some(0), Some(1));
+    say("Q sequential 0", &q(), certificate(&q(), Sequential, &[], &[&[0]]), 14, Some(0), None);
+    say("Q pram", &q(), certificate(&q(), Pram, &[], &[&[0, 1], &[0, 1]]), 0, None, None);
+    let views: [&[usize]; 4] = [&[0], &[2, 0, 1], &[2], &[0, 2, 3]];
+    say("W causal", &w(), certificate(&w(), Causal, &[&[], &[0, 2], &[], &[0, 2]], &views), 0, None, None);
+    say("W past of 1 as 2 only", &w(), certificate(&w(), Causal, &[&[], &[2], &[], &[0, 2]], &views), 11, None, Some(1));
+    say("C converge", &c(), certificate(&c(), Converge, &[&[], &[], &[1], &[0, 1, 2]], &[&[0, 1, 2, 3]]), 0, None, None);
+    let pasts: [&[usize]; 5] = [&[], &[], &[], &[0, 1, 2, 3], &[0, 1, 2, 3]];
+    say("R weak, any views", &r(), certificate(&r(), Weak, &pasts, &[&[], &[0, 0], &[4], &[], &[1]]), 12, None, Some(3));
+    let p2 = certificate(&m(), Pram, &[], &[&[0, 1, 2, 3, 4], &[0, 1, 2, 3, 4], &[1, 2, 3, 4, 0]]);
+    say("M, p2's view 1,2,3,4,0", &m(), p2, 0, None, None);
+    say("the empty history", &History::default(), certificate(&History::default(), Sequential, &[], &[&[]]), 0, None, None);
+
+    let empty: &[u8] = b"criterion sequential\nview order\n0 -\n";
+    let one: &[u8] = b"criterion sequential\nview order\n0 0\n";
+    let accepted = carried(Sequential, None, None);
+    let width = |width: u32| format!("object kind width\n0 window {width}\nevent process object op value answer\n").into_bytes();
+    stated(comparer, "width 8", &width(8), empty, 0, accepted);
+    stated(comparer, "width 9", &width(9), empty, 3, [NONE, 1, 2, NONE, NONE, 18, 10]);
+    let process = |process: u32| {
+        format!("object kind width\n0 register -\nevent process object op value answer\n0 {process} 0 write 1 -\n").into_bytes()
+    };
+    stated(comparer, "process 7", &process(7), one, 0, accepted);
+    stated(comparer, "process 8", &process(8), one, 3, [NONE, 1, 4, NONE, NONE, 68, 15]);
+}
+
+const HEAD: &str = "object kind width\n";
+const EVENTS: &str = "event process object op value answer\n";
+
+/// History texts with the answer, the line and the part that document 01's words give.
+fn history_cases() -> Vec<(String, u32, u32, String)> {
+    let mut cases: Vec<(String, u32, u32, String)> = vec![];
+    let mut add = |text: String, answer: u32, line: u32, part: &str| cases.push((text, answer, line, part.to_string()));
+    add(String::new(), 2, 1, "");
+    add("\n".into(), 2, 1, "");
+    add("object kind width".into(), 2, 1, "object kind width");
+    add(HEAD.into(), 2, 2, "");
+    add(format!("{HEAD}\n"), 2, 2, "");
+    add(format!("{HEAD}0 queue -\n"), 2, 3, "");
+    add(format!("{HEAD}0 queue -\n{HEAD}"), 2, 3, "object kind width");
+    add(format!("{HEAD}event process object op value answer"), 2, 2, "event process object op value answer");
+    add(format!("{HEAD}{EVENTS}{EVENTS}"), 2, 3, "event process object op value answer");
+    add(format!("{HEAD}{EVENTS}\n"), 2, 3, "");
+    add(format!("{HEAD}{EVENTS}x"), 2, 3, "x");
+    add(format!("{EVENTS}"), 2, 1, "event process object op value answer");
+    add(format!("object kind width \n{EVENTS}"), 2, 1, "object kind width ");
+    add(format!("object kind width\r\n{EVENTS}"), 2, 1, "object kind width\r");
+    // The lines of objects.
+    let objects: [(&str, u32); 33] = [
+        ("0 queue -", 0), ("0 register -", 0), ("0 stack -", 0), ("0 window 1", 0), ("0 window 8", 0),
+        ("0 window -", 4), ("0 queue 1", 4), ("0 register 8", 4), ("0 stack 3", 4),
+        ("0 queue 0", 3), ("0 queue 9", 3), ("0 window 0", 3), ("0 window 9", 3), ("0 window 256", 3), ("0 window 4294967297", 3),
+        ("0 window 18446744073709551617", 3), ("1 queue -", 2), ("00 queue -", 2), ("- queue -", 2), ("0 Queue -", 2),
+        ("0 queues -", 2), ("0 window 01", 2), ("0 window +1", 2), ("0 window", 2), ("0 window 1 ", 2), (" 0 window 1", 2),
+        ("0  window 1", 2), ("0 window 1 1", 2), ("0 window --", 2), ("0 window 09", 2), ("0 queue 99x", 2), ("", 2),
+        ("0 0 0 push 7 -", 2),
+    ];
+    for (line, answer) in objects {
+        let text = format!("{HEAD}{line}\n{EVENTS}");
+        add(text, answer, if answer == 0 { NONE } else { 2 }, if answer == 0 { "" } else { line });
+    }
+    // The 17th object, alone and with other faults.
+    let many: String = (0..16).map(|number| format!("{number} queue -\n")).collect();
+    add(format!("{HEAD}{many}{EVENTS}"), 0, NONE, "");
+    for (line, answer) in [("16 queue -", 3), ("16 queue 1", 3), ("16 queue", 2), ("17 queue -", 2), ("15 queue -", 2), ("16 q -", 2)] {
+        add(format!("{HEAD}{many}{line}\n{EVENTS}"), answer, 18, line);
+    }
+    // The lines of events: object 0 a register, 1 a queue, 2 a stack, 3 a window of width 2.
+    let four = "0 register -\n1 queue -\n2 stack -\n3 window 2\n";
+    let events: [(&str, u32); 62] = [
+        ("0 0 0 write 7 -", 0), ("0 0 0 read - 7", 0), ("0 0 1 push 7 -", 0), ("0 0 1 pop - 7", 0), ("0 0 1 pop - -", 0),
+        ("0 0 1 peek - -", 0), ("0 7 2 peek - 65535", 0), ("0 0 2 push 65535 -", 0), ("0 0 3 write 0 -", 0), ("0 0 3 read - 0,0", 0),
+        // 5: a length that the op can't give.
+        ("0 0 0 write 7 7", 5), ("0 0 0 read - -", 5), ("0 0 0 read - 7,7", 5), ("0 0 1 push 7 1", 5), ("0 0 1 pop - 7,7", 5),
+        ("0 0 2 peek - 1,2", 5), ("0 0 3 read - 1", 5), ("0 0 3 read - 1,2,3", 5), ("0 0 3 read - -", 5), ("0 0 3 write 1 1,1", 5),
+        // 4: an op that the kind lacks, a value where `-` belongs, or the reverse.
+        ("0 0 0 push 7 -", 4), ("0 0 0 pop - -", 4), ("0 0 1 write 7 -", 4), ("0 0 1 read - 7", 4), ("0 0 3 peek - 1", 4),
+        ("0 0 0 write - -", 4), ("0 0 0 read 7 7", 4), ("0 0 1 push - -", 4), ("0 0 1 pop 7 7", 4), ("0 0 1 peek 0 -", 4),
+        ("0 0 0 read 7 -", 4), ("0 0 0 push 7 1,2,3", 4),
+        // 3: over a limit, or an undeclared object.
+        ("0 8 0 write 7 -", 3), ("0 0 4 write 7 -", 3), ("0 0 0 write 65536 -", 3), ("0 0 0 read - 65536", 3),
+        ("0 0 3 read - 0,65536", 3), ("0 0 0 read 65536 7", 3), ("0 0 9 read 7 -", 3), ("0 0 0 push 65536 1", 3),
+        ("0 0 1 push 7 65536", 3), ("0 256 0 write 7 -", 3), ("0 4294967296 0 write 7 -", 3), ("0 0 4294967296 write 7 -", 3),
+        ("0 0 0 write 18446744073709551616 -", 3),
+        // 2: layout.
+        ("1 0 0 write 7 -", 2), ("0 - 0 write 7 -", 2), ("0 0 - write 7 -", 2), ("0 0 0 writes 7 -", 2), ("0 0 0 Write 7 -", 2),
+        ("0 0 0 write 07 -", 2), ("0 0 0 write 7", 2), ("0 0 0 write 7 - -", 2), ("0 0 0 write 7 - ", 2), ("0 0 0 write  7 -", 2),
+        ("0 8 9 read 65536 1,,2", 2), ("0 0 0 read - 7,", 2), ("0 0 0 read - ,7", 2), ("0 0 0 read - 7,-", 2), ("0 0 0 read - 00", 2),
+        ("0 0 0 read - +7", 2), ("64 0 0 write 7 -", 2),
+    ];
+    for (line, answer) in events {
+        let text = format!("{HEAD}{four}{EVENTS}{line}\n");
+        add(text, answer, if answer == 0 { NONE } else { 7 }, if answer == 0 { "" } else { line });
+    }
+    // A good last line without its line feed, and one with another fault; a faulty line above it comes first.
+    add(format!("{HEAD}{four}{EVENTS}0 0 0 write 7 -"), 2, 7, "0 0 0 write 7 -");
+    add(format!("{HEAD}{four}{EVENTS}0 8 0 write 7 -"), 2, 7, "0 8 0 write 7 -");
+    add(format!("{HEAD}{four}{EVENTS}0 8 0 write 7 -\n1 0 0"), 3, 7, "0 8 0 write 7 -");
+    // The 65th event.
+    let full: String = (0..64).map(|number| format!("{number} 0 0 write 7 -\n")).collect();
+    add(format!("{HEAD}{four}{EVENTS}{full}"), 0, NONE, "");
+    for (line, answer) in
+        [("64 0 0 write 7 -", 3), ("64 0 0 pop 7 1,1", 3), ("64 0 0 write 7", 2), ("65 0 0 write 7 -", 2), ("63 0 0 write 7 -", 2)]
+    {
+        add(format!("{HEAD}{four}{EVENTS}{full}{line}\n"), answer, 71, line);
+    }
+    // Too long, whatever else.
+    add("x".repeat(16_384), 2, 1, &"x".repeat(16_384));
+    add("x".repeat(16_385), 1, 0, "");
+    add(format!("{HEAD}{four}{EVENTS}0 0 0 read - {}\n", ["7"; 8134].join(",")), 5, 7, &format!("0 0 0 read - {}", ["7"; 8134].join(",")));
+    add(format!("{HEAD}{four}{EVENTS}0 0 0 read - 7{}\n", "0".repeat(16_000)), 3, 7, &format!("0 0 0 read - 7{}", "0".repeat(16_000)));
+    cases
+}
+
+/// Certificate texts of a history of three events by processes 2, 5 and 5, with the answer, line and part.
+fn certificate_cases() -> Vec<(String, u32, u32, String)> {
+    let mut cases: Vec<(String, u32, u32, String)> = vec![];
+    let mut add = |text: &str, answer: u32, line: u32, part: &str| cases.push((text.to_string(), answer, line, part.to_string()));
+    add("", 2, 1, "");
+    add("\n", 2, 1, "");
+    add("criterion", 2, 1, "criterion");
+    add("criterion sequential", 2, 1, "criterion sequential");
+    add("criterion strong\n", 2, 1, "criterion strong");
+    add("criterion Weak\n", 2, 1, "criterion Weak");
+    add("criterion  weak\n", 2, 1, "criterion  weak");
+    add("criterion sequential\n", 2, 2, "");
+    add("criterion sequential\nevent past\n", 2, 2, "event past");
+    add("criterion sequential\nview order\n", 2, 3, "");
+    add("criterion sequential\nview order\n0 0,1,2", 2, 3, "0 0,1,2");
+    add("criterion sequential\nview order\n0 0,1,2\n", 0, NONE, "");
+    add("criterion sequential\nview order\n0 0,1,2\n\n", 2, 4, "");
+    add("criterion sequential\nview order\n0 0,1,2\n1 0,1,2\n", 2, 4, "1 0,1,2");
+    add("criterion sequential\nview order\n0 0,1,2\nx", 2, 4, "x");
+    add("criterion sequential\nview order\n1 0,1,2\n", 2, 3, "1 0,1,2");
+    add("criterion sequential\nview order\n0 0,1,3\n", 3, 3, "0 0,1,3");
+    add("criterion sequential\nview order\n0 0,1,2,2\n", 3, 3, "0 0,1,2,2");
+    add("criterion sequential\nview order\n0 0,1,2,\n", 2, 3, "0 0,1,2,");
+    add("criterion sequential\nview order\n0 18446744073709551616\n", 3, 3, "0 18446744073709551616");
+    add("criterion sequential\nview order\n0 4294967296,1,2\n", 3, 3, "0 4294967296,1,2");
+    add("criterion sequential\nview order\n0 -,1\n", 2, 3, "0 -,1");
+    add("criterion sequential\nview order\n0\n", 2, 3, "0");
+    add("criterion sequential\nview order\n0 \n", 2, 3, "0 ");
+    add("criterion pram\nview order\n2 0,1,2\n5 0,1,2\n", 0, NONE, "");
+    add("criterion pram\nview order\n0 0,1,2\n1 0,1,2\n", 2, 3, "0 0,1,2");
+    add("criterion pram\nview order\n5 0,1,2\n2 0,1,2\n", 2, 3, "5 0,1,2");
+    add("criterion pram\nview order\n2 0,1,2\n", 2, 4, "");
+    add("criterion pram\nview order\n2 0,1,2\n5 0,1,2\n6 0,1,2\n", 2, 5, "6 0,1,2");
+    let weak = "criterion weak\nevent past\n0 -\n1 -\n2 1\nview order\n0 0\n1 1\n2 1,2\n";
+    add(weak, 0, NONE, "");
+    add(&weak.replace("2 1\n", "2 1,0\n"), 6, 5, "2 1,0");
+    add(&weak.replace("2 1\n", "2 1,1\n"), 6, 5, "2 1,1");
+    add(&weak.replace("2 1\n", "2 1,0,3\n"), 3, 5, "2 1,0,3");
+    add(&weak.replace("2 1\n", "2 0,1,2,2\n"), 3, 5, "2 0,1,2,2");
+    add(&weak.replace("2 1\n", "2 1,0,4,x\n"), 2, 5, "2 1,0,4,x");
+    add(&weak.replace("2 1\n", ""), 2, 5, "view order");
+    add(&weak.replace("2 1\n", "2 1\n3 -\n"), 2, 6, "3 -");
+    add(&weak.replace("2 1,2\n", ""), 2, 9, "");
+    add(&weak.replace("0 0\n", "0 3\n").replace("2 1\n", "2 1,0\n"), 6, 5, "2 1,0");
+    add(&weak.replace("event past\n", ""), 2, 2, "0 -");
+    add(&weak.replace("weak", "pram"), 2, 2, "event past");
+    add("criterion converge\nevent past\n0 -\n1 -\n2 1\nview order\n0 0,1,2\n", 0, NONE, "");
+    add(&"x".repeat(32_768), 2, 1, &"x".repeat(32_768));
+    add(&"x".repeat(32_769), 1, 0, "");
+    cases
+}
+
+/// The places of a stated reading refusal; the part is found in the text.
+fn refused(text: &str, which: u32, line: u32, part: &str) -> [u32; 7] {
+    let start: usize = if part.is_empty() {
+        0
+    } else {
+        text.split_inclusive('\n').take(line as usize - 1).map(str::len).sum()
+    };
+    assert!(part.is_empty() || text[start..].starts_with(part));
+    [NONE, which, line, NONE, NONE, start as u32, part.len() as u32]
+}
+
+/// Texts whose fault document 01's words name.
+pub fn texts(comparer: &mut Comparer, _: &mut Random, _: usize) {
+    for (text, answer, line, part) in history_cases() {
+        // A readable history is checked with a certificate that names no criterion, so that the refusal is the certificate's.
+        let places = if answer == 0 { [NONE, 2, 1, NONE, NONE, 0, 4] } else { refused(&text, 1, line, &part) };
+        let answer = if answer == 0 { 2 } else { answer };
+        stated(comparer, "a history text", text.as_bytes(), b"none\n", answer, places);
+        // The history's refusals come first, even when the certificate is too long.
+        let too_long = vec![b'x'; 32_769];
+        let (answer, places) = if places[1] == 2 { (1, [NONE, 2, 0, NONE, NONE, 0, 0]) } else { (answer, places) };
+        stated(comparer, "a history text", text.as_bytes(), &too_long, answer, places);
+    }
+    let three = format!("{HEAD}0 register -\n{EVENTS}0 2 0 write 3 -\n1 5 0 write 4 -\n2 5 0 read - 4\n");
+    for (text, answer, line, part) in certificate_cases() {
+        let verdict = Document01.check_texts(three.as_bytes(), text.as_bytes());
+        let places = if answer == 0 { verdict.places() } else { refused(&text, 2, line, &part) };
+        stated(comparer, "a certificate text", three.as_bytes(), text.as_bytes(), answer, places);
+    }
+    // A history with no events: views and pasts there are none of, but for the one view 0.
+    let none = format!("{HEAD}{EVENTS}");
+    for (text, answer, line, part) in [
+        ("criterion sequential\nview order\n0 -\n", 0, 0, ""),
+        ("criterion converge\nevent past\nview order\n0 -\n", 0, 0, ""),
+        ("criterion weak\nevent past\nview order\n", 0, 0, ""),
+        ("criterion causal\nevent past\nview order\n", 0, 0, ""),
+        ("criterion pram\nview order\n", 0, 0, ""),
+        ("criterion pram\nview order\n0 -\n", 2, 3, "0 -"),
+        ("criterion weak\nevent past\nview order\n0 -\n", 2, 4, "0 -"),
+        ("criterion weak\nevent past\n0 -\nview order\n", 2, 3, "0 -"),
+        ("criterion sequential\nview order\n", 2, 3, ""),
+        ("criterion sequential\nview order\n0 0\n", 3, 3, "0 0"),
+    ] {
+        let verdict = Document01.check_texts(none.as_bytes(), text.as_bytes());
+        let places = if answer == 0 { verdict.places() } else { refused(text, 2, line, part) };
+        stated(comparer, "a certificate of no events", none.as_bytes(), text.as_bytes(), answer, places);
+    }
+}
+
+/// Weakenings written down by hand: history, certificate text, wanted, and the answer or the text.
+fn weakening_cases() -> Vec<(History, String, u32, Result<String, u32>)> {
+    use Criterion::{Causal, Converge, Pram, Weak};
+    let mut cases = vec![];
+    let mut add = |history: &History, certificate: &str, wanted: u32, expected: Result<&str, u32>| {
+        cases.push((history.clone(), certificate.to_string(), wanted, expected.map(str::to_string)));
+    };
+    let sequential = "criterion sequential\nview order\n0 0,1\n";
+    let both = "event past\n0 -\n1 0\nview order\n";
+    add(&q(), sequential, 0, Ok("criterion pram\nview order\n0 0,1\n1 0,1\n"));
+    add(&q(), sequential, 1, Ok(&format!("criterion weak\n{both}0 0\n1 0,1\n")));
+    add(&q(), sequential, 2, Ok(&format!("criterion causal\n{both}0 0\n1 0,1\n")));
+    add(&q(), sequential, 3, Ok(&format!("criterion converge\n{both}0 0,1\n")));
+    add(&q(), sequential, 4, Ok(sequential));
+    // past(e) rises, whatever the order is.
+    let mut three = q();
+    three.events.swap(0, 1);
+    three.events[0].process = 5;
+    three.events.push(crate::samples::event(2, 0, crate::objects::Op::Peek, None, &[]));
+    let order = "criterion sequential\nview order\n0 2,1,0\n";
+    let pasts = "event past\n0 1,2\n1 2\n2 -\nview order\n";
+    add(&three, order, 0, Ok("criterion pram\nview order\n0 2,1,0\n2 2,1,0\n5 2,1,0\n"));
+    add(&three, order, 1, Ok(&format!("criterion weak\n{pasts}0 2,1,0\n1 2,1\n2 2\n")));
+    add(&three, order, 2, Ok(&format!("criterion causal\n{pasts}0 2,1,0\n1 2,1\n2 2\n")));
+    add(&three, order, 3, Ok(&format!("criterion converge\n{pasts}0 2,1,0\n")));
+    add(&three, order, 4, Ok(order));
+    // W: the view of the process's last event, then all other events rising.
+    let lists = "event past\n0 -\n1 0,2\n2 -\n3 0,2\nview order\n0 0\n1 2,0,1\n2 2\n3 0,2,3\n";
+    let causal = format!("criterion causal\n{lists}");
+    add(&w(), &causal, 0, Ok("criterion pram\nview order\n0 2,0,1,3\n1 0,2,3,1\n"));
+    add(&w(), &causal, 1, Ok(&format!("criterion weak\n{lists}")));
+    add(&w(), &causal, 2, Ok(&causal));
+    // C: cut to past(e) and e.
+    let past = "event past\n0 -\n1 -\n2 1\n3 0,1,2\nview order\n";
+    let converge = format!("criterion converge\n{past}0 0,1,2,3\n");
+    add(&c(), &converge, 1, Ok(&format!("criterion weak\n{past}0 0\n1 1\n2 1,2\n3 0,1,2,3\n")));
+    add(&c(), &converge, 3, Ok(&converge));
+    let none = History::default();
+    let empty = "criterion sequential\nview order\n0 -\n";
+    add(&none, empty, 0, Ok("criterion pram\nview order\n"));
+    add(&none, empty, 1, Ok("criterion weak\nevent past\nview order\n"));
+    add(&none, empty, 2, Ok("criterion causal\nevent past\nview order\n"));
+    add(&none, empty, 3, Ok("criterion converge\nevent past\nview order\n0 -\n"));
+    add(&none, empty, 4, Ok(empty));
+    // 17: not a pair, and none is wanted by a number past 4.
+    let weak = format!("criterion weak\n{lists}");
+    let pram = "criterion pram\nview order\n0 0,1\n1 0,1\n";
+    for wanted in [1, 2, 3, 4, 5, 6, 256, NONE] {
+        add(&q(), pram, wanted, Err(17));
+    }
+    for wanted in [0, 2, 3, 4, 5] {
+        add(&w(), &weak, wanted, Err(17));
+    }
+    for (criterion, text) in [(Causal, &causal), (Converge, &converge)] {
+        for other in [Pram, Causal, Converge, Criterion::Sequential] {
+            if other != criterion && (criterion, other) != (Causal, Pram) {
+                let history = if criterion == Causal { w() } else { c() };
+                add(&history, text, other.number(), Err(17));
+            }
+        }
+    }
+    add(&w(), &weak, Weak.number(), Ok(&weak));
+    // 17 comes before 11 to 16, and these before 18; readings come first.
+    let turned = "criterion sequential\nview order\n0 1,0\n";
+    for wanted in 0..5 {
+        add(&q(), turned, wanted, Err(16));
+        add(&q(), "criterion sequential\nview order\n0 0\n", wanted, Err(14));
+        add(&q(), "criterion sequential\nview order\n0 0,2\n", wanted, Err(3));
+    }
+    for wanted in [5, 6, 255, 65_536] {
+        add(&q(), turned, wanted, Err(17));
+        add(&q(), sequential, wanted, Err(17));
+        add(&q(), "criterion sequential\nview order\n0 0,2\n", wanted, Err(3));
+    }
+    add(&c(), &converge.replace("2 1\n", "2 -\n"), 0, Err(17));
+    add(&c(), &converge.replace("2 1\n", "2 -\n"), 1, Err(11));
+    cases
+}
+
+/// Weakenings written down by hand: the model's and the checker's.
+pub fn weakenings(comparer: &mut Comparer, _: &mut Random, _: usize) {
+    for (history, certificate, wanted, expected) in weakening_cases() {
+        let history = history.text();
+        let given = crate::weaken::weaken_texts(&Document01, &history, certificate.as_bytes(), wanted);
+        let given = given.map(|text| String::from_utf8(text).expect("it is ASCII"));
+        assert_eq!(given, expected, "the model itself differs from what is stated: {certificate} to {wanted}");
+        // What it gives is accepted, and what it was given is what the answer says.
+        let text = expected.clone().unwrap_or(certificate.clone());
+        comparer.check(&history, text.as_bytes());
+        for buffer in crate::group_memory::lengths_around(text.len()) {
+            comparer.compare(Call::Weaken { wanted, buffer }, &history, certificate.as_bytes());
+        }
+        if comparer.done() {
+            return;
+        }
+    }
+}

@@ -1,0 +1,92 @@
+//! Weakening. What the model makes is held to the checker's check: an accepted certificate and a pair give an accepted text.
+//! The archive's own weakening is compared with the model's.
+
+use crate::certificate::CRITERIA;
+use crate::check::{CheckRules, Document01};
+use crate::compare::{Call, Comparer};
+use crate::damage::{damage_certificate, damage_history, damage_text};
+use crate::group_memory::lengths_around;
+use crate::group_random::pair;
+use crate::random::Random;
+use crate::weaken::{is_pair, weakened};
+
+/// The model's weakened texts are accepted.
+pub fn accepted(comparer: &mut Comparer, random: &mut Random, rounds: usize) {
+    for _ in 0..rounds.div_ceil(2) {
+        let (history, certificate) = pair(random);
+        assert_eq!(Document01.verdict_of(&history, &certificate).answer, 0);
+        for wanted in CRITERIA {
+            let weaker = weakened(&history, &certificate, wanted);
+            assert_eq!(weaker.is_some(), is_pair(certificate.criterion, wanted), "the pairs are listed twice in the model");
+            let Some(weaker) = weaker else { continue };
+            assert_eq!(weaker.criterion, wanted);
+            let answer = comparer.compare(Call::Check, &history.text(), &weaker.text());
+            if comparer.done() {
+                return;
+            }
+            comparer.note(answer == 0, || format!("{:?} weakened to {wanted:?} is not accepted: {answer}", certificate.criterion));
+        }
+    }
+}
+
+/// The numbers wanted: the five, and others that must not be taken for them.
+const WANTED: [u32; 13] = [0, 1, 2, 3, 4, 5, 6, 255, 256, 260, 65_536, 0x8000_0000, 0xFFFF_FFFF];
+
+/// Accepted certificates weakened to each wanted number, into buffers of every length around the text's.
+pub fn buffers(comparer: &mut Comparer, random: &mut Random, rounds: usize) {
+    use crate::weaken::weaken_texts;
+    for _ in 0..rounds.div_ceil(16) {
+        let (history, certificate) = pair(random);
+        let (history, certificate) = (history.text(), certificate.text());
+        for wanted in 0..=6 {
+            // On a refusal the lengths around the given text are tried.
+            let length = weaken_texts(&Document01, &history, &certificate, wanted).map_or(certificate.len(), |text| text.len());
+            for buffer in lengths_around(length) {
+                comparer.compare(Call::Weaken { wanted, buffer }, &history, &certificate);
+            }
+        }
+        if comparer.done() {
+            return;
+        }
+    }
+    // The longest weakened texts.
+    for processes in [1, 8] {
+        let history = crate::make::register_history(64, processes);
+        let all: Vec<usize> = (0..64).collect();
+        let certificate = crate::certificate::Certificate::new(&history, crate::certificate::Criterion::Sequential, vec![], vec![all]);
+        let (history, certificate) = (history.text(), certificate.text());
+        for wanted in 0..=6 {
+            let length = weaken_texts(&Document01, &history, &certificate, wanted).map_or(certificate.len(), |text| text.len());
+            for buffer in lengths_around(length) {
+                comparer.compare(Call::Weaken { wanted, buffer }, &history, &certificate);
+            }
+        }
+    }
+}
+
+/// Certificates of all kinds, valid and damaged, weakened to each wanted number.
+pub fn damaged(comparer: &mut Comparer, random: &mut Random, rounds: usize) {
+    for round in 0..rounds {
+        let (mut history, mut certificate) = pair(random);
+        match round % 4 {
+            1 => damage_certificate(random, &history, &mut certificate),
+            2 => damage_history(random, &mut history),
+            _ => {}
+        }
+        let (mut history, mut certificate) = (history.text(), certificate.text());
+        if round % 4 == 3 {
+            if random.once_in(2) {
+                damage_text(random, &mut history);
+            } else {
+                damage_text(random, &mut certificate);
+            }
+        }
+        for wanted in WANTED {
+            let buffer = *random.pick(&[0, 1, certificate.len(), 5_000, 25_000]);
+            comparer.compare(Call::Weaken { wanted, buffer }, &history, &certificate);
+        }
+        if comparer.done() {
+            return;
+        }
+    }
+}

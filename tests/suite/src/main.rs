@@ -1,0 +1,166 @@
+//! The test suite of the archive: a model written from document 01's words, a brute force for small histories, comparisons of the
+//! archive with both, and wrong checkers that the comparisons must find.
+//!
+//! `cargo run --release --offline [-- SEED [ROUNDS]]`. The seed is printed, so that a run can be repeated. A line a group, and a last
+//! line with the sums. The exit status is 1 on any difference.
+
+mod brute;
+mod certificate;
+mod check;
+mod checker;
+mod compare;
+mod damage;
+mod group_limits;
+mod group_lines;
+mod group_meets;
+mod group_memory;
+mod group_places;
+mod group_random;
+mod group_stated;
+mod group_weaken;
+mod history;
+mod make;
+mod objects;
+mod random;
+mod samples;
+mod search;
+mod texts;
+mod weaken;
+mod wrong;
+
+use std::collections::{BTreeMap, BTreeSet};
+use std::process::ExitCode;
+use std::time::Instant;
+
+use checker::{Archive, Checker};
+use compare::Comparer;
+use random::Random;
+
+type Group = (&'static str, fn(&mut Comparer, &mut Random, usize));
+
+const GROUPS: &[Group] = &[
+    ("samples of document 01", group_stated::samples),
+    ("texts with stated faults", group_stated::texts),
+    ("stated weakenings", group_stated::weakenings),
+    ("lines of objects", group_lines::objects),
+    ("lines of events", group_lines::events),
+    ("lines of certificates", group_lines::certificates),
+    ("faults at every line", group_places::lines),
+    ("11 to 13 at every event", group_places::events),
+    ("14 to 16 at every view", group_places::views),
+    ("replays", group_places::replays),
+    ("valid texts", group_random::valid),
+    ("damaged records", group_random::records),
+    ("damaged texts", group_random::texts),
+    ("random bytes", group_random::bytes),
+    ("limits of length", group_limits::limits),
+    ("show", group_memory::show),
+    ("buffers", group_memory::buffers),
+    ("slices of places", group_memory::slices),
+    ("texts with neighbours", group_memory::neighbours),
+    ("weakened texts accepted", group_weaken::accepted),
+    ("weakening into buffers", group_weaken::buffers),
+    ("weakening damaged texts", group_weaken::damaged),
+    ("every list, two events", group_meets::every_list),
+    ("brute force and check", group_meets::exhaustive),
+    ("brute force and search", group_meets::searched),
+    ("samples and figure 3", group_meets::claimed),
+];
+
+/// The numbers that each function must have answered in a whole run.
+const EXPECTED: &[(&str, &[u32])] = &[
+    ("check", &[0, 1, 2, 3, 4, 5, 6, 11, 12, 13, 14, 15, 16]),
+    ("verdict", &[0, 1, 2, 3, 4, 5, 6, 11, 12, 13, 14, 15, 16]),
+    ("show", &[0, 1, 2, 3, 4, 5, 19]),
+    ("rewrite_history", &[0, 1, 2, 3, 4, 5, 18]),
+    ("rewrite_certificate", &[0, 1, 2, 3, 4, 5, 6, 18]),
+    ("weaken", &[0, 2, 3, 4, 5, 6, 11, 12, 13, 14, 15, 16, 17, 18]),
+];
+
+/// Runs one group on a checker. Each group has its own numbers, so that one group's change doesn't change another's.
+fn run_group(comparer: &mut Comparer, index: usize, seed: u64, rounds: usize) {
+    let mut random = Random::new(seed.wrapping_mul(1_000_003).wrapping_add(index as u64));
+    (GROUPS[index].1)(comparer, &mut random, rounds);
+}
+
+/// The groups with long texts at every place take their time: wrong checkers see them last.
+const SLOW: [&str; 3] = ["faults at every line", "11 to 13 at every event", "14 to 16 at every view"];
+
+/// The first group that finds a wrong checker, and after how many comparisons: the quick groups with few rounds, then with more,
+/// then the slow ones.
+fn found(checker: &dyn Checker, seed: u64) -> Option<(&'static str, u64)> {
+    let mut comparer = Comparer::new(checker, true);
+    for (rounds, slow) in [(20, false), (400, false), (400, true)] {
+        for (index, group) in GROUPS.iter().enumerate().filter(|(_, group)| SLOW.contains(&group.0) == slow) {
+            run_group(&mut comparer, index, seed, rounds);
+            if comparer.done() {
+                return Some((group.0, comparer.count));
+            }
+        }
+    }
+    None
+}
+
+fn main() -> ExitCode {
+    let arguments: Vec<String> = std::env::args().skip(1).collect();
+    let number = |place: usize, otherwise: u64| match arguments.get(place) {
+        None => otherwise,
+        Some(argument) => argument.parse().unwrap_or_else(|_| panic!("not a number: {argument}")),
+    };
+    let seed = number(0, 20_160_312);
+    let rounds = number(1, 4_000) as usize;
+    println!("seed {seed}, {rounds} rounds");
+
+    let mut count = 0;
+    let mut differences = 0;
+    let mut answers: BTreeMap<(&str, u32), u64> = BTreeMap::new();
+    let mut places: BTreeSet<[u32; 5]> = BTreeSet::new();
+    for (index, group) in GROUPS.iter().enumerate() {
+        let begin = Instant::now();
+        let mut comparer = Comparer::new(&Archive, false);
+        run_group(&mut comparer, index, seed, rounds);
+        for (key, times) in &comparer.answers {
+            *answers.entry(*key).or_default() += times;
+        }
+        places.extend(&comparer.places);
+        count += comparer.count;
+        differences += comparer.differences;
+        let seconds = begin.elapsed().as_secs_f64();
+        println!("{}: {} comparisons, {} differences, {seconds:.1} s", group.0, comparer.count, comparer.differences);
+    }
+
+    // Every fault number was there.
+    for (function, numbers) in EXPECTED {
+        let seen: Vec<String> = answers.iter().filter(|(key, _)| key.0 == *function).map(|(key, times)| format!("{} {times}x", key.1)).collect();
+        println!("answers of {function}: {}", seen.join(", "));
+        // A run of very few rounds may miss one.
+        for number in numbers.iter().filter(|_| rounds >= 500) {
+            count += 1;
+            if !answers.contains_key(&(*function, *number)) {
+                println!("{function} never answered {number}");
+                differences += 1;
+            }
+        }
+    }
+
+    let distinct = |answer: u32| places.iter().filter(|place| place[0] == answer).count();
+    let seen: Vec<String> = (0..20).filter(|answer| distinct(*answer) > 0).map(|answer| format!("{answer} {}", distinct(answer))).collect();
+    println!("different places of each answer: {}", seen.join(", "));
+
+    let checkers = wrong::wrong_checkers();
+    let begin = Instant::now();
+    let mut bitten = 0;
+    for (name, checker) in &checkers {
+        match found(checker.as_ref(), seed) {
+            Some((group, comparisons)) => {
+                println!("wrong: {name}: found by \"{group}\" after {comparisons} comparisons");
+                bitten += 1;
+            }
+            None => println!("wrong: {name}: NOT FOUND"),
+        }
+    }
+    println!("wrong checkers: {bitten} found, {:.1} s", begin.elapsed().as_secs_f64());
+
+    println!("{count} comparisons, {differences} differences; {bitten} wrong checkers found of {}", checkers.len());
+    if differences == 0 && bitten == checkers.len() { ExitCode::SUCCESS } else { ExitCode::FAILURE }
+}

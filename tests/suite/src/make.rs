@@ -1,0 +1,197 @@
+//! Random histories, and certificates of them that are accepted.
+
+use crate::certificate::{Certificate, Criterion, List};
+use crate::check::Document01;
+use crate::history::{Event, History};
+use crate::objects::{Kind, Object, ObjectRules, Op, KINDS, OPS};
+use crate::random::Random;
+
+/// What a random history is made of.
+#[derive(Clone, Copy)]
+pub struct Size {
+    pub events: usize,
+    pub objects: usize,
+    pub processes: usize,
+    pub values: u64,
+    pub width: usize,
+}
+
+/// A random size: mostly small, now and then as large as it gets.
+pub fn random_size(random: &mut Random) -> Size {
+    match random.under(12) {
+        0 => Size { events: 64, objects: 16, processes: 8, values: 65_536, width: 8 },
+        1 => Size { events: random.under(65), objects: 1 + random.under(16), processes: 8, values: 65_536, width: 8 },
+        2 | 3 => Size { events: random.under(20), objects: 1 + random.under(4), processes: 4, values: 100, width: 4 },
+        4 => Size { events: random.under(3), objects: random.under(3), processes: 8, values: 4, width: 2 },
+        _ => Size {
+            events: random.under(9),
+            objects: 1 + random.under(3),
+            processes: 1 + random.under(3),
+            values: 4,
+            width: 3,
+        },
+    }
+}
+
+/// Objects and events with no answers yet. The processes are any of 0 to 7.
+pub fn shape(random: &mut Random, size: Size) -> History {
+    let mut history = History::default();
+    for _ in 0..size.objects {
+        let kind = random.pick(&KINDS).0;
+        let width = (kind == Kind::Window).then(|| 1 + random.under(size.width));
+        history.objects.push(Object { kind, width });
+    }
+    let mut processes: Vec<usize> = (0..8).collect();
+    while processes.len() > size.processes {
+        processes.remove(random.under(processes.len()));
+    }
+    // Some histories have only a few updates, so that small sizes have enough answers to differ in.
+    while !history.objects.is_empty() && history.events.len() < size.events {
+        let object = random.under(history.objects.len());
+        let op = random.pick(&OPS).0;
+        if !history.objects[object].kind.has(op) {
+            continue;
+        }
+        let value = op.takes_value().then(|| random.next() % size.values);
+        history.events.push(Event { process: *random.pick(&processes), object, op, value, answer: vec![] });
+    }
+    history
+}
+
+/// A random ordering of a set that extends an order.
+pub fn random_order(random: &mut Random, set: &[usize], before: &dyn Fn(usize, usize) -> bool) -> List {
+    let mut left = set.to_vec();
+    let mut order = Vec::new();
+    while !left.is_empty() {
+        let free: Vec<usize> = left.iter().copied().filter(|b| !left.iter().any(|a| before(*a, *b))).collect();
+        let next = *random.pick(&free);
+        left.retain(|event| *event != next);
+        order.push(next);
+    }
+    order
+}
+
+/// The answers that a replay of the order gives, in its order.
+pub fn answers_of(history: &History, order: &[usize]) -> Vec<Vec<u64>> {
+    let mut states: Vec<_> = history.objects.iter().map(|object| object.start()).collect();
+    order
+        .iter()
+        .map(|e| {
+            let event = &history.events[*e];
+            Document01.act(&history.objects[event.object], &mut states[event.object], event.op, event.value)
+        })
+        .collect()
+}
+
+/// Pasts of a random causal order.
+pub fn random_pasts(random: &mut Random, history: &History) -> Vec<List> {
+    let events = history.events.len();
+    let all: List = (0..events).collect();
+    let order = random_order(random, &all, &|a, b| history.program_order(a, b));
+    let rarity = 1 + random.under(6);
+    let mut pasts = vec![vec![]; events];
+    for (place, e) in order.iter().enumerate() {
+        let mut held = vec![false; events];
+        for f in &order[..place] {
+            if history.program_order(*f, *e) || random.once_in(rarity * 2) {
+                held[*f] = true;
+                for g in &pasts[*f] {
+                    let g: usize = *g;
+                    held[g] = true;
+                }
+            }
+        }
+        pasts[*e] = (0..events).filter(|f| held[*f]).collect();
+    }
+    pasts
+}
+
+/// Gives the history answers that meet the criterion, and the certificate that says so.
+pub fn certified(random: &mut Random, history: &mut History, criterion: Criterion) -> Certificate {
+    let all: List = (0..history.events.len()).collect();
+    let mut pasts = vec![];
+    let mut orders = vec![];
+    match criterion {
+        Criterion::Sequential => {
+            let order = random_order(random, &all, &|a, b| history.program_order(a, b));
+            for (e, answer) in order.iter().zip(answers_of(history, &order)) {
+                history.events[*e].answer = answer;
+            }
+            orders.push(order);
+        }
+        Criterion::Pram => {
+            for process in history.processes() {
+                let order = random_order(random, &all, &|a, b| history.program_order(a, b));
+                for (e, answer) in order.iter().zip(answers_of(history, &order)) {
+                    if history.events[*e].process == process {
+                        history.events[*e].answer = answer;
+                    }
+                }
+                orders.push(order);
+            }
+        }
+        Criterion::Weak | Criterion::Converge => {
+            pasts = random_pasts(random, history);
+            let before = |a: usize, b: usize| pasts[b].contains(&a);
+            let whole = random_order(random, &all, &before);
+            for e in 0..all.len() {
+                let mut set = pasts[e].clone();
+                set.push(e);
+                let order = if criterion == Criterion::Weak {
+                    random_order(random, &set, &before)
+                } else {
+                    whole.iter().copied().filter(|event| set.contains(event)).collect()
+                };
+                // In both, e is where the order says; all of past(e) stands before it.
+                let place = order.iter().position(|event| *event == e).expect("e is in its view");
+                history.events[e].answer = answers_of(history, &order).swap_remove(place);
+                orders.push(order);
+            }
+            if criterion == Criterion::Converge {
+                orders = vec![whole];
+            }
+        }
+        Criterion::Causal => {
+            pasts = random_pasts(random, history);
+            let before = |a: usize, b: usize| pasts[b].contains(&a);
+            orders = vec![vec![]; all.len()];
+            for process in history.processes() {
+                // The view of a process grows by what is new in the past of each of its events.
+                let mut order: List = vec![];
+                for e in all.iter().copied().filter(|e| history.events[*e].process == process).collect::<List>() {
+                    let new: List = pasts[e].iter().copied().filter(|event| !order.contains(event)).collect();
+                    order.extend(random_order(random, &new, &before));
+                    order.push(e);
+                    history.events[e].answer = answers_of(history, &order).pop().expect("e is the last of its view");
+                    orders[e] = order.clone();
+                }
+            }
+        }
+    }
+    Certificate::new(history, criterion, pasts, orders)
+}
+
+/// Answers of the right lengths, drawn at random.
+pub fn random_answers(random: &mut Random, history: &mut History, values: u64) {
+    for e in 0..history.events.len() {
+        let event = &history.events[e];
+        let length = *random.pick(&history.objects[event.object].answer_lengths(event.op));
+        history.events[e].answer = (0..length).map(|_| random.next() % values).collect();
+    }
+}
+
+/// A register with this many events by all processes in turn, each a write and a read of it, with right answers in number order.
+pub fn register_history(events: usize, processes: usize) -> History {
+    let mut history = History { objects: vec![Object { kind: Kind::Register, width: None }], events: vec![] };
+    let mut held = 0;
+    for number in 0..events {
+        let (op, value, answer) = if number % 2 == 0 {
+            held = 100 + number as u64;
+            (Op::Write, Some(held), vec![])
+        } else {
+            (Op::Read, None, vec![held])
+        };
+        history.events.push(Event { process: number % processes, object: 0, op, value, answer });
+    }
+    history
+}

@@ -1,0 +1,208 @@
+//! The sample dispensers of document 01 and the histories of Figure 3 of document 004.
+
+use crate::certificate::{Certificate, Criterion, List};
+use crate::history::{Event, History};
+use crate::objects::{Kind, Object, Op};
+
+pub fn object(kind: Kind) -> Object {
+    Object { kind, width: None }
+}
+
+pub fn window(width: usize) -> Object {
+    Object { kind: Kind::Window, width: Some(width) }
+}
+
+/// An event on an object, written as in the samples: process, op, answer.
+pub fn event(process: usize, object: usize, op: Op, value: Option<u64>, answer: &[u64]) -> Event {
+    Event { process, object, op, value, answer: answer.to_vec() }
+}
+
+fn write(process: usize, value: u64) -> Event {
+    event(process, 0, Op::Write, Some(value), &[])
+}
+
+fn read(process: usize, answer: &[u64]) -> Event {
+    event(process, 0, Op::Read, None, answer)
+}
+
+fn push(process: usize, value: u64) -> Event {
+    event(process, 0, Op::Push, Some(value), &[])
+}
+
+fn pop(process: usize, answer: &[u64]) -> Event {
+    event(process, 0, Op::Pop, None, answer)
+}
+
+pub fn q() -> History {
+    History { objects: vec![object(Kind::Queue)], events: vec![push(0, 7), pop(1, &[7])] }
+}
+
+pub fn w() -> History {
+    History { objects: vec![window(2)], events: vec![write(0, 4), read(0, &[9, 4]), write(1, 9), read(1, &[4, 9])] }
+}
+
+pub fn c() -> History {
+    History { objects: vec![window(2)], events: vec![write(0, 4), write(1, 9), read(1, &[0, 9]), read(1, &[4, 9])] }
+}
+
+pub fn r() -> History {
+    let events = vec![write(0, 3), write(1, 8), read(2, &[3]), read(2, &[8]), read(2, &[3])];
+    History { objects: vec![object(Kind::Register)], events }
+}
+
+pub fn m() -> History {
+    let events = vec![
+        event(0, 0, Op::Write, Some(5), &[]),
+        event(1, 0, Op::Read, None, &[5]),
+        event(1, 1, Op::Write, Some(6), &[]),
+        event(2, 1, Op::Read, None, &[6]),
+        event(2, 0, Op::Read, None, &[0]),
+    ];
+    History { objects: vec![object(Kind::Register); 2], events }
+}
+
+/// What document 01 says of the criteria of each sample: those met, and those not met.
+pub fn claims() -> Vec<(&'static str, History, Vec<Criterion>, Vec<Criterion>)> {
+    use Criterion::{Causal, Converge, Pram, Sequential, Weak};
+    vec![
+        // Q's certificates of sequential and pram are accepted; sequential can be weakened to all.
+        ("Q", q(), vec![Pram, Weak, Causal, Converge, Sequential], vec![]),
+        // W: causal accepted (so weak and pram too), "never converge or sequential".
+        ("W", w(), vec![Causal, Weak, Pram], vec![Converge, Sequential]),
+        // C: converge accepted (so weak too), "never pram" (so neither causal nor sequential).
+        ("C", c(), vec![Converge, Weak], vec![Pram, Causal, Sequential]),
+        // R: "weak; none of the others".
+        ("R", r(), vec![Weak], vec![Pram, Causal, Converge, Sequential]),
+        // M: "pram; not weak" (so none of those that can be weakened to weak).
+        ("M", m(), vec![Pram], vec![Weak, Causal, Converge, Sequential]),
+        // "The empty history meets all five."
+        ("empty", History::default(), vec![Pram, Weak, Causal, Converge, Sequential], vec![]),
+    ]
+}
+
+/// A certificate written down: the history, criterion, pasts and views.
+pub fn certificate(history: &History, criterion: Criterion, pasts: &[&[usize]], views: &[&[usize]]) -> Certificate {
+    let lists = |lists: &[&[usize]]| lists.iter().map(|list| list.to_vec()).collect::<Vec<List>>();
+    Certificate::new(history, criterion, lists(pasts), lists(views))
+}
+
+/// The histories of Figure 3 as far as the text of document 004 gives their events. The paper's letters: SC is sequential, PC
+/// (pipelined) is pram, WCC is weak, CC is causal, CCv is converge. Each with the criteria that it meets and breaks: what the text
+/// says is in quotes, and what follows from it by the strength of the criteria goes with it. The drawing itself is not in the text, so
+/// where an event or a claim is ours the comment says so.
+pub fn figure_3() -> Vec<(&'static str, History, Vec<Criterion>, Vec<Criterion>)> {
+    use Criterion::{Causal, Converge, Pram, Sequential, Weak};
+    let memory = |process: usize, register: char, value: Option<u64>, answer: &[u64]| {
+        let op = if value.is_some() { Op::Write } else { Op::Read };
+        event(process, register as usize - 'a' as usize, op, value, answer)
+    };
+    let window_2 = |events: Vec<Event>| History { objects: vec![window(2)], events };
+    let queue = |events: Vec<Event>| History { objects: vec![object(Kind::Queue)], events };
+    let registers = |count: usize, events: Vec<Event>| History { objects: vec![object(Kind::Register); count], events };
+    // 3h: each process first reads 0 where the other has written, then knows of all that the other has written, then reads c. The
+    // text names the two values of c, and that the first read of each process knows only of its own writes; the registers' part
+    // in it, and that flags d and e show the other's writes, is our way to say so.
+    let h = |first: u64, second: u64| {
+        registers(
+            5,
+            vec![
+                memory(0, 'a', Some(1), &[]),
+                memory(0, 'c', Some(2), &[]),
+                memory(0, 'd', Some(1), &[]),
+                memory(0, 'b', None, &[0]),
+                memory(0, 'e', None, &[1]),
+                memory(0, 'c', None, &[first]),
+                memory(1, 'b', Some(1), &[]),
+                memory(1, 'c', Some(3), &[]),
+                memory(1, 'e', Some(1), &[]),
+                memory(1, 'a', None, &[0]),
+                memory(1, 'd', None, &[1]),
+                memory(1, 'c', None, &[second]),
+            ],
+        )
+    };
+    vec![
+        // "weak causally consistent"; "causally convergent"; in pipelined consistency the processes "can never converge"; "not
+        // causally consistent".
+        (
+            "a",
+            window_2(vec![
+                write(0, 1), read(0, &[0, 1]), read(0, &[1, 2]), write(1, 2), read(1, &[0, 2]), read(1, &[1, 2]),
+            ]),
+            vec![Weak, Converge],
+            vec![Pram, Causal, Sequential],
+        ),
+        // "not weak causally consistent"; "not causally consistent". That it is pipelined consistent is ours.
+        (
+            "b",
+            window_2(vec![write(0, 1), read(0, &[2, 1]), read(1, &[0, 1]), write(1, 2)]),
+            vec![Pram],
+            vec![Weak, Causal, Converge, Sequential],
+        ),
+        // "causally consistent"; "not causally convergent".
+        (
+            "c",
+            window_2(vec![write(0, 1), read(0, &[2, 1]), write(1, 2), read(1, &[1, 2])]),
+            vec![Causal, Weak, Pram],
+            vec![Converge, Sequential],
+        ),
+        // "sequentially consistent".
+        (
+            "d",
+            window_2(vec![write(0, 1), read(0, &[0, 1]), write(1, 2), read(1, &[1, 2])]),
+            vec![Sequential, Converge, Causal, Weak, Pram],
+            vec![],
+        ),
+        // "both pipelined consistent and weakly causally consistent, it is not causally consistent".
+        (
+            "e",
+            queue(vec![
+                push(0, 1), pop(0, &[1]), pop(0, &[1]), push(0, 3), push(1, 2), pop(1, &[3]), push(1, 1),
+            ]),
+            vec![Pram, Weak],
+            vec![Causal, Sequential],
+        ),
+        // "causally consistent": both pop in the state 1, 2 and get 1; at their next pop the queue is empty. The text leaves open
+        // who pushes: both ways. That it isn't sequential is ours: 1 is pushed once and popped twice.
+        (
+            "f, a push each",
+            queue(vec![push(0, 1), pop(0, &[1]), pop(0, &[]), push(1, 2), pop(1, &[1]), pop(1, &[])]),
+            vec![Causal, Weak, Pram],
+            vec![Sequential],
+        ),
+        (
+            "f, one pushes",
+            queue(vec![push(0, 1), push(0, 2), pop(0, &[1]), pop(0, &[]), pop(1, &[1]), pop(1, &[])]),
+            vec![Causal, Weak, Pram],
+            vec![Sequential],
+        ),
+        // g has a queue with "remove head if it is v", which document 01 has not.
+        // "In order to satisfy causal consistency, the register c must be set to 3 for the first and to 2 for the second in the
+        // end, which cannot be reconciled with causal convergence." The second history, where both read 3, is ours.
+        ("h, c read as 3 and 2", h(3, 2), vec![Causal, Weak, Pram], vec![Converge, Sequential]),
+        ("h, c read as 3 and 3", h(3, 3), vec![Converge, Weak], vec![Causal, Sequential]),
+        // "correct for causal memory" (with a linearization for each process), not causally consistent.
+        (
+            "i",
+            registers(
+                4,
+                vec![
+                    memory(0, 'a', Some(1), &[]),
+                    memory(0, 'a', Some(2), &[]),
+                    memory(0, 'b', Some(3), &[]),
+                    memory(0, 'd', None, &[3]),
+                    memory(0, 'c', None, &[1]),
+                    memory(0, 'a', Some(1), &[]),
+                    memory(1, 'c', Some(1), &[]),
+                    memory(1, 'c', Some(2), &[]),
+                    memory(1, 'd', Some(3), &[]),
+                    memory(1, 'b', None, &[3]),
+                    memory(1, 'a', None, &[1]),
+                    memory(1, 'c', Some(1), &[]),
+                ],
+            ),
+            vec![Pram],
+            vec![Causal, Sequential],
+        ),
+    ]
+}

@@ -1,0 +1,560 @@
+//! Wrong checkers, each with one thing spoilt, to show that the comparisons find it. Those of the check and of reading are the model
+//! with one rule overridden; the others wrap the archive and spoil what it gives.
+
+use crate::certificate::{Certificate, CertificateRules, Criterion, View};
+use crate::check::{CheckRules, Document01, Fault, Rules, NONE};
+use crate::checker::{Archive, Checker, Lent, Model, Shown};
+use crate::history::{EventFields, History, HistoryRules};
+use crate::objects::{Kind, Object, ObjectRules, Op, State};
+use crate::texts::{Line, NumberRules, Refusal};
+
+/// A set of rules with some of one trait overridden.
+macro_rules! wrong_rules {
+    (@ $name:ident [$($objects:tt)*] [$($numbers:tt)*] [$($history:tt)*] [$($certificate:tt)*] [$($check:tt)*] [$($rules:tt)*]) => {
+        struct $name;
+        impl ObjectRules for $name { $($objects)* }
+        impl NumberRules for $name { $($numbers)* }
+        impl HistoryRules for $name { $($history)* }
+        impl CertificateRules for $name { $($certificate)* }
+        impl CheckRules for $name { $($check)* }
+        impl Rules for $name { $($rules)* }
+    };
+    ($name:ident ObjectRules { $($body:tt)* }) => { wrong_rules!(@ $name [$($body)*] [] [] [] [] []); };
+    ($name:ident NumberRules { $($body:tt)* }) => { wrong_rules!(@ $name [] [$($body)*] [] [] [] []); };
+    ($name:ident HistoryRules { $($body:tt)* }) => { wrong_rules!(@ $name [] [] [$($body)*] [] [] []); };
+    ($name:ident CertificateRules { $($body:tt)* }) => { wrong_rules!(@ $name [] [] [] [$($body)*] [] []); };
+    ($name:ident CheckRules { $($body:tt)* }) => { wrong_rules!(@ $name [] [] [] [] [$($body)*] []); };
+    ($name:ident Rules { $($body:tt)* }) => { wrong_rules!(@ $name [] [] [] [] [] [$($body)*]); };
+}
+
+// The old console habits first.
+
+wrong_rules!(EndsEarly CheckRules {
+    fn replay(&self, history: &History, order: &[usize], visible: &dyn Fn(usize) -> bool) -> Option<usize> {
+        Document01.replay(history, &order[..order.len().saturating_sub(1)], visible)
+    }
+});
+
+wrong_rules!(LeavesOutPops CheckRules {
+    fn replay(&self, history: &History, order: &[usize], visible: &dyn Fn(usize) -> bool) -> Option<usize> {
+        let kept: Vec<usize> = order.iter().copied().filter(|e| history.events[*e].op != Op::Pop || visible(*e)).collect();
+        Document01.replay(history, &kept, visible)
+    }
+});
+
+wrong_rules!(ConvergeWhole CheckRules {
+    fn cut(&self, certificate: &Certificate, _: usize) -> Vec<usize> {
+        certificate.views[0].order.clone()
+    }
+});
+
+wrong_rules!(NeighbouringLines CheckRules {
+    fn lacks_own(&self, history: &History, certificate: &Certificate) -> Option<Fault> {
+        let lacks = |e: &usize| *e > 0 && history.program_order(e - 1, *e) && !certificate.pasts[*e].contains(&(e - 1));
+        (0..certificate.pasts.len()).find(lacks).map(|e| (11, None, Some(e)))
+    }
+});
+
+wrong_rules!(NewestFirst ObjectRules {
+    fn act(&self, object: &Object, state: &mut State, op: Op, value: Option<u64>) -> Vec<u64> {
+        let mut answer = Document01.act(object, state, op, value);
+        answer.reverse();
+        answer
+    }
+});
+
+// Other objects.
+
+wrong_rules!(QueueAsStack ObjectRules {
+    fn act(&self, object: &Object, state: &mut State, op: Op, value: Option<u64>) -> Vec<u64> {
+        let kind = if object.kind == Kind::Queue { Kind::Stack } else { object.kind };
+        Document01.act(&Object { kind, width: object.width }, state, op, value)
+    }
+});
+
+wrong_rules!(PeekRemoves ObjectRules {
+    fn act(&self, object: &Object, state: &mut State, op: Op, value: Option<u64>) -> Vec<u64> {
+        Document01.act(object, state, if op == Op::Peek { Op::Pop } else { op }, value)
+    }
+});
+
+wrong_rules!(EmptyAnswersZero ObjectRules {
+    fn act(&self, object: &Object, state: &mut State, op: Op, value: Option<u64>) -> Vec<u64> {
+        let empty = state.is_empty() && op == Op::Pop;
+        let answer = Document01.act(object, state, op, value);
+        if empty { vec![0] } else { answer }
+    }
+});
+
+// Other checks.
+
+wrong_rules!(FifteenFirst CheckRules {
+    fn fault(&self, history: &History, certificate: &Certificate) -> Option<Fault> {
+        None.or_else(|| self.lacks_own(history, certificate))
+            .or_else(|| self.in_own_past(certificate))
+            .or_else(|| self.not_transitive(certificate))
+            .or_else(|| self.against(history, certificate))
+            .or_else(|| self.not_its_set(history, certificate))
+            .or_else(|| self.wrong_answer(history, certificate))
+    }
+});
+
+wrong_rules!(TwelveFirst CheckRules {
+    fn fault(&self, history: &History, certificate: &Certificate) -> Option<Fault> {
+        self.in_own_past(certificate).or_else(|| Document01.fault(history, certificate))
+    }
+});
+
+wrong_rules!(LastWrong CheckRules {
+    fn replay(&self, history: &History, order: &[usize], visible: &dyn Fn(usize) -> bool) -> Option<usize> {
+        let answers = crate::make::answers_of(history, order);
+        let wrong = |place: &usize| visible(order[*place]) && answers[*place] != history.events[order[*place]].answer;
+        (0..order.len()).rev().find(wrong).map(|place| order[place])
+    }
+});
+
+wrong_rules!(LowestWrong CheckRules {
+    fn replay(&self, history: &History, order: &[usize], visible: &dyn Fn(usize) -> bool) -> Option<usize> {
+        let answers = crate::make::answers_of(history, order);
+        let wrong = |place: &usize| visible(order[*place]) && answers[*place] != history.events[order[*place]].answer;
+        (0..order.len()).filter(wrong).map(|place| order[place]).min()
+    }
+});
+
+wrong_rules!(ConvergeInViewOrder CheckRules {
+    fn wrong_answer(&self, history: &History, certificate: &Certificate) -> Option<Fault> {
+        if certificate.criterion != Criterion::Converge {
+            return Document01.wrong_answer(history, certificate);
+        }
+        let wrong = |e: &&usize| self.replay(history, &self.cut(certificate, **e), &|event| event == **e).is_some();
+        certificate.views[0].order.iter().find(wrong).map(|e| (16, Some(0), Some(*e)))
+    }
+});
+
+wrong_rules!(ConvergeHighest CheckRules {
+    fn converge_events(&self, history: &History) -> Vec<usize> {
+        (0..history.events.len()).rev().collect()
+    }
+});
+
+wrong_rules!(ViewByView CheckRules {
+    fn fault(&self, history: &History, certificate: &Certificate) -> Option<Fault> {
+        let fault = Document01.fault(history, certificate)?;
+        if fault.0 < 14 {
+            return Some(fault);
+        }
+        // Each view gets all its faults before the next view is looked at.
+        certificate.views.iter().find_map(|view| {
+            let only = Certificate { views: vec![view.clone()], ..certificate.clone() };
+            None.or_else(|| self.not_its_set(history, &only))
+                .or_else(|| self.against(history, &only))
+                .or_else(|| self.wrong_answer(history, &only))
+        })
+    }
+});
+
+wrong_rules!(NotTransitiveIgnored CheckRules {
+    fn not_transitive(&self, _: &Certificate) -> Option<Fault> {
+        None
+    }
+});
+
+wrong_rules!(HighestNotTransitive CheckRules {
+    fn not_transitive(&self, certificate: &Certificate) -> Option<Fault> {
+        let pasts = &certificate.pasts;
+        let lacks = |e: &usize| pasts[*e].iter().any(|f| pasts[*f].iter().any(|g| !pasts[*e].contains(g)));
+        (0..pasts.len()).rev().find(lacks).map(|e| (13, None, Some(e)))
+    }
+});
+
+wrong_rules!(RepeatsAllowed CheckRules {
+    fn is_its_set(&self, history: &History, certificate: &Certificate, view: &View) -> bool {
+        (0..history.events.len()).all(|event| view.order.contains(&event) == self.in_set(certificate, view, event))
+    }
+});
+
+wrong_rules!(FirstViewOnly CheckRules {
+    fn wrong_answer(&self, history: &History, certificate: &Certificate) -> Option<Fault> {
+        let fault = Document01.wrong_answer(history, certificate)?;
+        (certificate.criterion == Criterion::Converge || fault.1 == certificate.views.first().map(|view| view.number)).then_some(fault)
+    }
+});
+
+wrong_rules!(OthersVisible CheckRules {
+    fn visible(&self, history: &History, certificate: &Certificate, view: &View, event: usize) -> bool {
+        certificate.criterion == Criterion::Pram || Document01.visible(history, certificate, view, event)
+    }
+});
+
+wrong_rules!(CausalAsWeak CheckRules {
+    fn visible(&self, history: &History, certificate: &Certificate, view: &View, event: usize) -> bool {
+        match certificate.criterion {
+            Criterion::Causal => event == view.number,
+            _ => Document01.visible(history, certificate, view, event),
+        }
+    }
+});
+
+wrong_rules!(ViewsByProgramOrder CheckRules {
+    fn before(&self, history: &History, _: &Certificate, a: usize, b: usize) -> bool {
+        history.program_order(a, b)
+    }
+});
+
+wrong_rules!(AcceptsAll CheckRules {
+    fn fault(&self, _: &History, _: &Certificate) -> Option<Fault> {
+        None
+    }
+});
+
+wrong_rules!(RejectsAll CheckRules {
+    fn fault(&self, history: &History, certificate: &Certificate) -> Option<Fault> {
+        Document01.fault(history, certificate).or(Some((16, Some(0), Some(0))))
+    }
+});
+
+// Other readings.
+
+wrong_rules!(Wraps16 NumberRules {
+    fn number(&self, field: &[u8]) -> Option<u64> {
+        Document01.number(field).map(|number| if number == 65_536 { 0 } else { number })
+    }
+});
+
+wrong_rules!(Wraps64 NumberRules {
+    fn number(&self, field: &[u8]) -> Option<u64> {
+        Document01.number(field)?;
+        Some(field.iter().fold(0u64, |sum, byte| sum.wrapping_mul(10).wrapping_add(u64::from(byte - b'0'))))
+    }
+});
+
+wrong_rules!(LeadingZeros NumberRules {
+    fn number(&self, field: &[u8]) -> Option<u64> {
+        let zeros = field.iter().take_while(|byte| **byte == b'0').count().min(field.len().saturating_sub(1));
+        Document01.number(&field[zeros..])
+    }
+});
+
+wrong_rules!(TrailingComma NumberRules {
+    fn list(&self, field: &[u8]) -> Option<Vec<u64>> {
+        Document01.list(field.strip_suffix(b",").unwrap_or(field))
+    }
+});
+
+wrong_rules!(LimitIsTooLong NumberRules {
+    fn too_long(&self, length: usize, limit: usize) -> bool {
+        length >= limit
+    }
+});
+
+wrong_rules!(OneMoreByte NumberRules {
+    fn too_long(&self, length: usize, limit: usize) -> bool {
+        length > limit + 1
+    }
+});
+
+wrong_rules!(NoFinalLineFeed NumberRules {
+    fn line_feed_missing(&self, _: &Line) -> bool {
+        false
+    }
+});
+
+wrong_rules!(FourBeforeThree HistoryRules {
+    fn event_fault(&self, fields: &EventFields, objects: &[Object]) -> Option<u32> {
+        match objects.get(fields.object as usize) {
+            Some(object) if self.event_misfit(fields, object) => Some(4),
+            _ => Document01.event_fault(fields, objects),
+        }
+    }
+});
+
+wrong_rules!(FiveBeforeFour HistoryRules {
+    fn event_fault(&self, fields: &EventFields, objects: &[Object]) -> Option<u32> {
+        let fault = Document01.event_fault(fields, objects);
+        let object = objects.get(fields.object as usize)?;
+        if fault == Some(4) && object.kind.has(fields.op) && self.event_answer(fields, object) { Some(5) } else { fault }
+    }
+});
+
+wrong_rules!(SixBeforeThree CertificateRules {
+    fn list_fault(&self, list: &[u64], events: usize, past: bool) -> Option<u32> {
+        if past && self.not_rising(list) { Some(6) } else { Document01.list_fault(list, events, past) }
+    }
+});
+
+wrong_rules!(LongListsRead CertificateRules {
+    fn list_over(&self, list: &[u64], events: usize) -> bool {
+        list.iter().any(|entry| *entry >= events as u64)
+    }
+});
+
+wrong_rules!(ViewsOfPramCounted CertificateRules {
+    fn view_numbers(&self, criterion: Criterion, history: &History) -> Vec<usize> {
+        (0..criterion.view_numbers(history).len()).collect()
+    }
+});
+
+wrong_rules!(CertificateFirst Rules {
+    fn read_both(&self, history: &[u8], certificate: &[u8]) -> Result<(History, Certificate), Refusal> {
+        if certificate.len() > crate::certificate::CERTIFICATE_LIMIT {
+            return Err(Refusal::too_long(crate::texts::Text::Certificate));
+        }
+        Document01.read_both(history, certificate)
+    }
+});
+
+/// What is spoilt of what the archive gives.
+#[derive(Clone, Copy, PartialEq, Eq, Debug)]
+enum Spoil {
+    EventOffByOne,
+    ViewOffByOne,
+    ViewAndEventSwapped,
+    LineFromZero,
+    PartWithLineFeed,
+    EmptyPartWhereItIs,
+    MissingAtTheLast,
+    CriterionOnRefusal,
+    SixPlaces,
+    EightPlaces,
+    CheckForgetsSixteen,
+    ByteOnRefusal,
+    LengthOnRefusal,
+    EighteenAtExactLength,
+    EighteenOneLate,
+    ByteBehindTheText,
+    ByteBehindTheBuffer,
+    RestCleared,
+    ShowWithLineFeed,
+    ShowOneFurther,
+    ShowPlacesKept,
+    NineteenAtTheLast,
+    WeakenCopies,
+    WeakenWantedByte,
+    WeakenEighteenAtExactLength,
+    WeakenByteOnRefusal,
+    WeakenFaultsBeforeSeventeen,
+    WeakenMorePairs,
+    WeakenOthersFalling,
+}
+
+struct Spoilt(Spoil);
+
+impl Spoilt {
+    /// Spoils what a writing gave. `before` is the buffer as it was lent.
+    fn written(&self, mut answer: u32, before: &Lent<u8>, buffer: &mut Lent<u8>, length: &mut u64) -> u32 {
+        match self.0 {
+            Spoil::ByteOnRefusal if answer != 0 && buffer.length > 0 => buffer.part()[0] = 0,
+            Spoil::LengthOnRefusal if answer != 0 => *length = 1,
+            Spoil::EighteenAtExactLength if answer == 0 && *length == buffer.length as u64 => {
+                *buffer = before.clone();
+                *length = 0;
+                answer = 18;
+            }
+            Spoil::EighteenOneLate if answer == 18 && buffer.length > 0 => {
+                // It can't tell by how much the buffer is too short: it writes as if the text fitted.
+                *length = buffer.length as u64;
+                answer = 0;
+            }
+            Spoil::ByteBehindTheText if answer == 0 && (*length as usize) < buffer.length => buffer.part()[*length as usize] = 0,
+            Spoil::ByteBehindTheBuffer if answer == 0 => {
+                let behind = buffer.start + buffer.length;
+                buffer.all[behind] = 0;
+            }
+            Spoil::RestCleared if answer == 0 => buffer.part()[*length as usize..].fill(0),
+            _ => {}
+        }
+        answer
+    }
+}
+
+impl Checker for Spoilt {
+    fn check(&self, history: &[u8], certificate: &[u8]) -> u32 {
+        match (self.0, Archive.check(history, certificate)) {
+            (Spoil::CheckForgetsSixteen, 16) => 0,
+            (_, answer) => answer,
+        }
+    }
+
+    fn verdict(&self, history: &[u8], certificate: &[u8], places: &mut Lent<u32>) -> u32 {
+        let lent = places.clone();
+        let answer = Archive.verdict(history, certificate, places);
+        if places.length < 7 {
+            if self.0 == Spoil::EightPlaces {
+                places.all[places.start + places.length] = 0;
+            }
+            return answer;
+        }
+        let part = places.part();
+        match self.0 {
+            Spoil::EventOffByOne if part[4] != NONE => part[4] += 1,
+            Spoil::ViewOffByOne if part[3] != NONE => part[3] += 1,
+            Spoil::ViewAndEventSwapped if answer >= 11 => part.swap(3, 4),
+            Spoil::LineFromZero if part[2] != NONE && part[2] > 0 => part[2] -= 1,
+            Spoil::PartWithLineFeed if part[6] > 0 => part[6] += 1,
+            Spoil::EmptyPartWhereItIs if part[1] != 0 && part[6] == 0 => part[5] = history.len() as u32,
+            Spoil::MissingAtTheLast if part[1] == 2 && part[6] == 0 && part[2] as usize > certificate.split(|byte| *byte == 10).count() - 1 => {
+                part[2] = part[2].saturating_sub(1);
+            }
+            Spoil::CriterionOnRefusal if part[1] == 2 && certificate.starts_with(b"criterion weak\n") => part[0] = 1,
+            Spoil::SixPlaces => part[6] = lent.all[lent.start + 6],
+            Spoil::EightPlaces if places.length > 7 => places.part()[7] = 0,
+            _ => {}
+        }
+        answer
+    }
+
+    fn show(&self, history: &[u8], event: u32, shown: &mut Shown) -> u32 {
+        let lent = *shown;
+        let event = if self.0 == Spoil::ShowOneFurther && event < 64 { event + 1 } else { event };
+        let answer = Archive.show(history, event, shown);
+        match (self.0, answer) {
+            (Spoil::ShowWithLineFeed, 0) => shown.length += 1,
+            (Spoil::ShowPlacesKept, 19) => *shown = lent,
+            (Spoil::NineteenAtTheLast, 0) if (shown.start + shown.length + 1) as usize == history.len() => {
+                *shown = Shown { start: 0, length: 0 };
+                return 19;
+            }
+            _ => {}
+        }
+        answer
+    }
+
+    fn rewrite_history(&self, history: &[u8], buffer: &mut Lent<u8>, length: &mut u64) -> u32 {
+        let before = buffer.clone();
+        let answer = Archive.rewrite_history(history, buffer, length);
+        self.written(answer, &before, buffer, length)
+    }
+
+    fn rewrite_certificate(&self, history: &[u8], certificate: &[u8], buffer: &mut Lent<u8>, length: &mut u64) -> u32 {
+        let before = buffer.clone();
+        let answer = Archive.rewrite_certificate(history, certificate, buffer, length);
+        self.written(answer, &before, buffer, length)
+    }
+
+
+    fn weaken(&self, history: &[u8], certificate: &[u8], wanted: u32, buffer: &mut Lent<u8>, length: &mut u64) -> u32 {
+        let before = buffer.clone();
+        let given = if self.0 == Spoil::WeakenWantedByte { wanted % 256 } else { wanted };
+        let answer = Archive.weaken(history, certificate, given, buffer, length);
+        match (self.0, answer) {
+            (Spoil::WeakenCopies, 0) => {
+                *buffer = before;
+                *length = 0;
+                Archive.rewrite_certificate(history, certificate, buffer, length)
+            }
+            (Spoil::WeakenEighteenAtExactLength, 0) if *length == buffer.length as u64 => {
+                *buffer = before;
+                *length = 0;
+                18
+            }
+            (Spoil::WeakenByteOnRefusal, 18) if buffer.length > 0 => {
+                buffer.part()[0] = b'c';
+                18
+            }
+            (Spoil::WeakenFaultsBeforeSeventeen, 17) => match Archive.check(history, certificate) {
+                0 => 17,
+                answer => answer,
+            },
+            // converge to pram: the whole order for every process would be refused by the check, but it is written.
+            (Spoil::WeakenMorePairs, 17) if wanted == 0 && Archive.check(history, certificate) == 0 => 0,
+            (Spoil::WeakenOthersFalling, 0) if wanted == 0 => {
+                // The last two entries of each view of the pram text change places.
+                let text = buffer.part()[..*length as usize].to_vec();
+                let turned: Vec<u8> = text.split_inclusive(|byte| *byte == 10).flat_map(turned_line).collect();
+                buffer.part()[..turned.len()].copy_from_slice(&turned);
+                0
+            }
+            (_, answer) => answer,
+        }
+    }
+}
+
+/// A line of a view with its last two entries in each other's place.
+fn turned_line(line: &[u8]) -> Vec<u8> {
+    let line = String::from_utf8_lossy(line).into_owned();
+    let Some((own, list)) = line.trim_end().split_once(' ') else { return line.into_bytes() };
+    let mut entries: Vec<&str> = list.split(',').collect();
+    let count = entries.len();
+    if count >= 2 {
+        entries.swap(count - 2, count - 1);
+    }
+    format!("{own} {}\n", entries.join(",")).into_bytes()
+}
+
+/// All wrong checkers with what is wrong with them.
+pub fn wrong_checkers() -> Vec<(&'static str, Box<dyn Checker>)> {
+    fn model<R: Rules + 'static>(name: &'static str, rules: R) -> (&'static str, Box<dyn Checker>) {
+        (name, Box::new(Model(rules)))
+    }
+    fn spoilt(name: &'static str, spoil: Spoil) -> (&'static str, Box<dyn Checker>) {
+        (name, Box::new(Spoilt(spoil)))
+    }
+    vec![
+        model("a replay ends one event early", EndsEarly),
+        model("another process's pop is left out", LeavesOutPops),
+        model("converge is replayed over the whole order", ConvergeWhole),
+        model("neighbouring lines are taken for program order", NeighbouringLines),
+        model("window answers newest first", NewestFirst),
+        model("a queue pops the newest", QueueAsStack),
+        model("peek removes", PeekRemoves),
+        model("a pop of an empty object answers 0", EmptyAnswersZero),
+        model("15 before 14", FifteenFirst),
+        model("12 before 11", TwelveFirst),
+        model("the last wrong event instead of the first", LastWrong),
+        model("the lowest wrong event instead of the first in the view", LowestWrong),
+        model("converge names the first e in the view and not the lowest", ConvergeInViewOrder),
+        model("converge names the highest e", ConvergeHighest),
+        model("each view gets all its faults before the next view", ViewByView),
+        model("transitivity is ignored", NotTransitiveIgnored),
+        model("13 names the highest event", HighestNotTransitive),
+        model("repeats in a view are allowed", RepeatsAllowed),
+        model("the replays stop at the first view", FirstViewOnly),
+        model("other processes' answers are visible in pram", OthersVisible),
+        model("causal sees only e's answer", CausalAsWeak),
+        model("views need only extend program order", ViewsByProgramOrder),
+        model("everything readable is accepted", AcceptsAll),
+        model("everything is rejected", RejectsAll),
+        model("65536 wraps to 0", Wraps16),
+        model("numbers wrap at 64 bits", Wraps64),
+        model("leading zeros are read", LeadingZeros),
+        model("a trailing comma is read", TrailingComma),
+        model("a text of exactly the limit is too long", LimitIsTooLong),
+        model("a text of one byte more than the limit is read", OneMoreByte),
+        model("the final line feed may be missing", NoFinalLineFeed),
+        model("4 before 3", FourBeforeThree),
+        model("5 before 4", FiveBeforeFour),
+        model("6 before 3", SixBeforeThree),
+        model("a list longer than the history is read", LongListsRead),
+        model("pram's views are counted and not numbered by process", ViewsOfPramCounted),
+        model("a too long certificate comes before the history's faults", CertificateFirst),
+        spoilt("the event is off by one", Spoil::EventOffByOne),
+        spoilt("the view is off by one", Spoil::ViewOffByOne),
+        spoilt("view and event change places", Spoil::ViewAndEventSwapped),
+        spoilt("the line is counted from 0", Spoil::LineFromZero),
+        spoilt("the faulty line has its line feed", Spoil::PartWithLineFeed),
+        spoilt("an empty part doesn't start at 0", Spoil::EmptyPartWhereItIs),
+        spoilt("a missing line has the number of the last", Spoil::MissingAtTheLast),
+        spoilt("a reading refusal carries the criterion", Spoil::CriterionOnRefusal),
+        spoilt("only six places are filled", Spoil::SixPlaces),
+        spoilt("a place past the slice or past the seventh is written", Spoil::EightPlaces),
+        spoilt("the check forgets 16 and only the verdict has it", Spoil::CheckForgetsSixteen),
+        spoilt("a byte is written on a refusal", Spoil::ByteOnRefusal),
+        spoilt("the length isn't 0 on a refusal", Spoil::LengthOnRefusal),
+        spoilt("18 for a buffer of exactly the length", Spoil::EighteenAtExactLength),
+        spoilt("no 18 for a buffer that is too short", Spoil::EighteenOneLate),
+        spoilt("a byte is written behind the text", Spoil::ByteBehindTheText),
+        spoilt("a byte is written behind the buffer", Spoil::ByteBehindTheBuffer),
+        spoilt("the rest of the buffer is cleared", Spoil::RestCleared),
+        spoilt("a shown line has its line feed", Spoil::ShowWithLineFeed),
+        spoilt("the next event is shown", Spoil::ShowOneFurther),
+        spoilt("19 leaves start and length as they were", Spoil::ShowPlacesKept),
+        spoilt("19 for the last event", Spoil::NineteenAtTheLast),
+        spoilt("weakening copies its input", Spoil::WeakenCopies),
+        spoilt("weakening takes 256 for 0", Spoil::WeakenWantedByte),
+        spoilt("weakening has 18 for a buffer of exactly the length", Spoil::WeakenEighteenAtExactLength),
+        spoilt("weakening writes a byte on 18", Spoil::WeakenByteOnRefusal),
+        spoilt("weakening has 11 to 16 before 17", Spoil::WeakenFaultsBeforeSeventeen),
+        spoilt("weakening knows more pairs", Spoil::WeakenMorePairs),
+        spoilt("weakening to pram ends in another order", Spoil::WeakenOthersFalling),
+    ]
+}
