@@ -98,8 +98,8 @@ fn put_places(places: &mut [u32], all: [u32; 7])
 pub extern "C" fn walnutgleam_check(history: &[u8], certificate: &[u8]) -> u32
     ensures { λ r. ⌜ r ≡ checkText (now (history .entry)) (now (certificate .entry)) .number ⌝ }
 {
-    let v = check(history, certificate);
-    answer_number(v)
+    let checked = check(history, certificate);
+    answer_number(checked)
 }
 
 // The same answer; its places go into a lent slice.
