@@ -12,7 +12,7 @@ use Rattle.criteria.specs.Check.{Fault, fault11, fault12, fault13, lacksOwn, la
 use Rattle.criteria.proofs.Check.{program-parts}
 use Rattle.orders.specs.Rows.{inRows, foundAt, IsOrder}
 use Rattle.orders.proofs.ViewLaws.{any-same}
-use Rattle.orders.proofs.SizeLaws.{any-fewer, past-size}
+use Rattle.orders.proofs.SizeLaws.{and-no, any-fewer, past-size}
 use Rattle.faults.specs.Steps.{orderFault}
 use Rattle.faults.proofs.FoundLaws.{found-same, found-some, found-none}
 
@@ -55,9 +55,6 @@ module _ (h : History) (R : ℕ → ℕ → Bool) (rows must : List (List Bool))
   -- nothing past the last event is before another in program order
   outside : (f e : ℕ) → size h ≤ f → programOrder h f e ≡ false
   outside f e l = by-bool (programOrder h f e) (λ t. let p = program-parts h f e t in absurd (omega arith)) (λ t. t)
-
-  and-no : (a b : Bool) → a ≡ false → (a && b) ≡ false
-  and-no a b e = rw e refl
 
   same-11 : (e : ℕ) → lacks rows must e ≡ lacksOwn h R e
   unfolding lacksOwn

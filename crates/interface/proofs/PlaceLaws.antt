@@ -4,13 +4,17 @@ use native.Mathlib.Numerals.{add-one}
 use native.Mathlib.Omega.{arith}
 use mathlib.Core.Path.{_≡_, refl, sym, ap, ap₂, _∙_}
 use mathlib.Core.List.{List, [], _∷_, _++_, append-assoc}
+use mathlib.Core.Option.{some}
 use lib.ListN.{length, getD, take, drop, set, drop-of-length-le}
 use lib.Seq.{take-suc, take-all, set-append-seam, length-take-le, drop-cons}
 use borrow.Author.Tests.{eq-eqb, ne-eqb}
+use Rattle.certificate.specs.declared.record.Criterion.{Criterion}
+use Rattle.certificate.specs.declared.record.Criterion.the-variants.{Pram, Weak, Causal, Converge, Sequential}
 use Rattle.criteria.specs.Check.{answerOf}
 use Rattle.faults.specs.Finding.{findingOf, orNone}
 use Rattle.checker.specs.declared.check.Checked.{Checked}
 use Rattle.checker.specs.Verdict.{verdictOf}
+use Rattle.checker.specs.WeakenText.{wantedOf}
 use Rattle.interface.specs.Places.{criterionNumber, textNumber, placesOf, placed}
 
 -- one place more
@@ -61,3 +65,11 @@ module _ (v : Checked) where
       → (orNone (verdictOf v .line) < 4294967296) × (verdictOf v .start ≤ verdictOf v .end) × (verdictOf v .end ≤ 32768)
       → (v .line < 4294967296) × (v .start ≤ v .end) × (v .end ≤ 32768)
   refusal-fits n p = rw (ne-eqb (v .fault) 0 n) at p
+
+-- the number of a criterion is the one by which it is wanted
+pub number-wanted : (c : Criterion) → wantedOf (criterionNumber c) ≡ some c
+number-wanted Pram = refl
+number-wanted Weak = refl
+number-wanted Causal = refl
+number-wanted Converge = refl
+number-wanted Sequential = refl

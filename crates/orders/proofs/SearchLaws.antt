@@ -1,5 +1,5 @@
 -- What the searches over views need: the row of the first events, a row with one event more, and sets that are the same. Assumes nothing.
-use mathlib.Core.Path.{_≡_, refl, sym, ap, _∙_}
+use mathlib.Core.Path.{_≡_, sym, ap, _∙_}
 use mathlib.Core.Bool.{Bool, true, false, not, _||_}
 use mathlib.Core.List.{List}
 use Prim.Native.Nat.{ℕ, _+_, _<_}
@@ -11,7 +11,6 @@ use borrow.Author.Tests.{lt-ltb, le-ltb}
 use Rattle.layout.proofs.Cases.{by-eq, by-lt}
 use Rattle.criteria.specs.Tests.{count, one}
 use Rattle.criteria.specs.Check.{notItsSet, against}
-use Rattle.criteria.proofs.Lists.{at-head, true-or-right}
 use Rattle.orders.specs.Rows.{inRow, inRows, viewAt}
 use Rattle.orders.proofs.ViewLaws.{any-same, none-marked}
 
@@ -33,20 +32,6 @@ first-more row i h s e =
     by-lt e i
     (λ l. rw (getD-set-other row i e true false n, lt-ltb e (i + 1) (omega arith)) (s e ∙ rw (lt-ltb e i l)))
     (λ l. rw (getD-set-other row i e true false n, le-ltb e (i + 1) (omega (arith, n))) (s e ∙ rw (le-ltb e i l))))
-
--- a row and one event more
-pub row-more : (row : List Bool) (e : ℕ) → e < length row → (f : ℕ) → inRow (set row e true) f ≡ (inRow row f || eqb f e)
-row-more row e h f = at-head f e here there
-  where
-    here : eqb f e ≡ true → f ≡ e → inRow (set row e true) f ≡ (inRow row f || eqb f e)
-    here s q = ap (inRow (set row e true)) q ∙ getD-set-same row e true false h ∙ sym (true-or-right (inRow row f) s)
-
-    no-more : (b : Bool) → b ≡ b || false
-    no-more true = refl
-    no-more false = refl
-
-    there : eqb f e ≡ false → (f ≡ e → ⊥) → inRow (set row e true) f ≡ (inRow row f || eqb f e)
-    there s q = getD-set-other row e f true false q ∙ rw s (no-more (inRow row f))
 
 -- view k is not all n events; it is not the past of event k and that event; it is against the order
 abbrev pub notAll : List (List ℕ) → List ℕ → ℕ → ℕ → Bool

@@ -14,7 +14,7 @@ or-no : (a b : Bool) → b ≡ false → (a || b) ≡ a
 or-no true b e = refl
 or-no false b e = e
 
-and-no : (a b : Bool) → a ≡ false → (a && b) ≡ false
+pub and-no : (a b : Bool) → a ≡ false → (a && b) ≡ false
 and-no true b e = absurd-by e
   where
     absurd-by : true ≡ false → b ≡ false

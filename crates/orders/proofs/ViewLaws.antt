@@ -29,6 +29,20 @@ set-off [] x = refl
 set-off (b ∷ row) zero = refl
 set-off (b ∷ row) (suc x) = set-off row x
 
+-- a row and one event more
+pub row-more : (row : List Bool) (e : ℕ) → e < length row → (f : ℕ) → inRow (set row e true) f ≡ (inRow row f || eqb f e)
+row-more row e h f = at-head f e here there
+  where
+    here : eqb f e ≡ true → f ≡ e → inRow (set row e true) f ≡ (inRow row f || eqb f e)
+    here s q = ap (inRow (set row e true)) q ∙ getD-set-same row e true false h ∙ sym (true-or-right (inRow row f) s)
+
+    no-more : (b : Bool) → b ≡ b || false
+    no-more true = refl
+    no-more false = refl
+
+    there : eqb f e ≡ false → (f ≡ e → ⊥) → inRow (set row e true) f ≡ (inRow row f || eqb f e)
+    there s q = getD-set-other row e f true false q ∙ rw s (no-more (inRow row f))
+
 pub none-marked : (n e : ℕ) → inRow (replicate n false) e ≡ false
 none-marked zero e = refl
 none-marked (suc n) zero = refl
@@ -156,17 +170,11 @@ module _ (view : List ℕ) (n i : ℕ) (l : i < n) (fits : n ≤ length view) wh
   -- one entry more is marked
   pub mark-turn : (row : List Bool) → length row ≡ 64 → getD view i 0 < 64 → ((e : ℕ) → inRow row e ≡ mem e (take i view))
       → (e : ℕ) → inRow (set row (getD view i 0) true) e ≡ mem e (take (i + 1) view)
-  mark-turn row len h m e = at-head e (getD view i 0) here there ∙ sym (mem-take-suc e view i (omega arith)) ∙ rw add-one refl
-    where
-      here : eqb e (getD view i 0) ≡ true → e ≡ getD view i 0 → inRow (set row (getD view i 0) true) e ≡ mem e (take i view) || eqb e (getD view i 0)
-      here s q = ap (inRow (set row (getD view i 0) true)) q ∙ getD-set-same row (getD view i 0) true false (omega arith) ∙ sym (true-or-right (mem e (take i view)) s)
-
-      there : eqb e (getD view i 0) ≡ false → (e ≡ getD view i 0 → ⊥) → inRow (set row (getD view i 0) true) e ≡ mem e (take i view) || eqb e (getD view i 0)
-      there s q = getD-set-other row (getD view i 0) e true false q ∙ m e ∙ rw s (no-more (mem e (take i view)))
-        where
-          no-more : (b : Bool) → b ≡ b || false
-          no-more true = refl
-          no-more false = refl
+  mark-turn row len h m e =
+      row-more row (getD view i 0) (omega (arith, len)) e
+      ∙ ap (λ (b : Bool). b || eqb e (getD view i 0)) (m e)
+      ∙ sym (mem-take-suc e view i (omega arith))
+      ∙ rw add-one refl
 
 pub set-over : (row : List Bool) (view : List ℕ) (n i : ℕ) → i ≤ n → n ≤ i → notItsSet 64 (inRow row) (slice i n view) ≡ any 64 (inRow row)
 set-over row view n i a b = let q : i ≡ n = omega arith in ap (notItsSet 64 (inRow row)) (ap (λ (k : ℕ). slice k n view) q ∙ slice-empty n view) ∙ set-end row

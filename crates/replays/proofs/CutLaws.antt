@@ -1,6 +1,6 @@
 -- Laws of a view that is cut down to a set: what its replay takes for granted, and the lowest event that is wrong in its own part.
 -- Assumes nothing.
-use Prim.Native.Nat.{ℕ, _+_, _≤_, _<_}
+use Prim.Native.Nat.{ℕ, _≤_, _<_}
 use native.Mathlib.Omega.{arith}
 use native.Mathlib.Nat.{min-le-left}
 use mathlib.Core.Path.{_≡_, refl, sym, ap, _∙_}
@@ -11,7 +11,6 @@ use lib.ListN.{length, getD, take, length-take}
 use lib.Seq.{length-take-le, getD-take}
 use lib.Dec.{eqb}
 use borrow.Author.Tests.{lt-ltb, le-ltb}
-use Rattle.layout.proofs.Cases.{by-eq}
 use Rattle.history.specs.declared.record.Object.{Object}
 use Rattle.certificate.specs.declared.record.EventList.{EventList}
 use Rattle.certificate.specs.Record.{entriesIn}
@@ -89,9 +88,6 @@ module _ (m : ℕ) (f : ℕ → Option ℕ) where
 
   pub event-none : (k : ℕ) → m ≤ k → ((i : ℕ) → i < k → f i ≡ none) → foundEvent 64 ≡ lowest m f
   event-none k l g = sym (none-lowest m f (λ i h. g i (omega arith)))
-
-  pub event-on : (k : ℕ) → ((i : ℕ) → i < k → f i ≡ none) → f k ≡ none → (i : ℕ) → i < k + 1 → f i ≡ none
-  event-on k g q i h = by-eq i k (λ e. rw e q) (λ n. g i (omega (arith, n)))
 
 pub not-found : (e : ℕ) (o : Option ℕ) → 64 ≤ e → foundEvent e ≡ o → o ≡ none
 not-found e o h q = sym q ∙ rw (le-ltb e 64 h) refl

@@ -19,6 +19,10 @@ wrong-here k e o q h = ap (atView k) (sym q) ∙ rw (lt-ltb e 64 h)
 pub wrong-not : (k e : ℕ) (o : Option ℕ) → foundEvent e ≡ o → 64 ≤ e → atView k o ≡ none
 wrong-not k e o q h = ap (atView k) (sym q) ∙ rw (le-ltb e 64 h)
 
+-- nothing was found up to k, nor at k
+pub none-on : {A : Type 0} (f : ℕ → Option A) (k : ℕ) → ((i : ℕ) → i < k → f i ≡ none) → f k ≡ none → (i : ℕ) → i < k + 1 → f i ≡ none
+none-on f k g q i h = by-eq i k (λ e. rw e q) (λ n. g i (omega (arith, n)))
+
 module _ (m : ℕ) (f : ℕ → Option Place) where
   pub place-found : (k e : ℕ) → k < m → e < 64 → ((i : ℕ) → i < k → f i ≡ none) → f k ≡ some record { view = k; event = e }
       → placeOf record { view = k; event = e } ≡ lowest m f
@@ -26,6 +30,3 @@ module _ (m : ℕ) (f : ℕ → Option Place) where
 
   pub place-none : (k : ℕ) → m ≤ k → ((i : ℕ) → i < k → f i ≡ none) → placeOf record { view = 0; event = 64 } ≡ lowest m f
   place-none k l g = sym (none-lowest m f (λ i h. g i (omega arith)))
-
-  pub place-on : (k : ℕ) → ((i : ℕ) → i < k → f i ≡ none) → f k ≡ none → (i : ℕ) → i < k + 1 → f i ≡ none
-  place-on k g q i h = by-eq i k (λ e. rw e q) (λ n. g i (omega (arith, n)))

@@ -1,12 +1,12 @@
 -- From causal to weak and to pram: what a certificate that passed gives to the makers, and the records that are made. Assumes nothing.
-use Prim.Native.Nat.{ℕ, zero, suc, _≤_, _<_}
+use Prim.Native.Nat.{ℕ, zero, suc, _<_}
 use native.Mathlib.Omega.{arith}
 use mathlib.Core.Path.{_≡_, refl, sym, ap, ap₂, _∙_, subst}
 use mathlib.Core.Bool.{Bool}
 use mathlib.Core.List.{List, []}
 use mathlib.Core.Option.{Option, some}
 use lib.Dec.{eqb}
-use lib.ListN.{length, getD, take, replicate, List·getD-map}
+use lib.ListN.{getD, take, replicate, List·getD-map}
 use Rattle.layout.proofs.Cases.{by-lt}
 use Rattle.history.specs.declared.record.Event as written-event
 use Rattle.history.specs.declared.record.History as written-history
@@ -21,19 +21,18 @@ use Rattle.certificate.specs.Record.{noList, rowsOf}
 use Rattle.certificate.specs.Record as text-record
 use Rattle.certificate.specs.Criteria.{hasEvents, processesFrom, viewNumbers}
 use Rattle.certificate.specs.Steps.Numbers.{viewNumbersOf}
-use Rattle.certificate.proofs.NumberingLaws.{numbers-few}
 use Rattle.criteria.specs.Tests.{highest, table, count}
 use Rattle.criteria.specs.History.{Event, History, size, process, own, IsView}
 use Rattle.criteria.specs.Certificate.{Certificate, order, processes, viewCount, viewSet}
 use Rattle.criteria.specs.Weaken.{completed, lastOf, weakenedFrom, weakened}
 use Rattle.criteria.specs.Records.{historyOf, certificateOf}
 use Rattle.criteria.proofs.Lists.{Once, once-of-count}
-use Rattle.criteria.proofs.Check.{check-good}
-use Rattle.criteria.proofs.RecordLaws.{size-is, view-count, view-number}
+use Rattle.criteria.proofs.RecordLaws.{view-count, view-number}
 use Rattle.orders.specs.Rows.{viewAt}
 use Rattle.weakened.specs.Steps.{lengthsOf, lastIn, WholeViews}
 use Rattle.weakened.proofs.CausalLaws.{last-below}
-use Rattle.faults.proofs.CheckLaws.{size-of, few-of, process-of, readable-of, event-views, view-same, number-count, number-at, facts}
+use Rattle.faults.proofs.CheckLaws.{process-of, event-views, view-same, number-count, number-at}
+use Rattle.weakener.proofs.PassedLaws.{size-passed, few-passed, few-numbers, fits-passed, good-passed}
 use Rattle.weakener.specs.Steps.{Passed, IsRecordOf}
 
 -- ---- tables and searches of what agrees below n
@@ -64,20 +63,17 @@ unfolding weakened
 causal-pram h c q = ap (λ (w : Criterion). weakenedFrom w Pram h c) q
 
 module _ (h : written-history.History) (c : written-certificate.Certificate) (rows : List (List ℕ)) (q : c .criterion ≡ Causal) (p : Passed h c rows) where
-  few-views : length (viewNumbers (c .criterion) (eventsIn h)) ≤ 64
-  few-views = numbers-few (c .criterion) (eventsIn h) (omega (arith, size-is h, size-of h (p .history), few-of h (p .history)))
-
   -- ---- to weak
   renamed : _≡_ {A = written-certificate.Certificate} (record { criterion = Weak; pasts = c .pasts; lengths = c .lengths })
       (text-record.certificateOf Weak (certificateOf h c rows .pasts) (certificateOf h c rows .views))
   unfolding certificateOf text-record.certificateOf
   renamed =
       ap {B = written-certificate.Certificate} (λ (x : written-certificate.Certificate). record { criterion = Weak; pasts = x .pasts; lengths = x .lengths })
-      (facts h (p .history) c rows (p .certificate) few-views .record-is)
+      (fits-passed h c rows p .record-is)
 
   same-rows : rows ≡ rowsOf (certificateOf h c rows .views)
   unfolding certificateOf
-  same-rows = facts h (p .history) c rows (p .certificate) few-views .rows-are
+  same-rows = fits-passed h c rows p .rows-are
 
   pub weak-record : IsRecordOf (weakened Weak (historyOf h) (certificateOf h c rows)) (record { criterion = Weak; pasts = c .pasts; lengths = c .lengths }) rows
   unfolding certificateOf
@@ -87,21 +83,21 @@ module _ (h : written-history.History) (c : written-certificate.Certificate) (ro
 
   -- ---- the views are one an event, and none of their events stands twice
   count-is : viewCount (c .criterion) (historyOf h) ≡ h .count
-  count-is = ap (λ (w : Criterion). viewCount w (historyOf h)) q ∙ size-of h (p .history)
+  count-is = ap (λ (w : Criterion). viewCount w (historyOf h)) q ∙ size-passed h c rows p
 
   view-is : (k : ℕ) → k < h .count → viewAt rows (c .lengths) k ≡ getD (certificateOf h c rows .views) k []
   unfolding certificateOf
-  view-is = view-same h (p .history) c rows (p .certificate) few-views (h .count) (sym count-is ∙ view-count (c .criterion) h)
+  view-is = view-same h (p .history) c rows (p .certificate) (few-numbers h c rows p (c .criterion)) (h .count) (sym count-is ∙ view-count (c .criterion) h)
 
   view-once : (k : ℕ) → k < h .count → Once (getD (certificateOf h c rows .views) k [])
   unfolding certificateOf IsView
   view-once k l =
       once-of-count (viewSet (c .criterion) (historyOf h) (order (historyOf h) (certificateOf h c rows)) k) (getD (certificateOf h c rows .views) k [])
-      (check-good (historyOf h) (certificateOf h c rows) (readable-of h (p .history) c rows (p .certificate) few-views) (p .passes) .isView k (omega (arith, l, count-is)))
+      (good-passed h c rows p .isView k (omega (arith, l, count-is)))
 
   pub whole-views : WholeViews rows (c .lengths) (h .count)
   whole-views =
-      let e = event-views h (p .history) c rows (p .certificate) few-views (h .count) (few-of h (p .history)) in
+      let e = event-views h (p .history) c rows (p .certificate) (few-numbers h c rows p (c .criterion)) (h .count) (few-passed h c rows p) in
       record { few = e .few; entries = e .entries; once = λ k l. rw (view-is k l) (view-once k l) }
 
   -- ---- to pram
@@ -111,8 +107,8 @@ module _ (h : written-history.History) (c : written-certificate.Certificate) (ro
     unfolding lastOf
     last-is k =
         highest-below (h .count) (λ e. eqb (getD ps e 0) k) (own (historyOf h) k)
-        (λ e l. ap (λ (x : ℕ). eqb x k) (agree e (omega (arith, l, few-of h (p .history))) ∙ sym (process-of h (p .history) e l) ∙ List·getD-map (λ (x : Event). x .process) (historyOf h .events) e _))
-        ∙ ap (λ (n : ℕ). highest n (own (historyOf h) k)) (sym (size-of h (p .history)))
+        (λ e l. ap (λ (x : ℕ). eqb x k) (agree e (omega (arith, l, few-passed h c rows p)) ∙ sym (process-of h (p .history) e l) ∙ List·getD-map (λ (x : Event). x .process) (historyOf h .events) e _))
+        ∙ ap (λ (n : ℕ). highest n (own (historyOf h) k)) (sym (size-passed h c rows p))
 
     views-count : numbers .count ≡ viewCount Pram (historyOf h)
     views-count = number-count numbers _ numbered ∙ sym (view-count Pram h)
@@ -128,7 +124,7 @@ module _ (h : written-history.History) (c : written-certificate.Certificate) (ro
         let n : getD (numbers .numbers) k 0 ≡ getD (processes (historyOf h)) k 0 =
         number-at numbers _ numbered k ∙ sym (view-number Pram h k (omega (arith, l, views-count))) in
         let b = last-below (h .count) (λ e. eqb (getD ps e 0) (getD (numbers .numbers) k 0)) (some-events (omega (arith, l))) in
-        ap₂ completed (sym (size-of h (p .history)))
+        ap₂ completed (sym (size-passed h c rows p))
         (view-is (lastIn (h .count) ps (getD (numbers .numbers) k 0)) b
         ∙ ap (λ (e : ℕ). getD (certificateOf h c rows .views) e []) (last-is (getD (numbers .numbers) k 0) ∙ ap (lastOf (historyOf h)) n))
 

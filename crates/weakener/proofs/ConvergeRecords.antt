@@ -1,7 +1,6 @@
 -- From converge to weak: what a certificate that passed gives to the cut of its view, and the record that is made. Assumes nothing.
-use Prim.Native.Nat.{ℕ, _≤_, _<_}
-use native.Mathlib.Omega.{arith}
-use mathlib.Core.Path.{_≡_, sym, ap, ap₂, _∙_, subst, fun-ext}
+use Prim.Native.Nat.{ℕ}
+use mathlib.Core.Path.{_≡_, refl, sym, ap, ap₂, _∙_, subst, fun-ext}
 use mathlib.Core.Bool.{Bool, cond}
 use mathlib.Core.List.{List, [], map}
 use mathlib.Core.Option.{Option, some}
@@ -12,21 +11,18 @@ use Rattle.certificate.specs.declared.record.Criterion.{Criterion}
 use Rattle.certificate.specs.declared.record.Criterion.the-variants.{Weak, Converge}
 use Rattle.certificate.specs.declared.record.EventList.{EventList}
 use Rattle.certificate.specs.declared.record.Certificate as written-certificate
-use Rattle.certificate.specs.Record.{noList, entriesIn, rowsOf}
+use Rattle.certificate.specs.Record.{entriesIn, rowsOf}
 use Rattle.certificate.specs.Record as text-record
-use Rattle.certificate.specs.Criteria.{hasPasts, viewNumbers}
-use Rattle.certificate.proofs.NumberingLaws.{numbers-few}
+use Rattle.certificate.specs.Criteria.{hasPasts}
 use Rattle.criteria.specs.Tests.{table, keep, count}
-use Rattle.criteria.specs.History.{History, size, IsView, isEvent, pastWith}
-use Rattle.criteria.specs.Certificate.{Certificate, listed, orderBy, order, viewCount, viewSet}
+use Rattle.criteria.specs.History.{History, size, pastWith}
+use Rattle.criteria.specs.Certificate.{Certificate, listed, orderBy, order}
 use Rattle.criteria.specs.Weaken.{weakenedFrom, weakened}
 use Rattle.criteria.specs.Records.{historyOf, certificateOf}
-use Rattle.criteria.proofs.Check.{Good, check-good}
-use Rattle.criteria.proofs.RecordLaws.{size-is, view-count}
-use Rattle.orders.specs.Rows.{inRows, ShortList, IsOrder}
+use Rattle.criteria.proofs.RecordLaws.{size-is}
+use Rattle.orders.specs.Rows.{inRows, IsOrder}
 use Rattle.weakened.specs.Steps.{lengthsOf}
-use Rattle.faults.proofs.CheckLaws.{size-of, few-of, readable-of, short-past, event-views, view-same, facts, length-made}
-use Rattle.weakener.proofs.PassedLaws.{all-length}
+use Rattle.weakener.proofs.PassedLaws.{size-passed, fits-passed, one-begins}
 use Rattle.weakener.specs.Steps.{Passed, IsRecordOf}
 
 -- ---- the weakened certificate
@@ -39,44 +35,6 @@ unfolding weakened
 converge-weak h c q = ap (λ (w : Criterion). weakenedFrom w Weak h c) q
 
 module _ (h : written-history.History) (c : written-certificate.Certificate) (rows : List (List ℕ)) (q : c .criterion ≡ Converge) (p : Passed h c rows) where
-  few-views : length (viewNumbers (c .criterion) (eventsIn h)) ≤ 64
-  few-views = numbers-few (c .criterion) (eventsIn h) (omega (arith, size-is h, size-of h (p .history), few-of h (p .history)))
-
-  good : Good (historyOf h) (c .criterion) (order (historyOf h) (certificateOf h c rows)) (certificateOf h c rows .views)
-  unfolding certificateOf
-  good = check-good (historyOf h) (certificateOf h c rows) (readable-of h (p .history) c rows (p .certificate) few-views) (p .passes)
-
-  pub pasts-short : (k : ℕ) → ShortList (getD (c .pasts) k noList)
-  pasts-short = short-past h (p .history) c rows (p .certificate) few-views
-
-  one-view : viewCount (c .criterion) (historyOf h) ≡ 1
-  one-view = ap (λ (w : Criterion). viewCount w (historyOf h)) q
-
-  the-view : IsView (isEvent (historyOf h)) (getD (certificateOf h c rows .views) 0 [])
-  the-view =
-      subst (λ (w : Criterion). IsView (viewSet w (historyOf h) (order (historyOf h) (certificateOf h c rows)) 0) (getD (certificateOf h c rows .views) 0 [])) q
-      (good .isView 0 (omega (arith, one-view)))
-
-  -- it has all events
-  pub view-long : getD (c .lengths) 0 0 ≡ h .count
-  unfolding certificateOf
-  view-long =
-      length-made h (p .history) c rows (p .certificate) few-views 0
-      ∙ all-length (size (historyOf h)) (getD (certificateOf h c rows .views) 0 []) the-view
-      ∙ size-of h (p .history)
-
-  pub view-entries : (k : ℕ) → k < h .count → getD (getD rows 0 []) k 0 < 64
-  view-entries k l =
-      let e = event-views h (p .history) c rows (p .certificate) few-views 1 (omega arith) in
-      let x = e .entries 0 (omega arith) k (omega (arith, l, view-long)) in
-      omega (arith, x, few-of h (p .history))
-
-  view-is : take (h .count) (getD rows 0 []) ≡ getD (certificateOf h c rows .views) 0 []
-  unfolding certificateOf
-  view-is =
-      ap (λ (n : ℕ). take n (getD rows 0 [])) (sym view-long)
-      ∙ view-same h (p .history) c rows (p .certificate) few-views 1 (sym one-view ∙ view-count (c .criterion) h) 0 (omega arith)
-
   -- the rows are the order of the lists
   order-by : (w : Criterion) → w ≡ Converge → (n m : ℕ) → m ≡ n
       → listed (map entriesIn (take n (c .pasts))) ≡ orderBy (hasPasts w) (historyOf h) (map entriesIn (take (cond (hasPasts w) m 0) (c .pasts)))
@@ -87,13 +45,13 @@ module _ (h : written-history.History) (c : written-certificate.Certificate) (ro
     unfolding certificateOf
     order-is =
         fun-ext (λ a. fun-ext (λ b. o a b))
-        ∙ order-by (c .criterion) q (h .count) (length (eventsIn h)) (sym (size-is h) ∙ size-of h (p .history))
+        ∙ order-by (c .criterion) q (h .count) (length (eventsIn h)) (sym (size-is h) ∙ size-passed h c rows p)
 
     views-are : cutViews (h .count) (inRows rows-of) (take (h .count) (getD rows 0 []))
         ≡ cutViews (size (historyOf h)) (order (historyOf h) (certificateOf h c rows)) (getD (certificateOf h c rows .views) 0 [])
     views-are =
-        ap (λ (n : ℕ). cutViews n (inRows rows-of) (take (h .count) (getD rows 0 []))) (sym (size-of h (p .history)))
-        ∙ ap₂ (cutViews (size (historyOf h))) order-is view-is
+        ap (λ (n : ℕ). cutViews n (inRows rows-of) (take (h .count) (getD rows 0 []))) (sym (size-passed h c rows p))
+        ∙ ap₂ (cutViews (size (historyOf h))) order-is (one-begins h c rows p Converge q refl)
 
     made : (lengths : List ℕ) (views : List (List ℕ)) → lengths ≡ lengthsOf views
         → _≡_ {A = written-certificate.Certificate} (record { criterion = Weak; pasts = c .pasts; lengths = lengths })
@@ -101,7 +59,7 @@ module _ (h : written-history.History) (c : written-certificate.Certificate) (ro
     unfolding certificateOf text-record.certificateOf lengthsOf
     made lengths views e =
         ap₂ {C = written-certificate.Certificate} (λ (ps : List EventList) (ns : List ℕ). record { criterion = Weak; pasts = ps; lengths = ns })
-        (ap (λ (x : written-certificate.Certificate). x .pasts) (facts h (p .history) c rows (p .certificate) few-views .record-is)) e
+        (ap (λ (x : written-certificate.Certificate). x .pasts) (fits-passed h c rows p .record-is)) e
 
     pub converge-record : (lengths : List ℕ) (out : List (List ℕ))
         → out ≡ rowsOf (cutViews (h .count) (inRows rows-of) (take (h .count) (getD rows 0 [])))

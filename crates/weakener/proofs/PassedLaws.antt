@@ -2,30 +2,32 @@
 use Prim.Native.Nat.{ℕ, zero, suc, _+_, _≤_, _<_}
 use native.Mathlib.Omega.{arith}
 use mathlib.Core.Path.{_≡_, refl, sym, ap, _∙_, subst}
-use mathlib.Core.Bool.{Bool, true, false, not}
-use mathlib.Core.List.{List, [], _∷_, map}
-use lib.ListN.{length, getD, take, List·getD-map}
+use mathlib.Core.Bool.{Bool, true, false, not, false≢true}
+use mathlib.Core.List.{List, [], _∷_}
+use lib.ListN.{length, getD, take}
 use lib.Dec.{eqb, ltb}
 use borrow.Author.Tests.{ltb-true, lt-ltb, ne-eqb}
+use Rattle.history.specs.declared.record.Event.{Event}
 use Rattle.history.specs.declared.record.History.{History}
 use Rattle.history.specs.Record.{eventsIn}
-use Rattle.history.proofs.PadLaws.{getD-pad}
 use Rattle.history_theorems.proofs.Guarantees.{within-sound}
 use Rattle.certificate.specs.declared.record.Criterion.{Criterion}
-use Rattle.certificate.specs.declared.record.Criterion.the-variants.{Sequential}
+use Rattle.certificate.specs.declared.record.Criterion.the-variants.{Pram, Weak, Causal, Converge, Sequential}
 use Rattle.certificate.specs.declared.record.Certificate as written-certificate
-use Rattle.certificate.specs.Record.{viewsIn}
+use Rattle.certificate.specs.Record.{noList}
 use Rattle.certificate.specs.Record as text-record
 use Rattle.certificate.specs.Criteria.{viewNumbers}
 use Rattle.certificate.proofs.FitsLaws.{Fits, fits-facts}
 use Rattle.certificate.proofs.NumberingLaws.{numbers-few}
 use Rattle.criteria.specs.Tests.{keepIf, keep, more, count, mem}
+use Rattle.criteria.specs.History as lists
 use Rattle.criteria.specs.History.{size, IsView, isEvent}
 use Rattle.criteria.specs.Certificate.{viewCount, viewSet, order, Readable}
 use Rattle.criteria.specs.Records.{historyOf, certificateOf}
 use Rattle.criteria.proofs.Lists.{count-keep, mem-of-count, once-of-count, length-once}
 use Rattle.criteria.proofs.Check.{Good, check-good}
-use Rattle.faults.proofs.CheckLaws.{size-of, few-of, readable-of, event-views, view-same}
+use Rattle.orders.specs.Rows.{ShortList}
+use Rattle.faults.proofs.CheckLaws.{size-of, few-of, readable-of, short-past, length-made, event-views, view-same}
 use Rattle.weakener.specs.Steps.{Passed}
 
 -- ---- a list of all numbers below n, each once, has n entries
@@ -58,6 +60,30 @@ all-length n v i =
     let least = all-there n v (λ e l. rw (i e, lt-ltb e n l) (omega arith)) in
     omega (arith, most, least)
 
+-- ---- the criteria with one view, of all events
+abbrev pub hasOneView : Criterion → Bool
+hasOneView Pram = false
+hasOneView Weak = false
+hasOneView Causal = false
+hasOneView Converge = true
+hasOneView Sequential = true
+
+one-of : (w : Criterion) → hasOneView w ≡ true → (es : List Event) → length (viewNumbers w es) ≡ 1
+unfolding viewNumbers
+one-of Pram e es = absurd (false≢true e)
+one-of Weak e es = absurd (false≢true e)
+one-of Causal e es = absurd (false≢true e)
+one-of Converge e es = refl
+one-of Sequential e es = refl
+
+all-of : (w : Criterion) → hasOneView w ≡ true → (h : lists.History) (R : ℕ → ℕ → Bool) (v : List ℕ)
+    → (0 < viewCount w h → IsView (viewSet w h R 0) v) → IsView (isEvent h) v
+all-of Pram e h R v f = absurd (false≢true e)
+all-of Weak e h R v f = absurd (false≢true e)
+all-of Causal e h R v f = absurd (false≢true e)
+all-of Converge e h R v f = f (omega arith)
+all-of Sequential e h R v f = f (omega arith)
+
 -- ---- a record that passed
 module _ (h : History) (c : written-certificate.Certificate) (rows : List (List ℕ)) (p : Passed h c rows) where
   pub size-passed : size (historyOf h) ≡ h .count
@@ -66,7 +92,7 @@ module _ (h : History) (c : written-certificate.Certificate) (rows : List (List 
   pub few-passed : h .count ≤ 64
   few-passed = few-of h (p .history)
 
-  few-events : length (eventsIn h) ≤ 64
+  pub few-events : length (eventsIn h) ≤ 64
   few-events = omega (arith, within-sound h (p .history) .events, few-passed)
 
   pub few-numbers : (w : Criterion) → length (viewNumbers w (eventsIn h)) ≤ 64
@@ -81,36 +107,28 @@ module _ (h : History) (c : written-certificate.Certificate) (rows : List (List 
   pub good-passed : Good (historyOf h) (certificateOf h c rows .criterion) (order (historyOf h) (certificateOf h c rows)) (certificateOf h c rows .views)
   good-passed = check-good (historyOf h) (certificateOf h c rows) readable-passed (p .passes)
 
+  pub short-passed : (k : ℕ) → ShortList (getD (c .pasts) k noList)
+  short-passed = short-past h (p .history) c rows (p .certificate) (few-numbers (c .criterion))
+
   length-passed : (k : ℕ) → getD (c .lengths) k 0 ≡ length (getD (certificateOf h c rows .views) k [])
-  unfolding certificateOf text-record.certificateOf
-  length-passed k =
-      let viewed : List (List ℕ) = viewsIn (length (viewNumbers (c .criterion) (eventsIn h))) c rows in
-      ap (λ (x : written-certificate.Certificate). getD (x .lengths) k 0) (fits-passed .record-is)
-      ∙ getD-pad 64 0 (map length viewed) k
-      ∙ List·getD-map length viewed k []
+  unfolding certificateOf
+  length-passed = length-made h (p .history) c rows (p .certificate) (few-numbers (c .criterion))
 
-  -- ---- of sequential
-  module _ (is : c .criterion ≡ Sequential) where
-    criterion-is : certificateOf h c rows .criterion ≡ Sequential
-    unfolding certificateOf
-    criterion-is = is
-
+  -- ---- of a criterion with one view: sequential and converge
+  module _ (w : Criterion) (is : c .criterion ≡ w) (one : hasOneView w ≡ true) where
     one-number : length (viewNumbers (c .criterion) (eventsIn h)) ≡ 1
-    unfolding viewNumbers
-    one-number = rw is
+    one-number = ap (λ (k : Criterion). length (viewNumbers k (eventsIn h))) is ∙ one-of w one (eventsIn h)
 
     -- the one view is all events
     pub one-view : IsView (λ e. ltb e (h .count)) (getD (certificateOf h c rows .views) 0 [])
+    unfolding certificateOf
     one-view =
         subst (λ (n : ℕ). IsView (λ e. ltb e n) (getD (certificateOf h c rows .views) 0 [])) size-passed
-        (of-all (certificateOf h c rows .criterion) criterion-is (good-passed .isView 0))
-      where
-        of-all : (w : Criterion) → w ≡ Sequential
-            → (0 < viewCount w (historyOf h) → IsView (viewSet w (historyOf h) (order (historyOf h) (certificateOf h c rows)) 0) (getD (certificateOf h c rows .views) 0 []))
-            → IsView (isEvent (historyOf h)) (getD (certificateOf h c rows .views) 0 [])
-        of-all w q f = (rw q at f) (omega arith)
+        (all-of w one (historyOf h) (order (historyOf h) (certificateOf h c rows)) (getD (certificateOf h c rows .views) 0 [])
+        (subst (λ (k : Criterion). 0 < viewCount k (historyOf h) → IsView (viewSet k (historyOf h) (order (historyOf h) (certificateOf h c rows)) 0) (getD (certificateOf h c rows .views) 0 [])) is
+        (good-passed .isView 0)))
 
-    one-length : getD (c .lengths) 0 0 ≡ h .count
+    pub one-length : getD (c .lengths) 0 0 ≡ h .count
     one-length = length-passed 0 ∙ all-length (h .count) (getD (certificateOf h c rows .views) 0 []) one-view
 
     -- it is the beginning of the first row

@@ -168,7 +168,7 @@ module _ (h : written-history.History) (c : written-certificate.Certificate) (ro
         → IsRecordOf (weakened Pram (historyOf h) (certificateOf h c rows)) (record { criterion = Pram; pasts = pasts; lengths = lengths }) made
     pram-is pasts m p k a b =
         is-record _ Pram [] (table m (λ _. take (h .count) (getD rows 0 []))) _ made
-        (pram-lists (historyOf h) (certificateOf h c rows) _ m (same-criterion h c rows Sequential is) (one-begins h c rows passed is) k)
+        (pram-lists (historyOf h) (certificateOf h c rows) _ m (same-criterion h c rows Sequential is) (one-begins h c rows passed Sequential is refl) k)
         (record-parts Pram pasts lengths [] _ (p ∙ sym (pad-none 64 noList)) b)
         a
 
@@ -177,7 +177,7 @@ module _ (h : written-history.History) (c : written-certificate.Certificate) (ro
         → IsRecordOf (weakened w (historyOf h) (certificateOf h c rows)) (record { criterion = w; pasts = pasts; lengths = lengths }) made
     events-is w pasts t p a b =
         is-record _ w _ _ _ made
-        (event-lists w (historyOf h) (certificateOf h c rows) _ (h .count) t (same-criterion h c rows Sequential is) (one-begins h c rows passed is) (sym (size-passed h c rows passed)))
+        (event-lists w (historyOf h) (certificateOf h c rows) _ (h .count) t (same-criterion h c rows Sequential is) (one-begins h c rows passed Sequential is refl) (sym (size-passed h c rows passed)))
         (record-parts w pasts lengths _ _ p b)
         a
 
@@ -186,6 +186,6 @@ module _ (h : written-history.History) (c : written-certificate.Certificate) (ro
         → IsRecordOf (weakened Converge (historyOf h) (certificateOf h c rows)) (record { criterion = Converge; pasts = pasts; lengths = lengths }) made
     converge-is pasts p a b =
         is-record _ Converge _ _ _ made
-        (converge-lists (historyOf h) (certificateOf h c rows) _ (h .count) (same-criterion h c rows Sequential is) (one-begins h c rows passed is) (sym (size-passed h c rows passed)))
+        (converge-lists (historyOf h) (certificateOf h c rows) _ (h .count) (same-criterion h c rows Sequential is) (one-begins h c rows passed Sequential is refl) (sym (size-passed h c rows passed)))
         (record-parts Converge pasts lengths _ _ p b)
         a

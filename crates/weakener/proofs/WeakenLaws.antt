@@ -1,5 +1,5 @@
 -- Laws of the answer of a weakening. Assumes nothing.
-use Prim.Native.Nat.{ℕ, zero, suc, _≤_}
+use Prim.Native.Nat.{ℕ, zero, suc}
 use native.Mathlib.Omega.{arith}
 use mathlib.Core.Path.{_≡_, refl, sym, ap, ap₂, _∙_, subst}
 use mathlib.Core.Bool.{Bool, true, false, cond, false≢true}
@@ -13,7 +13,6 @@ use Rattle.history.specs.declared.record.History as written-history
 use Rattle.history.specs.declared.record.Event.{Event}
 use Rattle.history.specs.Record.{eventsIn}
 use Rattle.history.specs.Readable.{within}
-use Rattle.history_theorems.proofs.Guarantees.{within-sound}
 use Rattle.certificate.specs.declared.record.Criterion.{Criterion}
 use Rattle.certificate.specs.declared.record.Certificate as written-certificate
 use Rattle.certificate.specs.Record as text-record
@@ -22,8 +21,7 @@ use Rattle.certificate.specs.Readable.{fits}
 use Rattle.certificate_reader.specs.declared.read.Text.the-variants.{Neither}
 use Rattle.certificate_writer.specs.declared.write.CertificateWritten.{CertificateWritten}
 use Rattle.certificate_writer.specs.WriteCertificate.{certificateWritten, certificateAfter}
-use Rattle.certificate_theorems.proofs.Guarantees.{fits-sound}
-use Rattle.criteria.specs.Certificate.{Certificate, Readable}
+use Rattle.criteria.specs.Certificate.{Certificate}
 use Rattle.criteria.specs.Check.{Fault, fault11, fault12, fault13, fault14, fault15, fault16, answerOf, check}
 use Rattle.criteria.specs.Weaken.{isPair, weakened}
 use Rattle.criteria.specs.Records.{historyOf, certificateOf}
@@ -35,6 +33,7 @@ use Rattle.faults.specs.Finding.{findingOf, isFound}
 use Rattle.checker.specs.CheckText.{Verdict, checked}
 use Rattle.checker.specs.WeakenText.{textOfLists, textIfSome, wantedOf}
 use Rattle.checker.proofs.ListTexts.{lists-fit, text-lists}
+use Rattle.weakener.proofs.PassedLaws.{few-events, readable-passed}
 use Rattle.weakener.specs.declared.weaken.Weakened.{Weakened}
 use Rattle.weakener.specs.Steps.{Passed, IsRecordOf}
 use Rattle.weakener.specs.Weakening.{IsPair}
@@ -147,12 +146,6 @@ module _ (h : written-history.History) (c : written-certificate.Certificate) (ro
   after-text = rw (w, f, says) refl
 
 module _ (h : written-history.History) (c : written-certificate.Certificate) (rows : List (List ℕ)) (w : Criterion) (p : Passed h c rows) where
-  few : length (eventsIn h) ≤ 64
-  few = let s = within-sound h (p .history) in omega (arith, s .events, s .count)
-
-  lists-readable : Readable (historyOf h) (certificateOf h c rows)
-  lists-readable = readable h c rows (fits-sound (eventsIn h) c rows few (p .certificate))
-
   -- the record of the weakened lists, written
   pub pair-weakens : isPair (c .criterion) w ≡ true → (r : written-certificate.Certificate) (made : List (List ℕ))
       → IsRecordOf (weakened w (historyOf h) (certificateOf h c rows)) r made
@@ -169,9 +162,9 @@ module _ (h : written-history.History) (c : written-certificate.Certificate) (ro
           (answered (c .criterion) Nothing (wr .number) (wr .length)) then
       go none e = absurd (false≢true (sym (ap isSome e) ∙ pair-weakened w (historyOf h) (certificateOf h c rows) ∙ pair))
       go (some d) e =
-          let a = weaken-accepted (historyOf h) w (certificateOf h c rows) d lists-readable (p .passes) e in
-          let fit = lists-fit h few d (a .readable) in
-          let says = text-lists h few d (a .readable) in
+          let a = weaken-accepted (historyOf h) w (certificateOf h c rows) d (readable-passed h c rows p) (p .passes) e in
+          let fit = lists-fit h (few-events h c rows p) d (a .readable) in
+          let says = text-lists h (few-events h c rows p) d (a .readable) in
           let same = subst (λ (o : Option Certificate). IsRecordOf o r made) e is in
           pair-written (checked (c .criterion) (answerOf (check (historyOf h) (certificateOf h c rows)))) (c .criterion)
           (textIfSome (eventsIn h) (weakened w (historyOf h) (certificateOf h c rows))) buffer (textOfLists (eventsIn h) d) wr then

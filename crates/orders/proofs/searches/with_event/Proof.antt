@@ -2,7 +2,7 @@
 use native.Mathlib.Omega.{arith}
 use mathlib.Core.Path.{_≡_}
 use lib.ListN.{length}
-use Rattle.orders.proofs.SearchLaws.{row-more}
+use Rattle.orders.proofs.ViewLaws.{row-more}
 use borrow.Author.Needs.{needs}
 use Rattle.orders.proofs.searches.with_event.Statement.{statement}
 use Rattle.orders.proofs.searches.with_event.Tie as tie

@@ -9,7 +9,8 @@ use lib.ListN.{length, take}
 use Rattle.orders.specs.Rows.{inRow}
 use Rattle.replays.specs.Replay.{lightHistory, contentsIn, foundEvent}
 use Rattle.replays.specs.Cut.{wrongCut}
-use Rattle.replays.proofs.CutLaws.{entry-small, part-ready, part-wrong, event-found, event-none, event-on, not-found}
+use Rattle.replays.proofs.SearchLaws.{none-on}
+use Rattle.replays.proofs.CutLaws.{entry-small, part-ready, part-wrong, event-found, event-none, not-found}
 use borrow.Author.Needs.{needs}
 
 abbrev Inv-loop : tie.InvT-loop
@@ -93,7 +94,7 @@ loop-again c =
     let s = i .before .before in
     let h : 64 ≤ r .replay .result = search needs in (
       omega (arith, next-e i),
-      event-on (s .args .size) (searched s) (l .e) (l .inv .1) (not-found (r .replay .result) _ h (found-here r)),
+      none-on (searched s) (l .e) (l .inv .1) (not-found (r .replay .result) _ h (found-here r)),
     )
 
 returns-2 : tie.Need-returns-2 Inv-loop μ-loop

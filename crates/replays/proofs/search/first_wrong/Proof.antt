@@ -6,7 +6,7 @@ use mathlib.Core.Option.{Option, none}
 use Rattle.replays.specs.declared.search.Place.{Place}
 use Rattle.replays.specs.Replay.{lightHistory, contentsIn}
 use Rattle.replays.specs.Search.{wrongIn}
-use Rattle.replays.proofs.SearchLaws.{wrong-here, wrong-not, place-found, place-none, place-on}
+use Rattle.replays.proofs.SearchLaws.{wrong-here, wrong-not, place-found, place-none, none-on}
 use borrow.Author.Needs.{needs}
 use Rattle.replays.proofs.search.first_wrong.Statement.{statement}
 use Rattle.replays.proofs.search.first_wrong.Tie as tie
@@ -77,7 +77,7 @@ loop-again c =
     let s = i .before .before in
     let h : 64 ≤ r .replay .result = search needs in (
       omega (arith, next-k i),
-      place-on (s .args .m) (searched s) (l .k) (l .inv .1) (wrong-not (l .k) (r .replay .result) _ (r .replay .ensures) h),
+      none-on (searched s) (l .k) (l .inv .1) (wrong-not (l .k) (r .replay .result) _ (r .replay .ensures) h),
     )
 
 returns-2 : tie.Need-returns-2 Inv-loop μ-loop

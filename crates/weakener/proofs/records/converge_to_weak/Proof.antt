@@ -3,13 +3,16 @@ use borrow.Author.Needs.{needs}
 use Rattle.weakener.proofs.records.converge_to_weak.Statement.{statement}
 use Rattle.weakener.proofs.records.converge_to_weak.Tie as tie
 use Rattle.faults.proofs.CheckLaws.{few-of}
-use Rattle.weakener.proofs.ConvergeRecords.{pasts-short, view-entries, converge-record}
+use mathlib.Core.Path.{refl}
+use Rattle.certificate.specs.declared.record.Criterion.the-variants.{Converge}
+use Rattle.weakener.proofs.PassedLaws.{short-passed, one-entries}
+use Rattle.weakener.proofs.ConvergeRecords.{converge-record}
 
 past-rows-requires : tie.Need-past-rows-requires
 past-rows-requires c κs =
     let s = c .before in (
       few-of (s .args .h) (s .pre .1 .history),
-      λ k l. pasts-short (s .args .h) (s .args .c) (s .args .t3) (s .pre .0) (s .pre .1) k,
+      λ k l. short-passed (s .args .h) (s .args .c) (s .args .t3) (s .pre .1) k,
     )
 
 array-copy-out-view : tie.Need-array-copy-out-view
@@ -19,7 +22,7 @@ cut-views-requires : tie.Need-cut-views-requires
 cut-views-requires c κs =
     let s = c .before .before .before .before .before in
     let few = few-of (s .args .h) (s .pre .1 .history) in
-    (few, few, view-entries (s .args .h) (s .args .c) (s .args .t3) (s .pre .0) (s .pre .1))
+    (few, few, one-entries (s .args .h) (s .args .c) (s .args .t3) (s .pre .1) Converge (s .pre .0) refl)
 
 returns : tie.Need-returns
 returns c =
