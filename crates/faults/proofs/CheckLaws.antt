@@ -142,7 +142,7 @@ module _ (h : written-history.History) (w : within h ≡ true) where
       ∙ ap (λ (x : Event). x .process) (event-is h e (omega (arith, sound-h .events)))
       ∙ ap (λ x. x .process .0) (getD-take (h .count) (h .events) e noEvent l)
 
-  pub program-of : (ps : List ℕ) (program : List (List Bool)) → ((e : ℕ) → e < 64 → getD ps e 0 ≡ getD (h .events) e noEvent .process .0)
+  pub program-of : (ps : List ℕ) (program : List ℕ) → ((e : ℕ) → e < 64 → getD ps e 0 ≡ getD (h .events) e noEvent .process .0)
       → IsOrder program (programIn (h .count) ps) → IsOrder program (programOrder (historyOf h))
   program-of ps program q o a b =
       o a b
@@ -233,7 +233,7 @@ module _ (h : written-history.History) (w : within h ≡ true) where
     view-same m q k l = view-begins (c .lengths) rows (length (viewNumbers (c .criterion) (eventsIn h))) k (omega (arith, q))
 
     -- the rows of the order are the order of the lists
-    module _ (program order-rows : List (List Bool)) (is-program : IsOrder program (programOrder (historyOf h)))
+    module _ (program order-rows : List ℕ) (is-program : IsOrder program (programOrder (historyOf h)))
         (ordered : (a b : ℕ) → inRows order-rows a b ≡ cond (hasPasts (c .criterion)) (listed (map entriesIn (take (h .count) (c .pasts))) a b) (inRows program a b)) where
       order-is : inRows order-rows ≡ order (historyOf h) lists
       unfolding certificateOf

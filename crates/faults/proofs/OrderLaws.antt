@@ -11,26 +11,26 @@ use Rattle.criteria.specs.History.{History, size, programOrder}
 use Rattle.criteria.specs.Check.{Fault, fault11, fault12, fault13, lacksOwn, lacksPast, find11, find12, find13}
 use Rattle.criteria.proofs.Check.{program-parts}
 use Rattle.orders.specs.Rows.{inRows, foundAt, IsOrder}
-use Rattle.orders.proofs.ViewLaws.{any-same}
+use Rattle.orders.proofs.BitLaws.{any-same}
 use Rattle.orders.proofs.SizeLaws.{and-no, any-fewer, past-size}
 use Rattle.faults.specs.Steps.{orderFault}
 use Rattle.faults.proofs.FoundLaws.{found-same, found-some, found-none}
 
 -- the tests of 11 to 13 on rows
-abbrev pub lacks : List (List Bool) → List (List Bool) → ℕ → Bool
+abbrev pub lacks : List ℕ → List ℕ → ℕ → Bool
 lacks rows must e = any 64 (λ f. inRows must f e && not (inRows rows f e))
 
-abbrev pub own : List (List Bool) → ℕ → Bool
+abbrev pub own : List ℕ → ℕ → Bool
 own rows e = inRows rows e e
 
-abbrev pub unclosed : List (List Bool) → ℕ → Bool
+abbrev pub unclosed : List ℕ → ℕ → Bool
 unclosed rows e = lacksPast 64 (inRows rows) e
 
 -- the search of a test stopped at r
 abbrev pub Stopped : (ℕ → Bool) → ℕ → ℕ → Type 0
 Stopped t n r = foundAt n r ≡ lowest n (λ e. foundIf (t e) e)
 
-module _ (rows must : List (List Bool)) (n a : ℕ) (p : Stopped (lacks rows must) n a) where
+module _ (rows must : List ℕ) (n a : ℕ) (p : Stopped (lacks rows must) n a) where
   pub is-11 : a < n → some (fault11 a) ≡ orderFault rows must n
   unfolding orderFault
   is-11 l = rw (found-some (lacks rows must) fault11 n a l p) refl
@@ -49,7 +49,7 @@ module _ (rows must : List (List Bool)) (n a : ℕ) (p : Stopped (lacks rows mus
       unfolding orderFault
       is-nothing k = rw (found-none (lacks rows must) fault11 n a l p, found-none (own rows) fault12 n b m q, found-none (unclosed rows) fault13 n c k r) refl
 
-module _ (h : History) (R : ℕ → ℕ → Bool) (rows must : List (List Bool)) (few : size h ≤ 64)
+module _ (h : History) (R : ℕ → ℕ → Bool) (rows must : List ℕ) (few : size h ≤ 64)
     (is-order : IsOrder rows R) (is-program : IsOrder must (programOrder h))
     (inside : (a b : ℕ) → R a b ≡ true → (a < size h) × (b < size h)) where
   -- nothing past the last event is before another in program order

@@ -71,7 +71,10 @@ module _ (h : written-history.History) (w : within h ≡ true) where
       (λ l. within-sound h w .event e (omega (arith, l, within-limits h w .all)) .few)
       (λ l. rw (List·getD-eq-default (eventsIn h) noEvent {n = e} l) (omega arith)))
 
-  -- an event's object is declared
+  -- an event's process is below 8, and its object is declared
+  pub process-small : (e : ℕ) → e < h .count → getD (h .events) e noEvent .process .0 < 8
+  process-small e l = rw (events-agree e) (within-sound h w .event e l .process)
+
   pub object-declared : (e : ℕ) → e < h .count → event (criteria-records.historyOf h) e .object < length (objectsIn h)
   unfolding criteria-records.eventOf
   object-declared e l =

@@ -224,7 +224,7 @@ module _ {h : written-history.History} {ls : List Light} {vs : List ℕ} {answer
   pub view-there : isConverge c ≡ true → 0 < m
   view-there one = omega (arith, asked .1, view-count c h, ap (λ (x : Criterion). viewCount x (historyOf h)) (converge-is c one))
 
-  module _ (rows : List (List Bool)) (one : isConverge c ≡ true) where
+  module _ (rows : List ℕ) (one : isConverge c ≡ true) where
     -- the first wrong answer of the part of an event
     wrong-part : (e : ℕ)
         → wrongCut (lightHistory (h .objects) (h .count) ls vs answers cs) (contentsIn vs states) rows (take (getD lengths 0 0) (getD views 0 [])) e

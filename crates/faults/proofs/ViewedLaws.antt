@@ -22,7 +22,7 @@ use Rattle.faults.specs.Steps.{eventEach, setAt, viewFault}
 use Rattle.faults.proofs.FoundLaws.{lowest-same, found-some, found-none}
 
 -- ---- what the two searches say of the fault
-module _ (each : Bool) (views : List (List ℕ)) (lengths numbers : List ℕ) (rows : List (List Bool)) (m n : ℕ) where
+module _ (each : Bool) (views : List (List ℕ)) (lengths numbers : List ℕ) (rows : List ℕ) (m n : ℕ) where
   -- the tests of view k
   abbrev pub notSet : ℕ → Bool
   notSet k = notItsSet 64 (setAt each rows n k) (viewAt views lengths k)
@@ -60,7 +60,7 @@ module _ (each : Bool) (views : List (List ℕ)) (lengths numbers : List ℕ) (r
           subst (λ (f : ℕ). f < 64) (place-in e (getD views k []) (p .0) .1) (s .entries k h (place e (getD views k [])) (p .1))
 
 -- ---- the fault is that of the check
-module _ (w : Criterion) (h : History) (R : ℕ → ℕ → Bool) (rows : List (List Bool)) (views : List (List ℕ)) (lengths numbers : List ℕ) (vs : List (List ℕ)) (m : ℕ)
+module _ (w : Criterion) (h : History) (R : ℕ → ℕ → Bool) (rows : List ℕ) (views : List (List ℕ)) (lengths numbers : List ℕ) (vs : List (List ℕ)) (m : ℕ)
     (few : size h ≤ 64) (is-order : IsOrder rows R) (inside : (a b : ℕ) → R a b ≡ true → (a < size h) × (b < size h))
     (counted : m ≡ viewCount w h)
     (named : (k : ℕ) → k < m → getD numbers k 0 ≡ viewNumber w h k)

@@ -12,7 +12,7 @@ use Rattle.criteria.specs.Check.{Fault, fault11, fault12, fault13, fault14, fau
 use Rattle.orders.specs.Rows.{inRows, viewAt}
 
 -- 11, 12 and 13 of the order of rows, over the first n events.
-unfoldable pub orderFault : List (List Bool) → List (List Bool) → ℕ → Option Fault
+unfoldable pub orderFault : List ℕ → List ℕ → ℕ → Option Fault
 orderFault rows must n =
     or (lowest n (λ e. foundIf (any 64 (λ f. inRows must f e && not (inRows rows f e))) (fault11 e)))
     (or (lowest n (λ e. foundIf (inRows rows e e) (fault12 e)))
@@ -26,12 +26,12 @@ eventEach Causal = true
 eventEach Converge = false
 eventEach Sequential = false
 
-abbrev pub setAt : Bool → List (List Bool) → ℕ → ℕ → ℕ → Bool
+abbrev pub setAt : Bool → List ℕ → ℕ → ℕ → ℕ → Bool
 setAt true rows n k f = inRows rows f k || eqb f k
 setAt false rows n k f = ltb f n
 
 -- 14 and 15 of the first m views.
-unfoldable pub viewFault : Bool → List (List ℕ) → List ℕ → List ℕ → List (List Bool) → ℕ → ℕ → Option Fault
+unfoldable pub viewFault : Bool → List (List ℕ) → List ℕ → List ℕ → List ℕ → ℕ → ℕ → Option Fault
 viewFault each views lengths numbers rows m n =
     or (lowest m (λ k. foundIf (notItsSet 64 (setAt each rows n k) (viewAt views lengths k)) (fault14 (getD numbers k 0))))
     (lowest m (λ k. foundIf (against (inRows rows) (viewAt views lengths k)) (fault15 (getD numbers k 0))))

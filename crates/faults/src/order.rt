@@ -51,8 +51,8 @@ pub(crate) fn order_rows(
     c: Criterion,
     pasts: [EventList; 64],
     n: usize,
-    program: [[bool; 64]; 64],
-) -> [[bool; 64]; 64]
+    program: [u64; 64],
+) -> [u64; 64]
     requires { ⌜ (n ≤ 64) × (hasPasts c ≡ true → (k : ℕ) → k < n → ShortList (getD pasts k noList)) ⌝ }
     ensures { λ r. ⌜ ((a b : ℕ) → inRows r a b ≡ cond (hasPasts c) (listed (map entriesIn (take n pasts)) a b) (inRows program a b)) ⌝ }
 {
@@ -63,7 +63,7 @@ pub(crate) fn order_rows(
 }
 
 // 11, 12 and 13 of the first n events, in this order; `must` is program order.
-pub(crate) fn order_fault(rows: &[[bool; 64]; 64], must: &[[bool; 64]; 64], n: usize) -> Finding
+pub(crate) fn order_fault(rows: &[u64; 64], must: &[u64; 64], n: usize) -> Finding
     requires { ⌜ n ≤ 64 ⌝ }
     ensures { λ r. ⌜ findingOf r ≡ orderFault (now (rows .entry)) (now (must .entry)) n ⌝ }
 {

@@ -42,7 +42,7 @@ fn is_converge(c: Criterion) -> bool
 pub(crate) fn replay_fault(
     h: History,
     c: Criterion,
-    rows: &[[bool; 64]; 64],
+    rows: &[u64; 64],
     views: &[[u8; 64]; 64],
     lengths: [u8; 64],
     numbers: [u8; 64],

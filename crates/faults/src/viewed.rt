@@ -30,7 +30,7 @@ fn first_not_set(
     each: bool,
     views: &[[u8; 64]; 64],
     lengths: [u8; 64],
-    rows: &[[bool; 64]; 64],
+    rows: &[u64; 64],
     m: usize,
     n: usize,
 ) -> usize
@@ -49,7 +49,7 @@ pub(crate) fn view_fault(
     views: &[[u8; 64]; 64],
     lengths: [u8; 64],
     numbers: [u8; 64],
-    rows: &[[bool; 64]; 64],
+    rows: &[u64; 64],
     m: usize,
     n: usize,
 ) -> Finding

@@ -1,3 +1,4 @@
+pub mod BitLaws
 pub mod RowLaws
 pub mod ViewLaws
 pub mod SearchLaws

@@ -1,7 +1,7 @@
 -- What the loops over rows need: one turn of a search for some number, and the lowest number that is found. Assumes nothing.
 use mathlib.Core.Path.{_≡_, refl, sym, ap, _∙_}
 use mathlib.Core.Bool.{Bool, true, false, not, _&&_, _||_}
-use mathlib.Core.List.{List, []}
+use mathlib.Core.List.{List}
 use Prim.Native.Nat.{ℕ, _+_, _≤_, _<_}
 use native.Mathlib.Numerals.{add-one}
 use native.Mathlib.Omega.{arith}
@@ -32,19 +32,19 @@ found-nowhere t n k h l g =
     (h, rw (le-ltb k n l) (sym (none-lowest n (λ i. foundIf (t i) i) (λ i m. ap (λ (b : Bool). foundIf b i) (g i (omega arith))))))
 
 -- g is in row a and not in row b; it is in both; the row of e lacks something that it must have
-abbrev pub apart : List Bool → List Bool → ℕ → Bool
+abbrev pub apart : ℕ → ℕ → ℕ → Bool
 apart a b g = inRow a g && not (inRow b g)
 
-abbrev pub both : List Bool → List Bool → ℕ → Bool
+abbrev pub both : ℕ → ℕ → ℕ → Bool
 both a b g = inRow a g && inRow b g
 
-abbrev pub lacks : List (List Bool) → List (List Bool) → ℕ → Bool
-lacks rows must e = any 64 (apart (getD must e []) (getD rows e []))
+abbrev pub lacks : List ℕ → List ℕ → ℕ → Bool
+lacks rows must e = any 64 (apart (getD must e 0) (getD rows e 0))
 
 -- f is before e, and some event is before f and not before e
-abbrev pub lacking : List (List Bool) → ℕ → ℕ → Bool
-lacking rows e f = inRows rows f e && any 64 (apart (getD rows f []) (getD rows e []))
+abbrev pub lacking : List ℕ → ℕ → ℕ → Bool
+lacking rows e f = inRows rows f e && any 64 (apart (getD rows f 0) (getD rows e 0))
 
-pub lacking-past : (rows : List (List Bool)) (e : ℕ) → any 64 (lacking rows e) ≡ lacksPast 64 (inRows rows) e
+pub lacking-past : (rows : List ℕ) (e : ℕ) → any 64 (lacking rows e) ≡ lacksPast 64 (inRows rows) e
 unfolding lacksPast
 lacking-past rows e = refl

@@ -9,6 +9,7 @@ use Rattle.layout.proofs.Cases.{by-lt, by-bool}
 use Rattle.criteria.specs.Tests.{any, count, one, mem}
 use Rattle.criteria.specs.Check.{lacksPast, notItsSet}
 use Rattle.criteria.proofs.Lists.{count-out}
+use Rattle.orders.proofs.BitLaws.{any-same}
 
 or-no : (a b : Bool) → b ≡ false → (a || b) ≡ a
 or-no true b e = refl
@@ -29,11 +30,6 @@ any-fewer (suc m) n f h out =
     (λ l. or-no (any m f) (f m) (out m (omega arith)) ∙ any-fewer m n f (omega arith) out)
     (λ l. let z : n ≡ suc m = omega arith in rw z)
 
--- a test that two functions agree on
-any-same : (n : ℕ) (f g : ℕ → Bool) → ((k : ℕ) → f k ≡ g k) → any n f ≡ any n g
-any-same zero f g e = refl
-any-same (suc n) f g e = rw (any-same n f g e, e n)
-
 -- an order of the events below n
 module _ (n : ℕ) (few : n ≤ 64) (R : ℕ → ℕ → Bool) (inside : (a b : ℕ) → R a b ≡ true → (a < n) × (b < n)) where
   outside : (a b : ℕ) → n ≤ a → R a b ≡ false
@@ -44,7 +40,7 @@ module _ (n : ℕ) (few : n ≤ 64) (R : ℕ → ℕ → Bool) (inside : (a b : 
   past-size e =
       any-fewer 64 n (λ f. R f e && any 64 (λ g. R g f && not (R g e))) few (λ f h. and-no (R f e) _ (outside f e h))
       ∙ any-same n (λ f. R f e && any 64 (λ g. R g f && not (R g e))) (λ f. R f e && any n (λ g. R g f && not (R g e)))
-      (λ f. ap (λ (t : Bool). R f e && t) (any-fewer 64 n (λ g. R g f && not (R g e)) few (λ g h. and-no (R g f) _ (outside g f h))))
+      (λ f l. ap (λ (t : Bool). R f e && t) (any-fewer 64 n (λ g. R g f && not (R g e)) few (λ g h. and-no (R g f) _ (outside g f h))))
 
 -- a set and a view of events below n
 pub set-size : (n : ℕ) → n ≤ 64 → (P : ℕ → Bool) (v : List ℕ) → ((e : ℕ) → P e ≡ true → e < n) → ((e : ℕ) → mem e v ≡ true → e < n)

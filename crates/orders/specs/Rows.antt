@@ -1,19 +1,19 @@
--- Orders and sets of events as rows of bools.
-use Prim.Native.Nat.{ℕ, _≤_, _<_}
+-- Orders and sets of events as rows of 64 bits.
+use Prim.Native.Nat.{ℕ, _/_, _%_, _^_, _≤_, _<_}
 use mathlib.Core.Path.{_≡_}
-use mathlib.Core.Bool.{Bool, false, cond, _&&_}
+use mathlib.Core.Bool.{Bool, cond, _&&_}
 use mathlib.Core.List.{List, []}
 use mathlib.Core.Option.{Option, none, some}
 use lib.ListN.{getD, take}
 use lib.Dec.{eqb, ltb}
 use Rattle.certificate.specs.declared.record.EventList.{EventList}
 
--- The set of a row, and the order of rows: row b says which events come before b.
-abbrev pub inRow : List Bool → ℕ → Bool
-inRow row e = getD row e false
+-- The set of a row: event e is in it where bit e is 1. The order of rows: row b says which events come before b.
+unfoldable pub inRow : ℕ → ℕ → Bool
+inRow row e = eqb (row / 2 ^ e % 2) 1
 
-abbrev pub inRows : List (List Bool) → ℕ → ℕ → Bool
-inRows rows a b = getD (getD rows b []) a false
+abbrev pub inRows : List ℕ → ℕ → ℕ → Bool
+inRows rows a b = inRow (getD rows b 0) a
 
 -- The number found below n, or n where none is.
 abbrev pub foundAt : ℕ → ℕ → Option ℕ
@@ -34,13 +34,9 @@ abbrev pub viewAt : List (List ℕ) → List ℕ → ℕ → List ℕ
 viewAt views lengths k = take (getD lengths k 0) (getD views k [])
 
 -- Rows are an order.
-abbrev pub IsOrder : List (List Bool) → (ℕ → ℕ → Bool) → Type 0
+abbrev pub IsOrder : List ℕ → (ℕ → ℕ → Bool) → Type 0
 IsOrder rows R = (a b : ℕ) → inRows rows a b ≡ R a b
 
 -- Program order of the first n events by their processes: a comes before b when both are of one process and a has the smaller number.
 abbrev pub programIn : ℕ → List ℕ → ℕ → ℕ → Bool
 programIn n ps a b = ltb a b && ltb b n && eqb (getD ps a 0) (getD ps b 0)
-
--- A row says of the events below k which are of b's process.
-abbrev pub IsEarlier : List ℕ → ℕ → ℕ → List Bool → Type 0
-IsEarlier ps b k row = (a : ℕ) → inRow row a ≡ (ltb a k && eqb (getD ps a 0) (getD ps b 0))

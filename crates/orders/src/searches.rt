@@ -6,31 +6,22 @@ ghost use lib.Dec.{eqb, ltb};
 ghost use Rattle.criteria.specs.Tests.{lowest, foundIf, count};
 ghost use Rattle.criteria.specs.Check.{notItsSet, against};
 ghost use Rattle.orders.specs.Rows.{inRow, inRows, foundAt, ShortViews, viewAt};
+use crate::sets::with_event;
 use crate::views::against_order;
 use crate::views::not_its_set;
 
 // The row of the first n events.
-fn all_row(n: usize) -> [bool; 64]
+fn all_row(n: usize) -> u64
     requires { ⌜ n ≤ 64 ⌝ }
     ensures { λ r. ⌜ ((e : ℕ) → inRow r e ≡ ltb e n) ⌝ }
 {
-    let mut row = [false; 64];
+    let mut row: u64 = 0;
     let mut i = 0;
     while i < n {
-        row[i] = true;
+        row = with_event(row, i);
         i += 1;
     }
     row
-}
-
-// A row and one event more.
-pub fn with_event(row: [bool; 64], e: usize) -> [bool; 64]
-    requires { ⌜ e < 64 ⌝ }
-    ensures { λ r. ⌜ ((f : ℕ) → inRow r f ≡ (inRow row f || eqb f e)) ⌝ }
-{
-    let mut more = row;
-    more[e] = true;
-    more
 }
 
 // 14: the lowest of the first m views that is not all n events, each once, or m.
@@ -55,7 +46,7 @@ pub fn first_not_all(views: &[[u8; 64]; 64], lengths: [u8; 64], m: usize, n: usi
 pub fn first_not_past(
     views: &[[u8; 64]; 64],
     lengths: [u8; 64],
-    rows: &[[bool; 64]; 64],
+    rows: &[u64; 64],
     m: usize,
 ) -> usize
     requires { ⌜ (m ≤ 64) × ShortViews (now views) lengths m ⌝ }
@@ -76,12 +67,7 @@ pub fn first_not_past(
 }
 
 // 15: the lowest of the first m views, none with an entry twice, that is against the order, or m.
-pub fn first_against(
-    views: &[[u8; 64]; 64],
-    lengths: [u8; 64],
-    rows: &[[bool; 64]; 64],
-    m: usize,
-) -> usize
+pub fn first_against(views: &[[u8; 64]; 64], lengths: [u8; 64], rows: &[u64; 64], m: usize) -> usize
     requires { ⌜ (m ≤ 64) × ShortViews (now views) lengths m × ((k : ℕ) → k < m → (e : ℕ) → count e (viewAt (now views) lengths k) ≤ 1) ⌝ }
     ensures { λ r. ⌜ (r ≤ m) × (foundAt m r ≡ lowest m (λ k. foundIf (against (inRows (now (rows .entry))) (viewAt (now (views .entry)) lengths k)) k)) ⌝ }
 {

@@ -1,57 +1,35 @@
 // Tests of a view: its first n entries are numbers of events.
 ghost use mathlib.Core.Path.{_≡_};
-ghost use mathlib.Core.Bool.{_&&_};
 ghost use Prim.Native.Nat.{ℕ, _≤_, _<_};
 ghost use lib.ListN.{take, getD};
 ghost use Rattle.certificate.specs.Record.{entriesIn};
-ghost use Rattle.criteria.specs.Tests.{any, keep, one, count, mem};
+ghost use Rattle.criteria.specs.Tests.{keep, one, count, mem};
 ghost use Rattle.criteria.specs.Check.{notItsSet, against};
 ghost use Rattle.orders.specs.Rows.{inRow, inRows};
+use crate::sets::holds_some;
+use crate::sets::in_row;
+use crate::sets::meets;
+use crate::sets::with_event;
+use crate::sets::without_event;
 use certificate::record::EventList;
 
-// Whether some event is in a row.
-fn holds_some(row: [bool; 64]) -> bool
-    ensures { λ r. ⌜ r ≡ any 64 (inRow row) ⌝ }
-{
-    let mut some = false;
-    let mut g = 0;
-    while g < 64 {
-        some = some | row[g];
-        g += 1;
-    }
-    some
-}
-
-// Whether some event is in both rows.
-fn meets(a: [bool; 64], b: [bool; 64]) -> bool
-    ensures { λ r. ⌜ r ≡ any 64 (λ g. inRow a g && inRow b g) ⌝ }
-{
-    let mut some = false;
-    let mut g = 0;
-    while g < 64 {
-        some = some | (a[g] & b[g]);
-        g += 1;
-    }
-    some
-}
-
 // The row of the first n entries of a view.
-pub fn marks(view: [u8; 64], n: usize) -> [bool; 64]
+pub fn marks(view: [u8; 64], n: usize) -> u64
     requires { ⌜ (n ≤ 64) × ((k : ℕ) → k < n → getD view k 0 < 64) ⌝ }
     ensures { λ r. ⌜ ((e : ℕ) → inRow r e ≡ mem e (take n view)) ⌝ }
 {
-    let mut row = [false; 64];
+    let mut row: u64 = 0;
     let mut i = 0;
     while i < n {
         let x = view[i] as usize;
-        row[x] = true;
+        row = with_event(row, x);
         i += 1;
     }
     row
 }
 
 // 14: whether the first n entries of a view are not the set of a row, each once.
-pub fn not_its_set(view: [u8; 64], n: usize, set: [bool; 64]) -> bool
+pub fn not_its_set(view: [u8; 64], n: usize, set: u64) -> bool
     requires { ⌜ (n ≤ 64) × ((k : ℕ) → k < n → getD view k 0 < 64) ⌝ }
     ensures { λ r. ⌜ r ≡ notItsSet 64 (inRow set) (take n view) ⌝ }
 {
@@ -59,17 +37,17 @@ pub fn not_its_set(view: [u8; 64], n: usize, set: [bool; 64]) -> bool
     let mut i = 0;
     while i < n {
         let x = view[i] as usize;
-        if !left[x] {
+        if !in_row(left, x) {
             return true;
         }
-        left[x] = false;
+        left = without_event(left, x);
         i += 1;
     }
     holds_some(left)
 }
 
 // 15: whether the first n entries of a view, none of them twice, are against an order.
-pub fn against_order(view: [u8; 64], n: usize, rows: &[[bool; 64]; 64]) -> bool
+pub fn against_order(view: [u8; 64], n: usize, rows: &[u64; 64]) -> bool
     requires { ⌜ (n ≤ 64) × ((k : ℕ) → k < n → getD view k 0 < 64) × ((e : ℕ) → count e (take n view) ≤ 1) ⌝ }
     ensures { λ r. ⌜ r ≡ against (inRows (now (rows .entry))) (take n view) ⌝ }
 {
@@ -81,7 +59,7 @@ pub fn against_order(view: [u8; 64], n: usize, rows: &[[bool; 64]; 64]) -> bool
         if meets(later, past) {
             return true;
         }
-        later[x] = false;
+        later = without_event(later, x);
         i += 1;
     }
     false
@@ -98,7 +76,7 @@ fn one_if(passed: bool) -> usize
 }
 
 // The first n entries of a view, cut down to those of a row.
-pub fn cut_to(view: [u8; 64], n: usize, kept: [bool; 64]) -> EventList
+pub fn cut_to(view: [u8; 64], n: usize, kept: u64) -> EventList
     requires { ⌜ (n ≤ 64) × ((k : ℕ) → k < n → getD view k 0 < 64) ⌝ }
     ensures { λ r. ⌜ (entriesIn r ≡ keep (inRow kept) (take n view)) × (r .count ≤ n) ⌝ }
 {
@@ -108,7 +86,7 @@ pub fn cut_to(view: [u8; 64], n: usize, kept: [bool; 64]) -> EventList
     while i < n {
         let x = view[i];
         events[count] = x;
-        count += one_if(kept[x as usize]);
+        count += one_if(in_row(kept, x as usize));
         i += 1;
     }
     EventList { count, events }

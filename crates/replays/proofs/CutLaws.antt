@@ -5,7 +5,7 @@ use native.Mathlib.Omega.{arith}
 use native.Mathlib.Nat.{min-le-left}
 use mathlib.Core.Path.{_≡_, refl, sym, ap, _∙_}
 use mathlib.Core.Bool.{Bool, true, _||_}
-use mathlib.Core.List.{List, []}
+use mathlib.Core.List.{List}
 use mathlib.Core.Option.{Option, none, some}
 use lib.ListN.{length, getD, take, length-take}
 use lib.Seq.{length-take-le, getD-take}
@@ -71,8 +71,8 @@ module _ (os : List Object) (size : ℕ) (ls : List Light) (vs cs : List ℕ) (s
       }
 
 -- the replay of the part of event e is that of the definition
-pub part-wrong : (h : History) (s : Contents) (rows : List (List Bool)) (view : List ℕ) (n e : ℕ) (row : List Bool) (cut : EventList) (o : Option ℕ)
-    → ((f : ℕ) → inRow row f ≡ (inRow (getD rows e []) f || eqb f e))
+pub part-wrong : (h : History) (s : Contents) (rows : List ℕ) (view : List ℕ) (n e : ℕ) (row : ℕ) (cut : EventList) (o : Option ℕ)
+    → ((f : ℕ) → inRow row f ≡ (inRow (getD rows e 0) f || eqb f e))
     → (entriesIn cut ≡ keep (inRow row) (take n view)) × (cut .count ≤ n)
     → o ≡ firstWrong h (only e) s (entriesIn cut)
     → o ≡ wrongCut h s rows (take n view) e

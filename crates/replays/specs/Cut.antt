@@ -1,6 +1,5 @@
 -- The first wrong answer of a view that is cut down to the past of an event and that event, whose answer alone is visible.
 use Prim.Native.Nat.{ℕ}
-use mathlib.Core.Bool.{Bool}
 use mathlib.Core.List.{List}
 use mathlib.Core.Option.{Option}
 use Rattle.criteria.specs.Tests.{keep}
@@ -9,5 +8,5 @@ use Rattle.criteria.specs.Replay.{Contents}
 use Rattle.criteria.specs.Check.{firstWrong}
 use Rattle.orders.specs.Rows.{inRows}
 
-abbrev pub wrongCut : History → Contents → List (List Bool) → List ℕ → ℕ → Option ℕ
+abbrev pub wrongCut : History → Contents → List ℕ → List ℕ → ℕ → Option ℕ
 wrongCut h s rows v e = firstWrong h (only e) s (keep (pastWith (inRows rows) e) v)

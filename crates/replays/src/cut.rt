@@ -10,7 +10,7 @@ use crate::replay::replay;
 use history::record::EventNo;
 use history::record::Object;
 use objects::state::State;
-use orders::searches::with_event;
+use orders::sets::with_event;
 use orders::views::cut_to;
 
 // The lowest event whose answer the replay does not give, of the first n entries of the view cut down to the event's row and it, or 64.
@@ -22,7 +22,7 @@ pub fn first_wrong_cut(
     counts: &[u8; 64],
     size: usize,
     starts: [State; 16],
-    rows: &[[bool; 64]; 64],
+    rows: &[u64; 64],
     view: [u8; 64],
     n: usize,
 ) -> usize

@@ -9,8 +9,7 @@ use mathlib.Core.Bool.{Bool, true, false, not, _||_, cond}
 use mathlib.Core.List.{List, [], _∷_, _++_, append-assoc, append-nil}
 use lib.Dec.{eqb, ltb}
 use lib.ListN.{length, getD, take, set, length-append, length-take}
-use lib.Seq.{getD-set-same, getD-set-other, length-take-le, getD-take}
-use Rattle.layout.proofs.Cases.{by-eq}
+use lib.Seq.{length-take-le, getD-take}
 use Rattle.history.specs.Record.{pad}
 use Rattle.history.proofs.PadLaws.{pad-set, take-pad, take-more}
 use Rattle.certificate.specs.declared.record.EventList.{EventList}
@@ -53,14 +52,6 @@ last-below (suc n) f h = go n (f n)
     go : (n : ℕ) (b : Bool) → cond b n (highest n f) < suc n
     go n true = omega arith
     go n false = omega (arith, few n)
-
--- ---- the events that are not in a row, one more
-pub other-more : (row rest : List Bool) (k : ℕ) → k < length rest → ((e : ℕ) → e < k → inRow rest e ≡ not (inRow row e))
-    → (e : ℕ) → e < k + 1 → inRow (set rest k (not (getD row k false))) e ≡ not (inRow row e)
-other-more row rest k h g e l =
-    by-eq e k
-    (λ q. rw (q, getD-set-same rest k (not (getD row k false)) false h) refl)
-    (λ m. getD-set-other rest k e (not (getD row k false)) false m ∙ g e (omega (arith, l, m)))
 
 -- ---- two lists joined, one entry more of the second
 pub joined-more : (a b : List ℕ) (k i : ℕ) → length a ≡ k → i < length b → k + i < 64
@@ -133,7 +124,7 @@ module _ (n k : ℕ) (view : List ℕ) (entries : (i : ℕ) → i < k → getD v
   completed-few = length-once n (completed n (take k view)) completed-below completed-once
 
   -- the row of all others below 64, and its events behind the first k
-  module _ (seen rest : List Bool) (small : n ≤ 64) (s : (e : ℕ) → inRow seen e ≡ mem e (take k view))
+  module _ (seen rest : ℕ) (small : n ≤ 64) (s : (e : ℕ) → inRow seen e ≡ mem e (take k view))
       (o : (e : ℕ) → e < 64 → inRow rest e ≡ not (inRow seen e)) (behind : EventList) (q : behind ≡ eventListOf (keep (inRow rest) (upTo n))) where
     behind-is : take (behind .count) (behind .events) ≡ keep (λ f. not (mem f (take k view))) (upTo n)
     unfolding eventListOf
@@ -174,11 +165,11 @@ list-few xs k l q =
     omega (arith, a, b, c)
 
 -- the view cut to the row of event e and it
-abbrev pub cutAt : List (List Bool) → List ℕ → ℕ → ℕ → List ℕ
+abbrev pub cutAt : List ℕ → List ℕ → ℕ → ℕ → List ℕ
 cutAt order view n e = keep (pastWith (inRows order) e) (take n view)
 
-pub cut-list : (order : List (List Bool)) (view : List ℕ) (n e : ℕ) (past : List Bool) (cut l : EventList)
-    → ((f : ℕ) → inRow past f ≡ (inRow (getD order e []) f || eqb f e))
+pub cut-list : (order : List ℕ) (view : List ℕ) (n e : ℕ) (past : ℕ) (cut l : EventList)
+    → ((f : ℕ) → inRow past f ≡ (inRow (getD order e 0) f || eqb f e))
     → entriesIn cut ≡ keep (inRow past) (take n view)
     → l ≡ eventListOf (take (cut .count) (cut .events))
     → l ≡ eventListOf (cutAt order view n e)

@@ -4,7 +4,7 @@ use native.Mathlib.Nat.{not-suc-le-zero, le-of-suc-le-suc}
 use native.Mathlib.Numerals.{add-one}
 use native.Mathlib.Omega.{arith}
 use mathlib.Core.Path.{_≡_, refl, sym, ap, ap₂, _∙_}
-use mathlib.Core.Bool.{Bool, false}
+use mathlib.Core.Bool.{false}
 use mathlib.Core.List.{List, [], _∷_}
 use lib.Dec.{eqb}
 use lib.ListN.{length, getD, take, set, replicate}
@@ -82,7 +82,7 @@ pub all-small : (all : List ℕ) (n : ℕ) → n ≤ 64 → all ≡ upTo 64 → 
 all-small all n h e k l =
     let q : getD all k 0 ≡ k = ap (λ (v : List ℕ). getD v k 0) e ∙ getD-table 64 (λ (j : ℕ). j) k 0 (omega arith) in omega arith
 
-pub rising-done : (row : List Bool) (n : ℕ) (all : List ℕ) (cut result : EventList) → n ≤ 64 → all ≡ upTo 64 → length (cut .events) ≡ 64
+pub rising-done : (row : ℕ) (n : ℕ) (all : List ℕ) (cut result : EventList) → n ≤ 64 → all ≡ upTo 64 → length (cut .events) ≡ 64
     → entriesIn cut ≡ keep (inRow row) (take n all) → cut .count ≤ n → result ≡ eventListOf (entriesIn cut)
     → (result ≡ eventListOf (keep (inRow row) (upTo n))) × (result .count ≤ n)
 rising-done row n all cut result h a long k few r =

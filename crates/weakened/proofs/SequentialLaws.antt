@@ -3,7 +3,7 @@ use Prim.Native.Nat.{ℕ, suc, _+_, _≤_, _<_}
 use native.Mathlib.Numerals.{add-one}
 use native.Mathlib.Omega.{arith}
 use mathlib.Core.Path.{_≡_, refl, sym, ap, ap₂, _∙_}
-use mathlib.Core.Bool.{Bool, true}
+use mathlib.Core.Bool.{true}
 use mathlib.Core.List.{List, map}
 use lib.Dec.{ltb}
 use lib.ListN.{length, take, set, replicate}
@@ -30,7 +30,7 @@ before-mem v f e m =
     (λ t. let l = ltb-true (place f v) (place e v) t in
     mem-take f (place e v) v (by-test (mem f v) (λ s. s) (λ s. let q = place-out f v s in absurd (omega arith))) l)
 
-pub preceding-done : (v : List ℕ) (n e k : ℕ) (row : List Bool) (result : EventList) → mem e (take n v) ≡ true → k ≡ place e (take n v) → k ≤ n
+pub preceding-done : (v : List ℕ) (n e k : ℕ) (row : ℕ) (result : EventList) → mem e (take n v) ≡ true → k ≡ place e (take n v) → k ≤ n
     → ((f : ℕ) → inRow row f ≡ mem f (take k v)) → result ≡ eventListOf (keep (inRow row) (upTo n))
     → result ≡ eventListOf (keep (λ f. precedes (take n v) f e) (upTo n))
 unfolding precedes

@@ -1,17 +1,17 @@
 // From causal to pram: the view of the process's last event, then all other events rising.
 ghost use mathlib.Core.Path.{_≡_};
 ghost use Prim.Native.Nat.{ℕ, _+_, _≤_, _<_};
-ghost use mathlib.Core.Bool.{not};
 ghost use mathlib.Core.List.{_++_};
 ghost use lib.ListN.{take, getD};
 ghost use Rattle.certificate.specs.Record.{eventListOf, rowsOf};
 ghost use Rattle.criteria.specs.Tests.{table, count};
 ghost use Rattle.criteria.specs.Weaken.{completed};
-ghost use Rattle.orders.specs.Rows.{inRow, viewAt};
+ghost use Rattle.orders.specs.Rows.{viewAt};
 ghost use Rattle.weakened.specs.Steps.{lengthsOf, lastIn, WholeViews};
 use crate::list::list_of;
 use crate::list::rising;
 use certificate::record::EventList;
+use orders::sets::others;
 use orders::views::marks;
 
 // The last of the first n events that is of the process, or 0.
@@ -27,19 +27,6 @@ fn last_of(processes: [u8; 64], n: usize, p: u8) -> usize
         }
     }
     0
-}
-
-// The events that are not in a row.
-fn others(row: [bool; 64]) -> [bool; 64]
-    ensures { λ r. ⌜ ((e : ℕ) → e < 64 → inRow r e ≡ not (inRow row e)) ⌝ }
-{
-    let mut rest = [false; 64];
-    let mut e = 0;
-    while e < 64 {
-        rest[e] = !row[e];
-        e += 1;
-    }
-    rest
 }
 
 // The first k of one list and then the first m of another.

@@ -8,14 +8,14 @@ ghost use Rattle.criteria.specs.History.{pastWith};
 ghost use Rattle.orders.specs.Rows.{inRows};
 ghost use Rattle.weakened.specs.Steps.{lengthsOf};
 use crate::list::list_of;
-use orders::searches::with_event;
+use orders::sets::with_event;
 use orders::views::cut_to;
 
 // The views of `size` events: the first n of the view, cut to the event's row and it.
 pub fn cut_views(
     view: [u8; 64],
     n: usize,
-    order: &[[bool; 64]; 64],
+    order: &[u64; 64],
     size: usize,
     lengths: &mut [u8; 64],
 ) -> [[u8; 64]; 64]

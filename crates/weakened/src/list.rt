@@ -54,7 +54,7 @@ fn all_events() -> [u8; 64]
 }
 
 // The events of a row below n, rising.
-pub(crate) fn rising(row: [bool; 64], n: usize) -> EventList
+pub(crate) fn rising(row: u64, n: usize) -> EventList
     requires { ⌜ n ≤ 64 ⌝ }
     ensures { λ r. ⌜ (r ≡ eventListOf (keep (inRow row) (upTo n))) × (r .count ≤ n) ⌝ }
 {

@@ -40,7 +40,7 @@ module _ (h : written-history.History) (c : written-certificate.Certificate) (ro
       → listed (map entriesIn (take n (c .pasts))) ≡ orderBy (hasPasts w) (historyOf h) (map entriesIn (take (cond (hasPasts w) m 0) (c .pasts)))
   order-by w e n m s = rw (e, s)
 
-  module _ (rows-of : List (List Bool)) (o : IsOrder rows-of (listed (map entriesIn (take (h .count) (c .pasts))))) where
+  module _ (rows-of : List ℕ) (o : IsOrder rows-of (listed (map entriesIn (take (h .count) (c .pasts))))) where
     order-is : inRows rows-of ≡ order (historyOf h) (certificateOf h c rows)
     unfolding certificateOf
     order-is =

@@ -26,6 +26,7 @@ use Rattle.criteria.specs.Records.{historyOf}
 use Rattle.orders.specs.Rows.{IsOrder}
 use Rattle.faults.specs.Finding.{findingOf, isFound}
 use Rattle.faults.specs.Steps.{orderFault, viewFault, eventEach}
+use Rattle.faults.proofs.RecordFacts.{process-small}
 use Rattle.faults.proofs.CheckLaws.{few-of, program-of, number-count, number-at, short-past, short-views, event-views, order-answers, view-answers, replay-answers}
 
 -- there are at most 64 views
@@ -75,7 +76,10 @@ processes-of-requires : tie.Need-processes-of-requires
 processes-of-requires c κs = search needs
 
 program-rows-requires : tie.Need-program-rows-requires
-program-rows-requires c κs = let s = c .before .before .before .before .before .before in few-of (s .args .h) (s .pre .0)
+program-rows-requires c κs =
+    let s = c .before .before .before .before .before .before in
+    let few = few-of (s .args .h) (s .pre .0) in
+    (few, λ i l. rw (c .processes-of .ensures i (omega (arith, few, l))) (process-small (s .args .h) (s .pre .0) i l))
 
 order-rows-requires : tie.Need-order-rows-requires
 order-rows-requires c κs =

@@ -50,8 +50,8 @@ marks-requires c κs = let s = short (c .before .before) _ in (s .few, s .entrie
 mul-rows : tie.Need-mul-rows Inv-loop μ-loop
 mul-rows c = search needs
 
-array-set-from-rows : tie.Need-array-set-from-rows Inv-loop μ-loop
-array-set-from-rows c = search needs
+array-write-rows : tie.Need-array-write-rows Inv-loop μ-loop
+array-write-rows c = search needs
 
 add-i : tie.Need-add-i Inv-loop μ-loop
 add-i c = search needs
@@ -90,7 +90,7 @@ past-rows-spec =
     array-copy-out-l
     marks-requires
     mul-rows
-    array-set-from-rows
+    array-write-rows
     add-i
     loop-less
     loop-again

@@ -1,6 +1,6 @@
 -- The lowest event in its own row: none below is. Assumes nothing.
 use Prim.Native.Nat.{ℕ, _-_, _≤_, _<_}
-use mathlib.Core.Path.{_≡_}
+use mathlib.Core.Path.{_≡_, sym, _∙_}
 use mathlib.Core.Bool.{false}
 use native.Mathlib.Omega.{arith}
 use borrow.Author.Needs.{needs}
@@ -19,20 +19,20 @@ abbrev μ-loop : tie.MeasureT-loop
 loop-holds : tie.Need-loop-holds Inv-loop μ-loop
 loop-holds c = (omega arith, below-none _)
 
-mul-if1 : tie.Need-mul-if1 Inv-loop μ-loop
-mul-if1 c = search needs
+mul-row : tie.Need-mul-row Inv-loop μ-loop
+mul-row c = search needs
 
-index-1-if1 : tie.Need-index-1-if1 Inv-loop μ-loop
-index-1-if1 c = search needs
+element-copy-out-row : tie.Need-element-copy-out-row Inv-loop μ-loop
+element-copy-out-row c = search needs
 
-index-2-if1 : tie.Need-index-2-if1 Inv-loop μ-loop
-index-2-if1 c = search needs
+in-row-requires : tie.Need-in-row-requires Inv-loop μ-loop
+in-row-requires c κs = search needs
 
 returns : tie.Need-returns Inv-loop μ-loop
 returns c =
-    let o = c .before .before .before .before .args in
-    let l = c .before .before .before .loop in
-    found-at (λ e. inRows (o .rows .now) e e) (o .n) (l .e) (omega arith) (l .inv .1) (c .if1 .taken)
+    let l = c .before .before .before .before .loop in
+    let o = c .before .before .before .before .before .args in
+    found-at (λ e. inRows (o .rows .now) e e) (o .n) (l .e) (omega arith) (l .inv .1) (sym (c .before .in-row .ensures) ∙ c .if1 .taken)
 
 add-e : tie.Need-add-e Inv-loop μ-loop
 add-e c = search needs
@@ -42,9 +42,8 @@ loop-less c = search needs
 
 loop-again : tie.Need-loop-again Inv-loop μ-loop
 loop-again c =
-    let o = c .before .before .before .before .args in
-    let l = c .before .before .before .loop in
-    (omega arith, below-more _ _ (l .inv .1) (c .if1 .left))
+    let l = c .before .before .before .before .loop in
+    (omega arith, below-more _ _ (l .inv .1) (sym (c .before .in-row .ensures) ∙ c .if1 .left))
 
 returns-2 : tie.Need-returns-2 Inv-loop μ-loop
 returns-2 c =
@@ -59,9 +58,9 @@ in-own-past-spec =
     Inv-loop
     μ-loop
     loop-holds
-    mul-if1
-    index-1-if1
-    index-2-if1
+    mul-row
+    element-copy-out-row
+    in-row-requires
     returns
     add-e
     loop-less

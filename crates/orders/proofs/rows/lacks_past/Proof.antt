@@ -1,11 +1,10 @@
 -- Transitivity at one event: what was found so far is what is true of the events f so far. Assumes nothing.
 use Prim.Native.Nat.{_-_, _≤_}
-use mathlib.Core.Path.{_≡_, refl, ap, _∙_}
+use mathlib.Core.Path.{_≡_, refl, ap₂, _∙_}
 use mathlib.Core.Bool.{Bool, _&&_, _||_}
 use native.Mathlib.Omega.{arith}
 use borrow.Author.Needs.{needs}
 use Rattle.criteria.specs.Tests.{any}
-use Rattle.orders.specs.Rows.{inRows}
 use Rattle.orders.proofs.RowLaws.{lacking, lacking-past, any-turn, any-end}
 use Rattle.orders.proofs.rows.lacks_past.Statement.{statement}
 use Rattle.orders.proofs.rows.lacks_past.Tie as tie
@@ -31,8 +30,8 @@ mul-other c = search needs
 element-copy-out-other : tie.Need-element-copy-out-other Inv-loop μ-loop
 element-copy-out-other c = search needs
 
-array-read-bad : tie.Need-array-read-bad Inv-loop μ-loop
-array-read-bad c = search needs
+in-row-requires : tie.Need-in-row-requires Inv-loop μ-loop
+in-row-requires c κs = search needs
 
 escapes-requires : tie.Need-escapes-requires Inv-loop μ-loop
 escapes-requires c κs = search needs
@@ -45,10 +44,10 @@ loop-less c = search needs
 
 loop-again : tie.Need-loop-again Inv-loop μ-loop
 loop-again c =
-    let l = c .before .before .before .loop in
-    let o = c .before .before .before .before .before .args in (
+    let l = c .before .before .before .before .loop in
+    let o = c .before .before .before .before .before .before .args in (
       omega arith,
-      ap (λ (b : Bool). l .bad || (inRows (o .rows .now) (l .f) (o .e) && b)) (c .escapes .ensures)
+      ap₂ (λ (a b : Bool). l .bad || (a && b)) (c .before .in-row .ensures) (c .escapes .ensures)
           ∙ any-turn (lacking (o .rows .now) (o .e)) (l .f) (l .bad) (l .inv .1),
     )
 
@@ -69,7 +68,7 @@ lacks-past-spec =
     loop-holds
     mul-other
     element-copy-out-other
-    array-read-bad
+    in-row-requires
     escapes-requires
     add-f
     loop-less

@@ -52,8 +52,8 @@ returns c =
     let o = s .args in
     sym (walk-turn-stops (o .t1) (o .n) (l .i) (c .before .before .before .loop-test .taken) (fits s) (o .rows .now) (take (o .n) (o .t1)) (l .later) (l .inv .1) (sym (c .before .meets .ensures) ∙ c .if1 .taken))
 
-array-write-later : tie.Need-array-write-later Inv-loop μ-loop
-array-write-later c = number (c .before .before .before)
+without-event-requires : tie.Need-without-event-requires Inv-loop μ-loop
+without-event-requires c κs = number (c .before .before .before)
 
 add-i : tie.Need-add-i Inv-loop μ-loop
 add-i c = search needs
@@ -63,10 +63,11 @@ loop-less c = search needs
 
 loop-again : tie.Need-loop-again Inv-loop μ-loop
 loop-again c =
-    let l = c .before .before .before .before .loop in
-    let s = c .before .before .before .before .before .before in
+    let e = c .before in
+    let l = e .before .before .before .before .loop in
+    let s = e .before .before .before .before .before .before in
     let o = s .args in
-    (omega arith, walk-turn-on (o .t1) (o .n) (l .i) (c .before .before .before .loop-test .taken) (fits s) (o .rows .now) (take (o .n) (o .t1)) (l .later) (l .inv .1) (sym (c .before .meets .ensures) ∙ c .if1 .left))
+    (omega arith, walk-turn-on (o .t1) (o .n) (l .i) (e .before .before .before .loop-test .taken) (fits s) (o .rows .now) (take (o .n) (o .t1)) (l .later) (l .inv .1) (sym (e .before .meets .ensures) ∙ e .if1 .left) (c .without-event .result) (c .without-event .ensures))
 
 returns-2 : tie.Need-returns-2 Inv-loop μ-loop
 returns-2 c =
@@ -88,7 +89,7 @@ against-order-spec =
     element-copy-out-past
     meets-requires
     returns
-    array-write-later
+    without-event-requires
     add-i
     loop-less
     loop-again

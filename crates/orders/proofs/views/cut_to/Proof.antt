@@ -3,19 +3,19 @@ use native.Mathlib.Omega.{arith}
 use Prim.Native.Nat.{ℕ, _≤_, _<_, _-_, _+_}
 use mathlib.Core.Path.{_≡_, refl, ap, _∙_}
 use lib.ListN.{length, take, getD, set, length-set}
-use Rattle.criteria.specs.Tests.{keep}
+use Rattle.criteria.specs.Tests.{keep, one}
 use Rattle.orders.specs.Rows.{inRow}
 use Rattle.orders.proofs.CutLaws.{cut-more}
-use borrow.Author.Needs.{needs}
 use Rattle.orders.proofs.views.cut_to.Statement.{statement}
 use Rattle.orders.proofs.views.cut_to.Tie as tie
+use borrow.Author.Needs.{needs}
 
 abbrev Inv-loop : tie.InvT-loop
-Inv-loop n view kept events₀ count₀ i₀ events count i =
+Inv-loop n kept view events₀ count₀ i₀ events count i =
     (i ≤ n) × (count ≤ i) × (length view ≡ 64) × (length events ≡ 64) × (take count events ≡ keep (inRow kept) (take i view))
 
 abbrev μ-loop : tie.MeasureT-loop
-μ-loop n view kept events₀ count₀ i₀ events count i = n - i
+μ-loop n kept view events₀ count₀ i₀ events count i = n - i
 
 next-i : (c : tie.In-loop Inv-loop μ-loop) → c .before .loop .i < c .before .before .args .n
 next-i c = search needs
@@ -36,19 +36,19 @@ array-read-x c = search needs
 array-write-events : tie.Need-array-write-events Inv-loop μ-loop
 array-write-events c = search needs
 
-cast-one-if : tie.Need-cast-one-if Inv-loop μ-loop
-cast-one-if c = search needs
+cast-in-row : tie.Need-cast-in-row Inv-loop μ-loop
+cast-in-row c = search needs
 
-array-read-one-if : tie.Need-array-read-one-if Inv-loop μ-loop
-array-read-one-if c = below c
+in-row-requires : tie.Need-in-row-requires Inv-loop μ-loop
+in-row-requires c κs = below c
 
 one-if-requires : tie.Need-one-if-requires Inv-loop μ-loop
 one-if-requires c κs = search needs
 
 add-count : tie.Need-add-count Inv-loop μ-loop
 add-count c =
-    let l = c .before .before .loop in
-    omega (arith, few c, l .inv .0, l .inv .1, c .before .before .before .pre .0)
+    let l = c .before .before .before .loop in
+    omega (arith, few c, l .inv .0, l .inv .1, c .before .before .before .before .pre .0)
 
 add-i : tie.Need-add-i Inv-loop μ-loop
 add-i c = search needs
@@ -58,7 +58,7 @@ loop-less c = search needs
 
 loop-again : tie.Need-loop-again Inv-loop μ-loop
 loop-again c =
-    let i = c .before in
+    let i = c .before .before in
     let l = i .before .loop in
     let s = i .before .before in
     let a = s .args in
@@ -67,8 +67,8 @@ loop-again c =
       omega (arith, few c, l .inv .1),
       l .inv .2,
       length-set (l .events) (l .count) _ ∙ l .inv .3,
-      ap (λ (k : ℕ). take (l .count + k) (set (l .events) (l .count) (getD (a .t1) (l .i) 0))) (c .one-if .ensures .0)
-          ∙ cut-more (inRow (a .t3)) (a .t1) (l .events) (l .i) (l .count) (omega (arith, h, l .inv .2, s .pre .0)) (omega (arith, h, l .inv .1, l .inv .3, s .pre .0)) (l .inv .4),
+      ap (λ (k : ℕ). take (l .count + k) (set (l .events) (l .count) (getD (a .t1) (l .i) 0))) (c .one-if .ensures .0 ∙ ap one (c .before .in-row .ensures))
+          ∙ cut-more (inRow (a .kept)) (a .t1) (l .events) (l .i) (l .count) (omega (arith, h, l .inv .2, s .pre .0)) (omega (arith, h, l .inv .1, l .inv .3, s .pre .0)) (l .inv .4),
     )
 
 returns : tie.Need-returns Inv-loop μ-loop
@@ -87,8 +87,8 @@ cut-to-spec =
     loop-holds
     array-read-x
     array-write-events
-    cast-one-if
-    array-read-one-if
+    cast-in-row
+    in-row-requires
     one-if-requires
     add-count
     add-i

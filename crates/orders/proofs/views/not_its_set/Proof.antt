@@ -13,10 +13,10 @@ use Rattle.orders.proofs.views.not_its_set.Statement.{statement}
 use Rattle.orders.proofs.views.not_its_set.Tie as tie
 
 abbrev Inv-loop : tie.InvT-loop
-Inv-loop n view left₀ i₀ left i = (i ≤ n) × (notItsSet 64 (inRow left₀) (take n view) ≡ notItsSet 64 (inRow left) (slice i n view))
+Inv-loop n set view left₀ i₀ left i = (i ≤ n) × (notItsSet 64 (inRow set) (take n view) ≡ notItsSet 64 (inRow left) (slice i n view))
 
 abbrev μ-loop : tie.MeasureT-loop
-μ-loop n view left₀ i₀ left i = n - i
+μ-loop n set view left₀ i₀ left i = n - i
 
 number : (c : tie.In-loop Inv-loop μ-loop) → getD (c .before .before .args .t1) (c .before .loop .i) 0 < 64
 number c = c .before .before .pre .1 (c .before .loop .i) (c .loop-test .taken)
@@ -33,17 +33,18 @@ array-read-x c = search needs
 cast-x : tie.Need-cast-x Inv-loop μ-loop
 cast-x c = omega (arith, number c)
 
-array-read-if1 : tie.Need-array-read-if1 Inv-loop μ-loop
-array-read-if1 c = number c
+in-row-requires : tie.Need-in-row-requires Inv-loop μ-loop
+in-row-requires c κs = number c
 
 returns : tie.Need-returns Inv-loop μ-loop
 returns c =
-    let o = c .before .before .before .args in
-    let l = c .before .before .loop in
-    sym (l .inv .1 ∙ set-turn-stops (o .t1) (o .n) (l .i) (c .before .loop-test .taken) (fits (c .before .before .before)) (l .left) (number (c .before)) (not-true _ (c .if1 .taken)))
+    let i = c .before .before in
+    let o = i .before .before .args in
+    let l = i .before .loop in
+    sym (l .inv .1 ∙ set-turn-stops (o .t1) (o .n) (l .i) (i .loop-test .taken) (fits (i .before .before)) (l .left) (number i) (sym (c .before .in-row .ensures) ∙ not-true _ (c .if1 .taken)))
 
-array-write-left : tie.Need-array-write-left Inv-loop μ-loop
-array-write-left c = number (c .before)
+without-event-requires : tie.Need-without-event-requires Inv-loop μ-loop
+without-event-requires c κs = number (c .before .before)
 
 add-i : tie.Need-add-i Inv-loop μ-loop
 add-i c = search needs
@@ -53,9 +54,13 @@ loop-less c = search needs
 
 loop-again : tie.Need-loop-again Inv-loop μ-loop
 loop-again c =
-    let o = c .before .before .before .args in
-    let l = c .before .before .loop in
-    (omega arith, l .inv .1 ∙ set-turn-on (o .t1) (o .n) (l .i) (c .before .loop-test .taken) (fits (c .before .before .before)) (l .left) (not-false _ (c .if1 .left)))
+    let e = c .before in
+    let i = e .before .before in
+    let o = i .before .before .args in
+    let l = i .before .loop in (
+      omega arith,
+      l .inv .1 ∙ set-turn-on (o .t1) (o .n) (l .i) (i .loop-test .taken) (fits (i .before .before)) (l .left) (c .without-event .result) (sym (e .before .in-row .ensures) ∙ not-false _ (e .if1 .left)) (c .without-event .ensures),
+    )
 
 holds-some-requires : tie.Need-holds-some-requires Inv-loop μ-loop
 holds-some-requires c κs = search needs
@@ -75,9 +80,9 @@ not-its-set-spec =
     loop-holds
     array-read-x
     cast-x
-    array-read-if1
+    in-row-requires
     returns
-    array-write-left
+    without-event-requires
     add-i
     loop-less
     loop-again

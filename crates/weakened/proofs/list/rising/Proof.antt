@@ -2,9 +2,6 @@
 use borrow.Author.Needs.{needs}
 use Rattle.weakened.proofs.list.rising.Statement.{statement}
 use Rattle.weakened.proofs.list.rising.Tie as tie
-use Rattle.orders.proofs.views.cut_to.Reads as cut-to-reads
-use Rattle.weakened.proofs.list.all_events.Reads as all-events-reads
-use Rattle.weakened.proofs.list.list_of.Reads as list-of-reads
 use mathlib.Core.Path.{_≡_}
 use lib.ListN.{length}
 use Rattle.weakened.proofs.ListLaws.{all-small, rising-done}

@@ -2,9 +2,6 @@
 use borrow.Author.Needs.{needs}
 use Rattle.weakened.proofs.sequential.preceding.Statement.{statement}
 use Rattle.weakened.proofs.sequential.preceding.Tie as tie
-use Rattle.orders.proofs.views.marks.Reads as marks-reads
-use Rattle.weakened.proofs.list.place_of.Reads as place-of-reads
-use Rattle.weakened.proofs.list.rising.Reads as rising-reads
 use native.Mathlib.Omega.{arith}
 use Prim.Native.Nat.{_≤_}
 use Rattle.weakened.proofs.SequentialLaws.{preceding-done}

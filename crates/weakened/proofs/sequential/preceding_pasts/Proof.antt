@@ -1,8 +1,6 @@
 -- `preceding_pasts` meets its contract: the pasts of the first e events are in the array. Assumes nothing.
 use Rattle.weakened.proofs.sequential.preceding_pasts.Statement.{statement}
 use Rattle.weakened.proofs.sequential.preceding_pasts.Tie as tie
-use Rattle.weakened.proofs.list.list_of.Reads as list-of-reads
-use Rattle.weakened.proofs.sequential.preceding.Reads as preceding-reads
 use native.Mathlib.Omega.{arith}
 use Prim.Native.Nat.{_≤_, _<_, _-_}
 use mathlib.Core.Path.{_≡_}

@@ -2,8 +2,6 @@
 use borrow.Author.Needs.{needs}
 use Rattle.weakened.proofs.sequential.up_to.Statement.{statement}
 use Rattle.weakened.proofs.sequential.up_to.Tie as tie
-use Rattle.weakened.proofs.list.list_of.Reads as list-of-reads
-use Rattle.weakened.proofs.list.place_of.Reads as place-of-reads
 use Prim.Native.Nat.{_≤_, _<_}
 use mathlib.Core.Path.{_≡_}
 use lib.ListN.{length}

@@ -1,7 +1,6 @@
 -- `up_to_views` meets its contract: the views of the first e events are made. Assumes nothing.
 use Rattle.weakened.proofs.sequential.up_to_views.Statement.{statement}
 use Rattle.weakened.proofs.sequential.up_to_views.Tie as tie
-use Rattle.weakened.proofs.sequential.up_to.Reads as up-to-reads
 use native.Mathlib.Omega.{arith}
 use Prim.Native.Nat.{_≤_, _<_, _-_}
 use mathlib.Core.Path.{_≡_}

@@ -1,7 +1,6 @@
 -- `whole_views` meets its contract: the first k views are made, each the whole order. Assumes nothing.
 use Rattle.weakened.proofs.sequential.whole_views.Statement.{statement}
 use Rattle.weakened.proofs.sequential.whole_views.Tie as tie
-use Rattle.weakened.proofs.list.list_of.Reads as list-of-reads
 use native.Mathlib.Omega.{arith}
 use Prim.Native.Nat.{_≤_, _<_, _-_}
 use mathlib.Core.Path.{_≡_, sym, ap, _∙_}
