@@ -92,7 +92,7 @@ fn read_pair(a: &[u8], s: &[u8], own: u32, count: usize, past: bool) -> ListLine
 }
 
 // Reads the line of a past or of a view whose number is `own`, without its line feed.
-pub fn read_list_line(line: &[u8], own: u32, count: usize, past: bool) -> ListLine
+pub(crate) fn read_list_line(line: &[u8], own: u32, count: usize, past: bool) -> ListLine
     requires { ⌜ count ≤ 64 ⌝ }
     ensures { λ r. ⌜ r ≡ listRead past count own (now (line .entry)) ⌝ }
 {

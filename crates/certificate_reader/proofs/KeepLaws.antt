@@ -13,13 +13,13 @@ use Rattle.layout.specs.Split.{find, split}
 use Rattle.layout.specs.Word.{pastHeading, viewHeading}
 use Rattle.layout.specs.Number.{value}
 use Rattle.layout.specs.List.{itemsOf, allBelow, numbersOf}
-use Rattle.layout.proofs.Cases.{by-bool, by-eq, and-right}
+use Rattle.layout.proofs.Cases.{by-bool, by-lt, by-eq, and-right}
 use Rattle.history.specs.Record.{pad}
 use Rattle.history.proofs.PadLaws.{pad-set, take-pad}
 use Rattle.history.specs.declared.record.Event.{Event}
 use Rattle.certificate.specs.declared.record.Criterion.{Criterion}
 use Rattle.certificate.specs.declared.record.EventList.{EventList}
-use Rattle.certificate.specs.declared.list.ListLine.{ListLine}
+use Rattle.certificate.specs.declared.next.NextList.{NextList}
 use Rattle.certificate.specs.Record.{noList, noRow, eventListOf, rowOf, certificateOf, rowsOf, entriesIn}
 use Rattle.certificate.proofs.FitsLaws.{entries-made}
 use Rattle.certificate.specs.Criteria.{hasPasts, countFrom, viewNumbers, criterionOf}
@@ -28,6 +28,8 @@ use Rattle.certificate.specs.declared.numbers.ViewNumbers.{ViewNumbers}
 use Rattle.certificate.specs.Steps.Numbers.{viewNumbersOf}
 use Rattle.certificate.specs.declared.criterion.CriterionRead.{CriterionRead}
 use Rattle.certificate.specs.Steps.Lists.{listWith, listRead, criterionRead}
+use Rattle.certificate.specs.Steps.Next.{nextRead}
+use Rattle.certificate.proofs.NextLaws.{next-cut, next-line}
 use Rattle.certificate_reader.specs.declared.read.LinesRead.{LinesRead}
 use Rattle.certificate_reader.specs.ReadCertificate.{Lines, refusal, accepted, headingFrom, listsFrom, viewsFrom, pastsFrom, bodyFrom, rowsAfter}
 use Rattle.certificate_reader.specs.Steps.Lines.{linesRead, afterViews, viewLines, pastLines}
@@ -40,15 +42,29 @@ with-fault k xs = by-eq k 0 (λ z. rw (eq-eqb k 0 z) (sym z)) (λ z. rw (ne-eqb 
 with-list : (k : ℕ) (xs : List ℕ) → k ≡ 0 → listWith k xs .list ≡ eventListOf xs
 with-list k xs z = rw (eq-eqb k 0 z)
 
-module _ (past : Bool) (count n : ℕ) (line : List ℕ) (x : ListLine) (q : x ≡ listRead past count n line) where
-  pub read-fault : x .fault ≡ listFault past count n line
-  unfolding listRead
-  read-fault = ap (λ (y : ListLine). y .fault) q ∙ with-fault (listFault past count n line) (listSaid line)
+module _ (past : Bool) (count n : ℕ) (s : List ℕ) (a : ℕ) (from : a ≤ length s) (x : NextList) (q : x ≡ nextRead past count n a (drop a s))
+    (found : x .end ≡ a + find 10 (drop a s)) where
+  read-cut : length s ≤ x .end → x .fault ≡ 2
+  read-cut k = ap (λ (y : NextList). y .fault) (q ∙ next-cut past count n s a (x .end) found from k)
 
-  pub read-list : x .fault ≡ 0 → x .list ≡ eventListOf (listSaid line)
+  read-fault : x .end < length s → x .fault ≡ listFault past count n (take (x .end - a) (drop a s))
+  unfolding listRead
+  read-fault k =
+      ap (λ (y : NextList). y .fault) (q ∙ next-line past count n s a (x .end) found from k)
+      ∙ with-fault (listFault past count n (take (x .end - a) (drop a s))) (listSaid (take (x .end - a) (drop a s)))
+
+  -- a line without a fault has its line feed
+  pub read-short : x .fault ≡ 0 → x .end < length s
+  read-short z = by-lt (x .end) (length s) (λ k. k) (λ k. absurd (omega (arith, read-cut k)))
+
+  read-none : x .fault ≡ 0 → listFault past count n (take (x .end - a) (drop a s)) ≡ 0
+  read-none z = sym (read-fault (read-short z)) ∙ z
+
+  read-list : x .fault ≡ 0 → x .list ≡ eventListOf (listSaid (take (x .end - a) (drop a s)))
   unfolding listRead
   read-list z =
-      ap (λ (y : ListLine). y .list) q ∙ with-list (listFault past count n line) (listSaid line) (sym read-fault ∙ z)
+      ap (λ (y : NextList). y .list) (q ∙ next-line past count n s a (x .end) found from (read-short z))
+      ∙ with-list (listFault past count n (take (x .end - a) (drop a s))) (listSaid (take (x .end - a) (drop a s))) (read-none z)
 
 -- a list without a fault has no more entries than the history has events
 pair-few : (past : Bool) (count n : ℕ) (a s : List ℕ) → pairFault past count n a s ≡ 0 → length (itemsOf s) ≤ count
@@ -69,6 +85,22 @@ list-few past count n line z =
     let k : pairFault past count n (getD (split 32 line) 0 []) (getD (split 32 line) 1 []) ≡ 0 = rw t at z in
     omega (arith, length-map (itemsOf (getD (split 32 line) 1 [])) value, pair-few past count n _ _ k))
     (λ t. let b : _≡_ {A = ℕ} 2 0 = rw t at z in absurd (omega arith))
+
+-- ---- the next line is x, and its number is n
+module _ (line : ℕ) (s : List ℕ) (a : ℕ) (from : a ≤ length s) (x : NextList) (found : x .end ≡ a + find 10 (drop a s)) (to : x .end ≤ length s)
+    (past : Bool) (count : ℕ) (next : List (List ℕ) → ℕ → ℕ → List (List ℕ) → Lines) (n : ℕ) (ns : List ℕ) (ls : List (List ℕ))
+    (q : x ≡ nextRead past count n a (drop a s)) where
+  list-bad : (x .fault ≡ 0 → ⊥) → listsFrom past count next (n ∷ ns) ls line a (split 10 (drop a s)) ≡ refusal (x .fault) line a (x .end - a)
+  list-bad z =
+      by-lt (x .end) (length s)
+      (λ k. lists-bad line s a (x .end) found from to past count next n ns ls k (x .fault) (read-fault past count n s a from x q found k) z)
+      (λ k. rw (read-cut past count n s a from x q found k) (lists-cut line s a (x .end) found from to past count next n ns ls k))
+
+  list-more : x .fault ≡ 0 → listsFrom past count next (n ∷ ns) ls line a (split 10 (drop a s))
+      ≡ listsFrom past count next ns (ls ++ listSaid (take (x .end - a) (drop a s)) ∷ []) (line + 1) (x .end + 1) (split 10 (drop (x .end + 1) s))
+  list-more z =
+      let k = read-short past count n s a from x q found z in
+      lists-more line s a (x .end) found from to past count next n ns ls k (x .fault) (read-fault past count n s a from x q found k) z
 
 -- ---- numbers that are left
 left-next : (ns : List ℕ) (i : ℕ) → i < length ns → drop i ns ≡ getD ns i 0 ∷ drop (i + 1) ns
@@ -107,55 +139,49 @@ module _ (c : Criterion) (count : ℕ) (numbers : List ℕ) (pasts : List (List 
         (drop-of-length-le numbers {i = i} h)
         ∙ lists-done false count (afterViews c pasts) (v .views) line a (split 10 (drop a s))
 
-    -- the next line goes from a to e
-    module _ (h : i < length numbers) (e : ℕ) (found : e ≡ a + find 10 (drop a s)) (from : a ≤ length s) (to : e ≤ length s) where
+    -- the next line is x
+    module _ (h : i < length numbers) (from : a ≤ length s) (x : NextList) (q : x ≡ nextRead false count (getD numbers i 0) a (drop a s))
+        (found : x .end ≡ a + find 10 (drop a s)) (to : x .end ≤ length s) where
+      abbrev next-view : List ℕ
+      next-view = listSaid (take (x .end - a) (drop a s))
+
       next-is : whole
           ≡ listsFrom false count (afterViews c pasts) (getD numbers i 0 ∷ drop (i + 1) numbers) (v .views) line a (split 10 (drop a s))
       next-is =
           v .is
           ∙ ap (λ (ns : List ℕ). listsFrom false count (afterViews c pasts) ns (v .views) line a (split 10 (drop a s))) (left-next numbers i h)
 
-      pub views-cut : length s ≤ e → whole ≡ refusal 2 line a (e - a)
-      views-cut k =
-          next-is ∙ lists-cut line s a e found from to false count (afterViews c pasts) (getD numbers i 0) (drop (i + 1) numbers) (v .views) k
+      pub views-bad : (x .fault ≡ 0 → ⊥) → whole ≡ refusal (x .fault) line a (x .end - a)
+      views-bad z =
+          next-is
+          ∙ list-bad line s a from x found to false count (afterViews c pasts) (getD numbers i 0) (drop (i + 1) numbers) (v .views) q z
 
-      module _ (k : e < length s) (x : ListLine) (q : x ≡ listRead false count (getD numbers i 0) (take (e - a) (drop a s))) where
-        pub views-bad : (x .fault ≡ 0 → ⊥) → whole ≡ refusal (x .fault) line a (e - a)
-        views-bad z =
-            next-is
-            ∙ lists-bad line s a e found from to false count (afterViews c pasts) (getD numbers i 0) (drop (i + 1) numbers) (v .views) k
-            (x .fault) (read-fault false count (getD numbers i 0) (take (e - a) (drop a s)) x q) z
+      pub views-few : x .fault ≡ 0 → x .list .count ≤ count
+      unfolding eventListOf
+      views-few z =
+          rw (read-list false count (getD numbers i 0) s a from x q found z)
+          (list-few false count (getD numbers i 0) (take (x .end - a) (drop a s)) (read-none false count (getD numbers i 0) s a from x q found z))
 
-        pub views-few : x .fault ≡ 0 → x .list .count ≤ count
-        unfolding eventListOf
-        views-few z =
-            rw (read-list false count (getD numbers i 0) (take (e - a) (drop a s)) x q z)
-            (list-few false count (getD numbers i 0) (take (e - a) (drop a s))
-            (sym (read-fault false count (getD numbers i 0) (take (e - a) (drop a s)) x q) ∙ z))
-
-        pub views-more : x .fault ≡ 0 → i < 64
-            → ReadingViews whole c count numbers pasts s (set rows i (x .list .events)) (set lengths i (x .list .count)) (i + 1) (line + 1) (e + 1)
-        unfolding rowsOf eventListOf rowOf
-        views-more z few =
-            let l : x .list ≡ eventListOf (listSaid (take (e - a) (drop a s))) = read-list false count (getD numbers i 0) (take (e - a) (drop a s)) x q z in
-            record {
-              views = v .views ++ listSaid (take (e - a) (drop a s)) ∷ [];
-              long = omega (arith, length-append (v .views) (listSaid (take (e - a) (drop a s)) ∷ []), v .long);
-              rows-are =
-                  rw (l, v .rows-are)
-                  (pad-set 64 noRow (map rowOf (v .views)) i (rowOf (listSaid (take (e - a) (drop a s))))
-                  (sym (length-map (v .views) rowOf ∙ v .long)) few)
-                  ∙ ap (pad 64 noRow) (sym (map-append rowOf (v .views) (listSaid (take (e - a) (drop a s)) ∷ [])));
-              lengths-are =
-                  rw (l, v .lengths-are)
-                  (pad-set 64 0 (map length (v .views)) i (length (listSaid (take (e - a) (drop a s))))
-                  (sym (length-map (v .views) length ∙ v .long)) few)
-                  ∙ ap (pad 64 0) (sym (map-append length (v .views) (listSaid (take (e - a) (drop a s)) ∷ [])));
-              is =
-                  next-is
-                  ∙ lists-more line s a e found from to false count (afterViews c pasts) (getD numbers i 0) (drop (i + 1) numbers) (v .views) k
-                  (x .fault) (read-fault false count (getD numbers i 0) (take (e - a) (drop a s)) x q) z;
-            }
+      pub views-more : x .fault ≡ 0 → i < 64
+          → ReadingViews whole c count numbers pasts s (set rows i (x .list .events)) (set lengths i (x .list .count)) (i + 1) (line + 1) (x .end + 1)
+      unfolding rowsOf eventListOf rowOf
+      views-more z few =
+          let l : x .list ≡ eventListOf next-view = read-list false count (getD numbers i 0) s a from x q found z in
+          record {
+            views = v .views ++ next-view ∷ [];
+            long = omega (arith, length-append (v .views) (next-view ∷ []), v .long);
+            rows-are =
+                rw (l, v .rows-are)
+                (pad-set 64 noRow (map rowOf (v .views)) i (rowOf next-view) (sym (length-map (v .views) rowOf ∙ v .long)) few)
+                ∙ ap (pad 64 noRow) (sym (map-append rowOf (v .views) (next-view ∷ [])));
+            lengths-are =
+                rw (l, v .lengths-are)
+                (pad-set 64 0 (map length (v .views)) i (length next-view) (sym (length-map (v .views) length ∙ v .long)) few)
+                ∙ ap (pad 64 0) (sym (map-append length (v .views) (next-view ∷ [])));
+            is =
+                next-is
+                ∙ list-more line s a from x found to false count (afterViews c pasts) (getD numbers i 0) (drop (i + 1) numbers) (v .views) q z;
+          }
 
 -- ---- the pasts that are kept, in an array
 pub record ReadingPasts (whole : Lines) (c : Criterion) (count : ℕ) (numbers : List ℕ) (s : List ℕ) (array : List EventList) (i line a : ℕ) : Type 0 where
@@ -191,41 +217,36 @@ module _ (c : Criterion) (count : ℕ) (numbers : List ℕ) (s : List ℕ) where
         ∙ ap (λ (ns : List ℕ). listsFrom true count (viewsFrom c count numbers) ns (v .pasts) line a (split 10 (drop a s))) (count-end i count h)
         ∙ lists-done true count (viewsFrom c count numbers) (v .pasts) line a (split 10 (drop a s))
 
-    module _ (h : i < count) (e : ℕ) (found : e ≡ a + find 10 (drop a s)) (from : a ≤ length s) (to : e ≤ length s) where
+    module _ (h : i < count) (from : a ≤ length s) (x : NextList) (q : x ≡ nextRead true count i a (drop a s))
+        (found : x .end ≡ a + find 10 (drop a s)) (to : x .end ≤ length s) where
+      abbrev next-entries : List ℕ
+      next-entries = listSaid (take (x .end - a) (drop a s))
+
       next-past : whole
           ≡ listsFrom true count (viewsFrom c count numbers) (i ∷ countFrom (i + 1) (count - (i + 1))) (v .pasts) line a (split 10 (drop a s))
       next-past =
           v .is
           ∙ ap (λ (ns : List ℕ). listsFrom true count (viewsFrom c count numbers) ns (v .pasts) line a (split 10 (drop a s))) (count-next i count h)
 
-      pub pasts-cut : length s ≤ e → whole ≡ refusal 2 line a (e - a)
-      pasts-cut k =
+      pub pasts-bad : (x .fault ≡ 0 → ⊥) → whole ≡ refusal (x .fault) line a (x .end - a)
+      pasts-bad z =
           next-past
-          ∙ lists-cut line s a e found from to true count (viewsFrom c count numbers) i (countFrom (i + 1) (count - (i + 1))) (v .pasts) k
+          ∙ list-bad line s a from x found to true count (viewsFrom c count numbers) i (countFrom (i + 1) (count - (i + 1))) (v .pasts) q z
 
-      module _ (k : e < length s) (x : ListLine) (q : x ≡ listRead true count i (take (e - a) (drop a s))) where
-        pub pasts-bad : (x .fault ≡ 0 → ⊥) → whole ≡ refusal (x .fault) line a (e - a)
-        pasts-bad z =
-            next-past
-            ∙ lists-bad line s a e found from to true count (viewsFrom c count numbers) i (countFrom (i + 1) (count - (i + 1))) (v .pasts) k
-            (x .fault) (read-fault true count i (take (e - a) (drop a s)) x q) z
-
-        pub pasts-more : x .fault ≡ 0 → i < 64 → ReadingPasts whole c count numbers s (set array i (x .list)) (i + 1) (line + 1) (e + 1)
-        pasts-more z few =
-            let l : x .list ≡ eventListOf (listSaid (take (e - a) (drop a s))) = read-list true count i (take (e - a) (drop a s)) x q z in
-            record {
-              pasts = v .pasts ++ listSaid (take (e - a) (drop a s)) ∷ [];
-              long = omega (arith, length-append (v .pasts) (listSaid (take (e - a) (drop a s)) ∷ []), v .long);
-              array-is =
-                  rw (l, v .array-is)
-                  (pad-set 64 noList (map eventListOf (v .pasts)) i (eventListOf (listSaid (take (e - a) (drop a s))))
-                  (sym (length-map (v .pasts) eventListOf ∙ v .long)) few)
-                  ∙ ap (pad 64 noList) (sym (map-append eventListOf (v .pasts) (listSaid (take (e - a) (drop a s)) ∷ [])));
-              is =
-                  next-past
-                  ∙ lists-more line s a e found from to true count (viewsFrom c count numbers) i (countFrom (i + 1) (count - (i + 1))) (v .pasts) k
-                  (x .fault) (read-fault true count i (take (e - a) (drop a s)) x q) z;
-            }
+      pub pasts-more : x .fault ≡ 0 → i < 64 → ReadingPasts whole c count numbers s (set array i (x .list)) (i + 1) (line + 1) (x .end + 1)
+      pasts-more z few =
+          let l : x .list ≡ eventListOf next-entries = read-list true count i s a from x q found z in
+          record {
+            pasts = v .pasts ++ next-entries ∷ [];
+            long = omega (arith, length-append (v .pasts) (next-entries ∷ []), v .long);
+            array-is =
+                rw (l, v .array-is)
+                (pad-set 64 noList (map eventListOf (v .pasts)) i (eventListOf next-entries) (sym (length-map (v .pasts) eventListOf ∙ v .long)) few)
+                ∙ ap (pad 64 noList) (sym (map-append eventListOf (v .pasts) (next-entries ∷ [])));
+            is =
+                next-past
+                ∙ list-more line s a from x found to true count (viewsFrom c count numbers) i (countFrom (i + 1) (count - (i + 1))) (v .pasts) q z;
+          }
 
 -- ---- the answer and the rows: of a refusal, and of lines without a fault
 module _ (whole : Lines) (r : LinesRead) (rows : List (List ℕ)) where

@@ -11,7 +11,7 @@ ghost use Rattle.certificate_reader.specs.ReadCertificate.{refusal, view
 ghost use Rattle.certificate_reader.specs.Steps.Lines.{linesRead, viewLines, pastLines};
 use certificate::criterion::has_pasts;
 use certificate::criterion::read_criterion;
-use certificate::list::read_list_line;
+use certificate::next::next_list;
 use certificate::numbers::view_numbers;
 use certificate::record::Certificate;
 use certificate::record::Criterion;
@@ -130,12 +130,9 @@ fn read_views(
     let mut line = first;
     let mut at = from;
     while i < many {
-        let e = find_from(text, at, 10);
-        if e == text.len() {
-            return refuse(2, line, at, e);
-        }
         let own = numbers[i];
-        let r = read_list_line(&text[at..e], own as u32, count, false);
+        let r = next_list(text, at, own as u32, count, false);
+        let e = r.end;
         let fault = r.fault;
         if fault != 0 {
             return refuse(fault, line, at, e);
@@ -226,11 +223,8 @@ fn read_pasts(
     let mut line = first;
     let mut at = from;
     while i < count {
-        let e = find_from(text, at, 10);
-        if e == text.len() {
-            return refuse(2, line, at, e);
-        }
-        let r = read_list_line(&text[at..e], i as u32, count, true);
+        let r = next_list(text, at, i as u32, count, true);
+        let e = r.end;
         let fault = r.fault;
         if fault != 0 {
             return refuse(fault, line, at, e);

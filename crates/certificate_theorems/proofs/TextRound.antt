@@ -16,13 +16,14 @@ use Rattle.history.specs.declared.record.Event.{Event}
 use Rattle.history.specs.Readable.{allLess}
 use Rattle.history_theorems.proofs.TextRound.{split-lines, more}
 use Rattle.certificate.proofs.NumberingLaws.{count-long}
+use Rattle.certificate.proofs.LineTextLaws.{line-said, line-without}
 use Rattle.certificate.specs.declared.record.Criterion.{Criterion}
 use Rattle.certificate.specs.Criteria.{hasPasts, countFrom, viewNumbers, pastCount, criterionOf}
 use Rattle.certificate.specs.Faults.{rising, criterionLine, listFault, listSaid}
 use Rattle.certificate.specs.CertificateText.{listLine, listLines, criterionText, viewPart, pastPart, textOf}
 use Rattle.certificate.specs.Readable.{goodLists}
 use Rattle.certificate_reader.specs.ReadCertificate.{Lines, accepted, endFrom, headingFrom, listsFrom, viewsFrom, pastsFrom, bodyFrom, linesFrom, readLines}
-use Rattle.certificate_theorems.proofs.ListRound.{line-fault, line-said, line-without, line-back, line-good, criterion-without, criterion-line, criterion-said, criterion-back}
+use Rattle.certificate_theorems.proofs.ListRound.{line-fault, line-back, line-good, criterion-without, criterion-line, criterion-said, criterion-back}
 
 -- ---- the lines of a text: every line with its line feed, and nothing behind the last
 lists-clean : (ns : List ℕ) (ls ms : List (List ℕ)) → allWithout 10 ms ≡ true → allWithout 10 (listLines ns ls ++ ms) ≡ true

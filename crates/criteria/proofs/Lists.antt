@@ -379,18 +379,6 @@ rising-keep f (suc n) = subst Rising (sym (keep-append f (upTo n) (n ∷ []))) (
     go r true = rising-snoc 0 n (keep f (upTo n)) r (omega arith) (λ e t. mem-upTo e n (mem-keep f e (upTo n) t .1))
     go r false = subst Rising (sym (append-nil (keep f (upTo n)))) r
 
-pub rising-least : (b : ℕ) (l : List ℕ) (i : ℕ) → RisingFrom b l → i < length l → b ≤ getD l i 0
-rising-least b [] i r h = absurd (not-suc-le-zero h)
-rising-least b (x ∷ l) zero r h = r .0
-rising-least b (x ∷ l) (suc i) r h = let s = rising-least (suc x) l i (r .1) (le-of-suc-le-suc h) in let t = r .0 in omega arith
-
-pub rising-places : (b : ℕ) (l : List ℕ) (i j : ℕ) → RisingFrom b l → i < length l → j ≤ i → getD l j 0 ≤ getD l i 0
-rising-places b [] i j r h k = absurd (not-suc-le-zero h)
-rising-places b (x ∷ l) zero zero r h k = omega arith
-rising-places b (x ∷ l) zero (suc j) r h k = absurd (not-suc-le-zero k)
-rising-places b (x ∷ l) (suc i) zero r h k = let s = rising-least (suc x) l i (r .1) (le-of-suc-le-suc h) in omega arith
-rising-places b (x ∷ l) (suc i) (suc j) r h k = rising-places (suc x) l i j (r .1) (le-of-suc-le-suc h) (le-of-suc-le-suc k)
-
 -- ---- lists compared
 
 pub same-list : (a b : List ℕ) → sameList a b ≡ true → a ≡ b

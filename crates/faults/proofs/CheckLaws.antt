@@ -35,10 +35,10 @@ use Rattle.criteria.proofs.Lists.{mem-getD}
 use Rattle.criteria.proofs.Loops.{any-default}
 use Rattle.criteria.proofs.Check.{OfEvents, listed-events, program-causal}
 use Rattle.criteria.proofs.RecordLaws.{size-is, event-is, view-count, view-number, readable}
-use Rattle.orders.specs.Rows.{inRows, IsOrder, ShortList, ShortViews, viewAt, programIn}
+use Rattle.orders.specs.Rows.{inRows, IsOrder, ShortList, EventViews, viewAt, programIn}
 use Rattle.orders.proofs.ProgramLaws.{program-is}
 use Rattle.faults.specs.Finding.{isFound}
-use Rattle.faults.specs.Steps.{orderFault, viewFault, eventEach, EventViews}
+use Rattle.faults.specs.Steps.{orderFault, viewFault, eventEach}
 use Rattle.faults.proofs.OrderLaws.{order-faults}
 use Rattle.faults.proofs.ViewedLaws.{view-faults}
 use Rattle.faults.proofs.ReplayedLaws.{view-begins}
@@ -222,7 +222,7 @@ module _ (h : written-history.History) (w : within h ≡ true) where
           rw q (omega (arith, r, size-of));
     }
 
-    pub short-views : (m : ℕ) → m ≤ 64 → ShortViews rows (c .lengths) m
+    pub short-views : (m : ℕ) → m ≤ 64 → EventViews rows (c .lengths) m 64
     short-views m few = let e = event-views m few in record {
       few = e .few;
       entries = λ k l i b. let x = e .entries k l i b in omega (arith, few-of);

@@ -26,7 +26,7 @@ use Rattle.criteria.specs.Records.{historyOf}
 use Rattle.criteria.proofs.RecordLaws.{size-is, view-count, view-number}
 use Rattle.objects.specs.declared.state.State.{State}
 use Rattle.objects.specs.State.{noState, Fresh}
-use Rattle.orders.specs.Rows.{inRows}
+use Rattle.orders.specs.Rows.{inRows, EventViews}
 use Rattle.replays.specs.declared.replay.Light.{Light}
 use Rattle.replays.specs.declared.replay.Visible.{Visible}
 use Rattle.replays.specs.declared.replay.Visible.the-variants.{Only}
@@ -40,7 +40,7 @@ use Rattle.replays.proofs.LightLaws.{Made}
 use Rattle.replays.proofs.HistoryLaws.{same-visible, replay-is, ready-of}
 use Rattle.replays.proofs.VisibleLaws.{visible-is}
 use Rattle.replays.proofs.CutLaws.{first-below, kept-below}
-use Rattle.faults.specs.Steps.{EventViews, isConverge}
+use Rattle.faults.specs.Steps.{isConverge}
 use Rattle.faults.proofs.FoundLaws.{lowest-same}
 use Rattle.faults.proofs.RecordFacts.{objects-agree, events-long, object-declared}
 

@@ -14,7 +14,7 @@ use Rattle.criteria.specs.Certificate.{viewCount, viewNumber, viewSet}
 use Rattle.criteria.specs.Check.{Fault, fault14, fault15, notItsSet, against, find14, find15}
 use Rattle.criteria.proofs.Lists.{flag-none, lowest-none, take-mem, place-in}
 use Rattle.criteria.proofs.Check.{set-inside}
-use Rattle.orders.specs.Rows.{inRows, foundAt, viewAt, IsOrder, ShortViews}
+use Rattle.orders.specs.Rows.{inRows, foundAt, viewAt, IsOrder, EventViews}
 use Rattle.orders.proofs.ViewLaws.{once-of-set}
 use Rattle.orders.proofs.SizeLaws.{set-size}
 use Rattle.orders.proofs.SearchLaws.{set-same}
@@ -48,7 +48,7 @@ module _ (each : Bool) (views : List (List ℕ)) (lengths numbers : List ℕ) (r
       rw (found-none notSet (λ k. fault14 (getD numbers k 0)) m a l q) (sym (found-none inverted (λ k. fault15 (getD numbers k 0)) m b h r))
 
   -- each view is its set: none has an entry twice
-  pub once-views : (a : ℕ) → m ≤ a → foundAt m a ≡ lowest m (λ k. foundIf (notSet k) k) → ShortViews views lengths m
+  pub once-views : (a : ℕ) → m ≤ a → foundAt m a ≡ lowest m (λ k. foundIf (notSet k) k) → EventViews views lengths m 64
       → (k : ℕ) → k < m → (e : ℕ) → count e (viewAt views lengths k) ≤ 1
   once-views a l q s k h =
       once-of-set (setAt each rows n k) (viewAt views lengths k) inside

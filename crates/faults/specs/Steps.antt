@@ -1,7 +1,7 @@
 -- How the faults are found on rows: 11 to 13 of an order, 14 and 15 of views.
-use Prim.Native.Nat.{ℕ, _≤_, _<_}
+use Prim.Native.Nat.{ℕ}
 use mathlib.Core.Bool.{Bool, true, false, not, _&&_, _||_}
-use mathlib.Core.List.{List, []}
+use mathlib.Core.List.{List}
 use mathlib.Core.Option.{Option}
 use lib.ListN.{getD}
 use lib.Dec.{eqb, ltb}
@@ -35,11 +35,6 @@ unfoldable pub viewFault : Bool → List (List ℕ) → List ℕ → List ℕ �
 viewFault each views lengths numbers rows m n =
     or (lowest m (λ k. foundIf (notItsSet 64 (setAt each rows n k) (viewAt views lengths k)) (fault14 (getD numbers k 0))))
     (lowest m (λ k. foundIf (against (inRows rows) (viewAt views lengths k)) (fault15 (getD numbers k 0))))
-
--- The first m views are lists of the first n events.
-pub record EventViews (views : List (List ℕ)) (lengths : List ℕ) (m n : ℕ) : Type 0 where
-  pub few : (k : ℕ) → k < m → getD lengths k 0 ≤ 64
-  pub entries : (k : ℕ) → k < m → (i : ℕ) → i < getD lengths k 0 → getD (getD views k []) i 0 < n
 
 abbrev pub isConverge : Criterion → Bool
 isConverge Pram = false

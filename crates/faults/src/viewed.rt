@@ -3,7 +3,7 @@ ghost use mathlib.Core.Path.{_≡_};
 ghost use Prim.Native.Nat.{_≤_, _<_};
 ghost use Rattle.criteria.specs.Tests.{lowest, foundIf};
 ghost use Rattle.criteria.specs.Check.{notItsSet};
-ghost use Rattle.orders.specs.Rows.{foundAt, viewAt, ShortViews};
+ghost use Rattle.orders.specs.Rows.{foundAt, viewAt, EventViews};
 ghost use Rattle.faults.specs.Finding.{findingOf};
 ghost use Rattle.faults.specs.Steps.{eventEach, setAt, viewFault};
 use crate::finding::Finding;
@@ -34,7 +34,7 @@ fn first_not_set(
     m: usize,
     n: usize,
 ) -> usize
-    requires { ⌜ (m ≤ 64) × (n ≤ 64) × ShortViews (now views) lengths m ⌝ }
+    requires { ⌜ (m ≤ 64) × (n ≤ 64) × EventViews (now views) lengths m 64 ⌝ }
     ensures { λ r. ⌜ (r ≤ m) × (foundAt m r ≡ lowest m (λ k. foundIf (notItsSet 64 (setAt each (now (rows .entry)) n k) (viewAt (now (views .entry)) lengths k)) k)) ⌝ }
 {
     if each {
@@ -53,7 +53,7 @@ pub(crate) fn view_fault(
     m: usize,
     n: usize,
 ) -> Finding
-    requires { ⌜ (m ≤ 64) × (n ≤ 64) × ShortViews (now views) lengths m ⌝ }
+    requires { ⌜ (m ≤ 64) × (n ≤ 64) × EventViews (now views) lengths m 64 ⌝ }
     ensures { λ r. ⌜ findingOf r ≡ viewFault each (now (views .entry)) lengths numbers (now (rows .entry)) m n ⌝ }
 {
     let a = first_not_set(each, views, lengths, rows, m, n);

@@ -2,22 +2,22 @@
 ghost use mathlib.Core.Path.{_≡_};
 ghost use Prim.Native.Nat.{_+_, _≤_, _<_};
 ghost use mathlib.Core.List.{[], _∷_, _++_, map};
-ghost use mathlib.Core.Bool.{cond};
-ghost use lib.Dec.{eqb};
 ghost use lib.ListN.{length, take};
 ghost use Rattle.layout.specs.Fill.{fill};
 ghost use Rattle.history.specs.Kinds.{kindWord, opWord};
-ghost use Rattle.history_writer.specs.Steps.Lines.{fieldText, piecesText};
+ghost use Rattle.layout.specs.Steps.Line.{piecesText};
+ghost use Rattle.history_writer.specs.Steps.Lines.{fieldText};
 use history::record::Kind;
 use history::record::Op;
 use layout::fill::put_bytes;
+use layout::line::byte_behind;
 use layout::list::list_len;
 use layout::list::put_list;
 use layout::number::number_len;
 use layout::number::put_number;
 
 // A field of a line. The items are those of a list beside it.
-pub enum Field {
+pub(crate) enum Field {
     Dash,
     Number(u32),
     KindWord(Kind),
@@ -111,19 +111,8 @@ fn put_piece(part: &mut [u8], field: Field, items: &[u32], behind: u8) -> usize
     k + 1
 }
 
-// The byte behind field i of n: a space, or a line feed behind the last.
-fn byte_behind(i: usize, n: usize) -> u8
-    requires { ⌜ i < n ⌝ }
-    ensures { λ r. ⌜ r ≡ cond (eqb (i + 1) n) 10 32 ⌝ }
-{
-    if i + 1 == n {
-        return 10;
-    }
-    32
-}
-
 // How many bytes the line of the first n fields has, its line feed too.
-pub fn line_len(fields: [Field; 6], n: usize, items: &[u32]) -> usize
+pub(crate) fn line_len(fields: [Field; 6], n: usize, items: &[u32]) -> usize
     requires { ⌜ (n ≤ 6) × (length (now items) ≤ 64) ⌝ }
     ensures { λ r. ⌜ (r ≡ length (piecesText (map (fieldText (now (items .entry))) (take n fields)))) × (r ≤ 4230) ⌝ }
 {
@@ -138,7 +127,7 @@ pub fn line_len(fields: [Field; 6], n: usize, items: &[u32]) -> usize
 }
 
 // Writes the line of the first n fields, its line feed too, into a part that has room.
-pub fn put_line(part: &mut [u8], fields: [Field; 6], n: usize, items: &[u32]) -> usize
+pub(crate) fn put_line(part: &mut [u8], fields: [Field; 6], n: usize, items: &[u32]) -> usize
     requires { ⌜ (n ≤ 6) × (length (piecesText (map (fieldText (now items)) (take n fields))) ≤ length (now part)) ⌝ }
     ensures { λ r. ⌜ (r ≡ length (piecesText (map (fieldText (now (items .entry))) (take n fields)))) × (now (part .exit) ≡ fill (piecesText (map (fieldText (now (items .entry))) (take n fields))) (now (part .entry))) ⌝ }
 {

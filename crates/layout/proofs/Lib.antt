@@ -4,6 +4,7 @@ pub mod WordLaws
 pub mod NumberLaws
 pub mod SpellLaws
 pub mod FillLaws
+pub mod LineLaws
 pub mod ListLaws
 pub mod ListTextLaws
 pub mod RoundTrips

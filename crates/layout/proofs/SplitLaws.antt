@@ -101,26 +101,6 @@ module _ {b : ℕ} {s : List ℕ} {fs : List (List ℕ)} {a : ℕ} (c : Cut b s 
   pub cut-ends : length s ≤ e → split b s ≡ fs ++ take (e - a) (drop a s) ∷ []
   cut-ends h = c .is ∙ ap (λ (l : List (List ℕ)). fs ++ l) (cut-last b s a e found ha h)
 
--- ---- counting the parts
-first-long : (x : ℕ) (l : List (List ℕ)) → length (onFirst x l) ≡ length l
-unfolding onFirst
-first-long x [] = refl
-first-long x (p ∷ l) = refl
-
-module _ (b : ℕ) (s : List ℕ) (i : ℕ) (h : i < length s) where
-  pub count-here : getD s i 0 ≡ b → length (split b (drop i s)) ≡ suc (length (split b (drop (i + 1) s)))
-  unfolding split
-  count-here e = rw (add-one, drop-cons s i 0 h, eq-eqb (getD s i 0) b e)
-
-  pub count-next : (getD s i 0 ≡ b → ⊥) → length (split b (drop i s)) ≡ length (split b (drop (i + 1) s))
-  unfolding split
-  count-next e =
-      rw (add-one, drop-cons s i 0 h, ne-eqb (getD s i 0) b e) (first-long (getD s i 0) (split b (drop (suc i) s)))
-
-pub count-end : (b : ℕ) (s : List ℕ) (i : ℕ) → length s ≤ i → length (split b (drop i s)) ≡ 1
-unfolding split
-count-end b s i h = ap (λ (l : List ℕ). length (split b l)) (drop-of-length-le s h)
-
 -- ---- the part with a number
 getD-pred : (p : List ℕ) (l : List (List ℕ)) (j : ℕ) → 0 < j → getD (p ∷ l) j [] ≡ getD l (j - 1) []
 getD-pred p l zero h = absurd (not-suc-le-zero h)

@@ -20,21 +20,6 @@ pub fn find_from(s: &[u8], from: usize, b: u8) -> usize
     i
 }
 
-// How many parts the bytes b cut s into: how many fields a line has.
-pub fn count_parts(s: &[u8], b: u8) -> usize
-    ensures { λ r. ⌜ r ≡ length (split b (now (s .entry))) ⌝ }
-{
-    let mut n: usize = 1;
-    let mut i = 0;
-    while i < s.len() {
-        if s[i] == b {
-            n += 1;
-        }
-        i += 1;
-    }
-    n
-}
-
 // Where the part with the number k, from 0, begins, of s cut at the bytes b; the length of s where there are not so many.
 pub fn part_start(s: &[u8], b: u8, k: usize) -> usize
     ensures { λ r. ⌜ (r ≡ partStart b k (now (s .entry))) × (r ≤ length (now (s .entry))) × (getD (split b (now (s .entry))) k [] ≡ getD (split b (drop r (now (s .entry)))) 0 []) ⌝ }
@@ -50,14 +35,4 @@ pub fn part_start(s: &[u8], b: u8, k: usize) -> usize
         left -= 1;
     }
     a
-}
-
-// The part with the number k, from 0, of s cut at the bytes b: field k of a line, line k of a text. It is empty where
-// there are not so many.
-pub fn part(s: &[u8], b: u8, k: usize) -> &[u8]
-    ensures { λ r. ⌜ now r ≡ getD (split b (now (s .entry))) k [] ⌝ }
-{
-    let a = part_start(s, b, k);
-    let e = find_from(s, a, b);
-    &s[a..e]
 }

@@ -24,10 +24,10 @@ pub record ShortList (l : EventList) : Type 0 where
   pub few : l .count ≤ 64
   pub entries : (k : ℕ) → k < l .count → getD (l .events) k 0 < 64
 
--- The first m views, by their lengths: each has at most 64 entries, each below 64.
-pub record ShortViews (views : List (List ℕ)) (lengths : List ℕ) (m : ℕ) : Type 0 where
+-- The first m views, by their lengths: each has at most 64 entries, each one of the first n events.
+pub record EventViews (views : List (List ℕ)) (lengths : List ℕ) (m n : ℕ) : Type 0 where
   pub few : (k : ℕ) → k < m → getD lengths k 0 ≤ 64
-  pub entries : (k : ℕ) → k < m → (i : ℕ) → i < getD lengths k 0 → getD (getD views k []) i 0 < 64
+  pub entries : (k : ℕ) → k < m → (i : ℕ) → i < getD lengths k 0 → getD (getD views k []) i 0 < n
 
 -- The view of number k, cut to its length.
 abbrev pub viewAt : List (List ℕ) → List ℕ → ℕ → List ℕ

@@ -5,7 +5,7 @@ ghost use Prim.Native.Nat.{ℕ, _≤_, _<_};
 ghost use lib.Dec.{eqb, ltb};
 ghost use Rattle.criteria.specs.Tests.{lowest, foundIf, count};
 ghost use Rattle.criteria.specs.Check.{notItsSet, against};
-ghost use Rattle.orders.specs.Rows.{inRow, inRows, foundAt, ShortViews, viewAt};
+ghost use Rattle.orders.specs.Rows.{inRow, inRows, foundAt, EventViews, viewAt};
 use crate::sets::with_event;
 use crate::views::against_order;
 use crate::views::not_its_set;
@@ -26,7 +26,7 @@ fn all_row(n: usize) -> u64
 
 // 14: the lowest of the first m views that is not all n events, each once, or m.
 pub fn first_not_all(views: &[[u8; 64]; 64], lengths: [u8; 64], m: usize, n: usize) -> usize
-    requires { ⌜ (m ≤ 64) × (n ≤ 64) × ShortViews (now views) lengths m ⌝ }
+    requires { ⌜ (m ≤ 64) × (n ≤ 64) × EventViews (now views) lengths m 64 ⌝ }
     ensures { λ r. ⌜ (r ≤ m) × (foundAt m r ≡ lowest m (λ k. foundIf (notItsSet 64 (λ e. ltb e n) (viewAt (now (views .entry)) lengths k)) k)) ⌝ }
 {
     let all = all_row(n);
@@ -49,7 +49,7 @@ pub fn first_not_past(
     rows: &[u64; 64],
     m: usize,
 ) -> usize
-    requires { ⌜ (m ≤ 64) × ShortViews (now views) lengths m ⌝ }
+    requires { ⌜ (m ≤ 64) × EventViews (now views) lengths m 64 ⌝ }
     ensures { λ r. ⌜ (r ≤ m) × (foundAt m r ≡ lowest m (λ k. foundIf (notItsSet 64 (λ f. inRows (now (rows .entry)) f k || eqb f k) (viewAt (now (views .entry)) lengths k)) k)) ⌝ }
 {
     let mut k = 0;
@@ -68,7 +68,7 @@ pub fn first_not_past(
 
 // 15: the lowest of the first m views, none with an entry twice, that is against the order, or m.
 pub fn first_against(views: &[[u8; 64]; 64], lengths: [u8; 64], rows: &[u64; 64], m: usize) -> usize
-    requires { ⌜ (m ≤ 64) × ShortViews (now views) lengths m × ((k : ℕ) → k < m → (e : ℕ) → count e (viewAt (now views) lengths k) ≤ 1) ⌝ }
+    requires { ⌜ (m ≤ 64) × EventViews (now views) lengths m 64 × ((k : ℕ) → k < m → (e : ℕ) → count e (viewAt (now views) lengths k) ≤ 1) ⌝ }
     ensures { λ r. ⌜ (r ≤ m) × (foundAt m r ≡ lowest m (λ k. foundIf (against (inRows (now (rows .entry))) (viewAt (now (views .entry)) lengths k)) k)) ⌝ }
 {
     let mut k = 0;

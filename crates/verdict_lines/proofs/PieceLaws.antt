@@ -1,17 +1,13 @@
 -- Laws of the fields of a verdict as they are written. Assumes nothing.
 use Prim.Native.Nat.{ℕ, _+_, _-_, _≤_, _<_}
-use native.Mathlib.Numerals.{add-one}
 use native.Mathlib.Omega.{arith}
 use mathlib.Core.Path.{_≡_, refl, sym, ap, _∙_}
-use mathlib.Core.Bool.{Bool, cond}
-use mathlib.Core.List.{List, [], _∷_, _++_, map, append-assoc, append-nil}
+use mathlib.Core.List.{List, [], _∷_, _++_, map, append-assoc}
 use mathlib.Core.Option.{Option, none, some}
-use lib.ListN.{length, getD, drop, length-append, length-drop, length-map, drop-of-length-le}
-use lib.Seq.{drop-cons}
-use lib.Dec.{eqb}
+use lib.ListN.{length, length-append}
 use borrow.Author.Tests.{eq-eqb, ne-eqb}
 use Rattle.layout.specs.Number.{spell}
-use Rattle.layout.proofs.Cases.{by-eq}
+use Rattle.layout.specs.Steps.Line.{piecesText}
 use Rattle.layout.proofs.SpellLaws.{spell-short}
 use Rattle.certificate.specs.declared.record.Criterion.{Criterion}
 use Rattle.certificate.specs.declared.record.Criterion.the-variants.{Pram, Weak, Causal, Converge, Sequential}
@@ -26,43 +22,7 @@ use Rattle.checker.specs.Verdict.{verdictOf}
 use Rattle.verdict_lines.specs.declared.line.Field.{Field}
 use Rattle.verdict_lines.specs.declared.line.Field.the-variants.{Dash, Number, CriterionWord, TextWord}
 use Rattle.verdict_lines.specs.Printed.{textWord, criterionWord, numberWord, names, values, printed}
-use Rattle.verdict_lines.specs.Steps.{fieldText, piecesText, numberField, criterionField, fieldsOf}
-
--- one field and the byte behind it
-pieces-step : (f : List ℕ) (fs : List (List ℕ)) → piecesText (f ∷ fs) ≡ (f ++ cond (eqb (length fs) 0) 10 32 ∷ []) ++ piecesText fs
-unfolding piecesText
-pieces-step f [] = sym (append-nil (f ++ 10 ∷ []))
-pieces-step f (g ∷ fs) =
-    rw (ne-eqb (length (g ∷ fs)) 0 (λ z. absurd (omega arith))) (sym (append-assoc f (32 ∷ []) (piecesText (g ∷ fs))))
-
-pieces-none : piecesText [] ≡ []
-unfolding piecesText
-pieces-none = refl
-
--- ---- a loop over the six fields, at the place i
-module _ (fields : List Field) (i : ℕ) (six : length fields ≡ 6) where
-  last-is : i < 6 → eqb (length (map fieldText (drop (i + 1) fields))) 0 ≡ eqb i 5
-  last-is h =
-      let many : length (map fieldText (drop (i + 1) fields)) ≡ 6 - (i + 1) =
-      length-map (drop (i + 1) fields) fieldText ∙ length-drop (i + 1) fields ∙ ap (λ (k : ℕ). k - (i + 1)) six in
-      by-eq i 5
-      (λ e. eq-eqb (length (map fieldText (drop (i + 1) fields))) 0 (omega arith) ∙ sym (eq-eqb i 5 e))
-      (λ e. ne-eqb (length (map fieldText (drop (i + 1) fields))) 0 (λ z. e (omega arith)) ∙ sym (ne-eqb i 5 e))
-
-  pub pieces-at : i < 6 → (b : ℕ) → b ≡ cond (eqb i 5) 10 32
-      → piecesText (map fieldText (drop i fields))
-      ≡ (fieldText (getD fields i Dash) ++ b ∷ []) ++ piecesText (map fieldText (drop (i + 1) fields))
-  pieces-at h b e =
-      ap (λ (l : List Field). piecesText (map fieldText l))
-      (drop-cons fields i Dash (omega arith) ∙ ap (λ (k : ℕ). getD fields i Dash ∷ drop k fields) (sym (add-one i)))
-      ∙ pieces-step (fieldText (getD fields i Dash)) (map fieldText (drop (i + 1) fields))
-      ∙ ap (λ (t : Bool). (fieldText (getD fields i Dash) ++ cond t 10 32 ∷ []) ++ piecesText (map fieldText (drop (i + 1) fields))) (last-is h)
-      ∙ ap (λ (x : ℕ). (fieldText (getD fields i Dash) ++ x ∷ []) ++ piecesText (map fieldText (drop (i + 1) fields))) (sym e)
-
-  pub pieces-end : 6 ≤ i → piecesText (map fieldText (drop i fields)) ≡ []
-  pieces-end h =
-      ap (λ (l : List Field). piecesText (map fieldText l)) (drop-of-length-le fields {i = i} (omega arith))
-      ∙ pieces-none
+use Rattle.verdict_lines.specs.Steps.{fieldText, numberField, criterionField, fieldsOf}
 
 -- ---- no field is longer than eleven bytes
 pub number-short : (n : ℕ) → n < 4294967296 → length (spell n) ≤ 11

@@ -1,6 +1,6 @@
 -- The line of values as its fields.
 use Prim.Native.Nat.{ℕ}
-use mathlib.Core.List.{List, [], _∷_, _++_}
+use mathlib.Core.List.{List, [], _∷_}
 use mathlib.Core.Option.{Option, none, some}
 use Rattle.layout.specs.Word.{dash}
 use Rattle.layout.specs.Number.{spell}
@@ -16,12 +16,6 @@ fieldText Dash = dash
 fieldText (Number n) = spell n
 fieldText (CriterionWord c) = wordOf c
 fieldText (TextWord t) = textWord t
-
--- Fields with a space between each two and a line feed at the end.
-unfoldable pub piecesText : List (List ℕ) → List ℕ
-piecesText [] = []
-piecesText (f ∷ []) = f ++ 10 ∷ []
-piecesText (f ∷ g ∷ fs) = f ++ 32 ∷ piecesText (g ∷ fs)
 
 -- The field of a number or of a criterion that may be missing.
 abbrev pub numberField : Option ℕ → Field

@@ -2,8 +2,6 @@
 ghost use mathlib.Core.Path.{_≡_};
 ghost use Prim.Native.Nat.{_≤_, _<_};
 ghost use mathlib.Core.List.{[], _∷_, _++_, map};
-ghost use mathlib.Core.Bool.{cond};
-ghost use lib.Dec.{eqb};
 ghost use lib.ListN.{length};
 ghost use Rattle.layout.specs.Fill.{fill};
 ghost use Rattle.criteria.specs.Check.{answerOf};
@@ -11,13 +9,15 @@ ghost use Rattle.faults.specs.Finding.{findingOf, orNone};
 ghost use Rattle.certificate.specs.Criteria.{wordOf};
 ghost use Rattle.checker.specs.Verdict.{verdictOf};
 ghost use Rattle.verdict_lines.specs.Printed.{textWord, printed};
-ghost use Rattle.verdict_lines.specs.Steps.{fieldText, piecesText, numberField, fieldsOf};
+ghost use Rattle.layout.specs.Steps.Line.{piecesText};
+ghost use Rattle.verdict_lines.specs.Steps.{fieldText, numberField, fieldsOf};
 use certificate::record::Criterion;
 use certificate_reader::read::Text;
 use checker::check::Checked;
 use faults::finding::Finding;
 use faults::finding::number_of;
 use layout::fill::put_bytes;
+use layout::line::byte_behind;
 use layout::number::put_number;
 
 // A field of the line of values.
@@ -75,16 +75,6 @@ fn put_piece(part: &mut [u8], field: Field, behind: u8) -> usize
     k + 1
 }
 
-// The byte behind field i of the six: a space, or a line feed behind the last.
-fn byte_behind(i: usize) -> u8
-    ensures { λ r. ⌜ r ≡ cond (eqb i 5) 10 32 ⌝ }
-{
-    if i == 5 {
-        return 10;
-    }
-    32
-}
-
 // Writes the line of the six fields, its line feed too, into a part that has room.
 fn put_values(part: &mut [u8], fields: [Field; 6]) -> usize
     requires { ⌜ length (piecesText (map fieldText fields)) ≤ length (now part) ⌝ }
@@ -94,7 +84,7 @@ fn put_values(part: &mut [u8], fields: [Field; 6]) -> usize
     let mut i = 0;
     while i < 6 {
         let f = fields[i];
-        let b = byte_behind(i);
+        let b = byte_behind(i, 6);
         let k = put_piece(&mut part[at..], f, b);
         at += k;
         i += 1;

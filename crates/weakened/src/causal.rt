@@ -6,8 +6,8 @@ ghost use lib.ListN.{take, getD};
 ghost use Rattle.certificate.specs.Record.{eventListOf, rowsOf};
 ghost use Rattle.criteria.specs.Tests.{table, count};
 ghost use Rattle.criteria.specs.Weaken.{completed};
-ghost use Rattle.orders.specs.Rows.{viewAt};
-ghost use Rattle.weakened.specs.Steps.{lengthsOf, lastIn, WholeViews};
+ghost use Rattle.orders.specs.Rows.{viewAt, EventViews};
+ghost use Rattle.weakened.specs.Steps.{lengthsOf, lastIn};
 use crate::list::list_of;
 use crate::list::rising;
 use certificate::record::EventList;
@@ -70,7 +70,7 @@ pub fn completed_views(
     m: usize,
     lengths: &mut [u8; 64],
 ) -> [[u8; 64]; 64]
-    requires { ⌜ (n ≤ 64) × (m ≤ 64) × (n ≡ 0 → m ≡ 0) × WholeViews (now views) sizes n ⌝ }
+    requires { ⌜ (n ≤ 64) × (m ≤ 64) × (n ≡ 0 → m ≡ 0) × EventViews (now views) sizes n n × ((k : ℕ) → k < n → (e : ℕ) → count e (viewAt (now views) sizes k) ≤ 1) ⌝ }
     ensures { λ r. ⌜ (r ≡ rowsOf (table m (λ k. completed n (viewAt (now (views .entry)) sizes (lastIn n processes (getD numbers k 0)))))) × (now (lengths .exit) ≡ lengthsOf (table m (λ k. completed n (viewAt (now (views .entry)) sizes (lastIn n processes (getD numbers k 0)))))) ⌝ }
 {
     let mut rows = [[0u8; 64]; 64];

@@ -28,8 +28,8 @@ use Rattle.criteria.specs.Weaken.{completed, lastOf, weakenedFrom, weakened}
 use Rattle.criteria.specs.Records.{historyOf, certificateOf}
 use Rattle.criteria.proofs.Lists.{Once, once-of-count}
 use Rattle.criteria.proofs.RecordLaws.{view-count, view-number}
-use Rattle.orders.specs.Rows.{viewAt}
-use Rattle.weakened.specs.Steps.{lengthsOf, lastIn, WholeViews}
+use Rattle.orders.specs.Rows.{viewAt, EventViews}
+use Rattle.weakened.specs.Steps.{lengthsOf, lastIn}
 use Rattle.weakened.proofs.CausalLaws.{last-below}
 use Rattle.faults.proofs.CheckLaws.{process-of, event-views, view-same, number-count, number-at}
 use Rattle.weakener.proofs.PassedLaws.{size-passed, few-passed, few-numbers, fits-passed, good-passed}
@@ -95,10 +95,12 @@ module _ (h : written-history.History) (c : written-certificate.Certificate) (ro
       once-of-count (viewSet (c .criterion) (historyOf h) (order (historyOf h) (certificateOf h c rows)) k) (getD (certificateOf h c rows .views) k [])
       (good-passed h c rows p .isView k (omega (arith, l, count-is)))
 
-  pub whole-views : WholeViews rows (c .lengths) (h .count)
-  whole-views =
-      let e = event-views h (p .history) c rows (p .certificate) (few-numbers h c rows p (c .criterion)) (h .count) (few-passed h c rows p) in
-      record { few = e .few; entries = e .entries; once = λ k l. rw (view-is k l) (view-once k l) }
+  -- the views of the events are lists of events, none twice
+  pub lists-events : EventViews rows (c .lengths) (h .count) (h .count)
+  lists-events = event-views h (p .history) c rows (p .certificate) (few-numbers h c rows p (c .criterion)) (h .count) (few-passed h c rows p)
+
+  pub lists-once : (k : ℕ) → k < h .count → Once (viewAt rows (c .lengths) k)
+  lists-once k l = rw (view-is k l) (view-once k l)
 
   -- ---- to pram
   module _ (numbers : ViewNumbers) (numbered : numbers ≡ viewNumbersOf (viewNumbers Pram (eventsIn h)))

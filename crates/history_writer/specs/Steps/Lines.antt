@@ -1,7 +1,7 @@
 -- The fields of a line as they are written.
 use Prim.Native.Nat.{ℕ}
 use mathlib.Core.Bool.{Bool, true, cond, _&&_}
-use mathlib.Core.List.{List, [], _∷_, _++_}
+use mathlib.Core.List.{List, [], _∷_}
 use lib.Dec.{leb}
 use Rattle.layout.specs.Word.{dash}
 use Rattle.layout.specs.Number.{spell}
@@ -19,12 +19,6 @@ fieldText items (Number n) = spell n
 fieldText items (KindWord k) = kindWord k
 fieldText items (OpWord o) = opWord o
 fieldText items Items = listText items
-
--- Fields with a space behind each but the last, and a line feed behind that.
-unfoldable pub piecesText : List (List ℕ) → List ℕ
-piecesText [] = []
-piecesText (f ∷ []) = f ++ 10 ∷ []
-piecesText (f ∷ g ∷ fs) = f ++ 32 ∷ piecesText (g ∷ fs)
 
 -- The fields of an object's line and of an event's line.
 unfoldable pub objectFieldsOf : ℕ → Object → List Field

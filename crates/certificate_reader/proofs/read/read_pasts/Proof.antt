@@ -1,17 +1,17 @@
 -- `read_pasts` meets its contract: what the lines say is what those that are left say, after the pasts that are kept. Assumes
 -- nothing.
 use native.Mathlib.Omega.{arith}
-use Prim.Native.Nat.{ℕ, _≤_, _<_, _-_, _+_}
+use Prim.Native.Nat.{ℕ, _≤_, _-_, _+_}
 use mathlib.Core.Path.{_≡_, sym, ap, _∙_}
+use mathlib.Core.Bool.{true}
 use mathlib.Core.List.{List, map}
 use lib.ListN.{length, take, drop, length-set}
 use Rattle.layout.specs.Split.{split}
 use Rattle.history.specs.Record.{pad}
-use Rattle.history.proofs.FaultLaws.{strict}
 use Rattle.certificate.specs.Record.{noList, eventListOf, entriesIn}
 use Rattle.certificate_reader.specs.ReadCertificate.{viewsFrom}
 use Rattle.certificate_reader.specs.Steps.Lines.{pastLines}
-use Rattle.certificate_reader.proofs.KeepLaws.{ReadingPasts, pasts-begin, pasts-end, pasts-cut, pasts-bad, pasts-more, lists-in, refused, passed-on}
+use Rattle.certificate_reader.proofs.KeepLaws.{ReadingPasts, read-short, pasts-begin, pasts-end, pasts-bad, pasts-more, lists-in, refused, passed-on}
 use borrow.Author.Needs.{needs}
 use Rattle.certificate_reader.proofs.read.read_pasts.Statement.{statement}
 use Rattle.certificate_reader.proofs.read.read_pasts.Tie as tie
@@ -24,13 +24,7 @@ Inv-loop text from first criterion count numbers many rows pasts₀ i₀ line₀
 abbrev μ-loop : tie.MeasureT-loop
 μ-loop text from first criterion count numbers many rows pasts₀ i₀ line₀ at₀ pasts i line at = count - i
 
--- the line that is read is not the last part
-short : (c : tie.After-read-list-line Inv-loop μ-loop) → let f = c .before .before .before in f .find-from .result < length (f .before .before .before .before .before .args .text .now)
-short c =
-    let f = c .before .before .before in
-    strict _ _ (f .find-from .ensures .2) (c .before .before .if1 .left)
-
-no-fault : (c : tie.Else2 Inv-loop μ-loop) → c .before .read-list-line .result .fault ≡ 0
+no-fault : (c : tie.Else1 Inv-loop μ-loop) → c .before .next-list .result .fault ≡ 0
 no-fault c = search needs
 
 -- the pasts that are kept are those in the array
@@ -55,51 +49,24 @@ loop-holds c =
       pasts-begin (a .criterion) (a .count) (take (a .many) (a .numbers)) (a .text .now) (c .no-lists .result) (a .first) (a .from) (c .no-lists .ensures),
     )
 
-find-from-requires : tie.Need-find-from-requires Inv-loop μ-loop
-find-from-requires c κs = search needs
+cast-next-list : tie.Need-cast-next-list Inv-loop μ-loop
+cast-next-list c = search needs
+
+next-list-requires : tie.Need-next-list-requires Inv-loop μ-loop
+next-list-requires c κs = search needs
 
 refuse-requires : tie.Need-refuse-requires Inv-loop μ-loop
 refuse-requires c κs = search needs
 
 returns : tie.Need-returns Inv-loop μ-loop
 returns c =
-    let f = c .before .before in
-    let l = f .before .before .loop in
-    let a = f .before .before .before .before .before .args in
-    refused _ (c .refuse .result) (a .rows .now) 2 (l .line) (l .at) (f .find-from .result - l .at) (c .refuse .ensures)
-    (pasts-cut (a .criterion) (a .count) (take (a .many) (a .numbers)) (a .text .now) (l .inv .4)
-    (search needs) (f .find-from .result) (f .find-from .ensures .0) (l .inv .0) (f .find-from .ensures .2) (search needs))
-    (λ z. absurd (omega arith))
-
-sub-read-list-line : tie.Need-sub-read-list-line Inv-loop μ-loop
-sub-read-list-line c = search needs
-
-part-read-list-line-start : tie.Need-part-read-list-line-start Inv-loop μ-loop
-part-read-list-line-start c = search needs
-
-part-read-list-line-end : tie.Need-part-read-list-line-end Inv-loop μ-loop
-part-read-list-line-end c = search needs
-
-cast-read-list-line : tie.Need-cast-read-list-line Inv-loop μ-loop
-cast-read-list-line c = search needs
-
-read-list-line-requires : tie.Need-read-list-line-requires Inv-loop μ-loop
-read-list-line-requires c κs = search needs
-
-refuse-requires-2 : tie.Need-refuse-requires-2 Inv-loop μ-loop
-refuse-requires-2 c κs = search needs
-
-returns-2 : tie.Need-returns-2 Inv-loop μ-loop
-returns-2 c =
     let r = c .before .before in
-    let f = r .before .before .before in
-    let l = f .before .before .loop in
-    let a = f .before .before .before .before .before .args in
-    refused _ (c .refuse2 .result) (a .rows .now) (r .read-list-line .result .fault) (l .line) (l .at) (f .find-from .result - l .at) (c .refuse2 .ensures)
+    let l = r .before .before .loop in
+    let a = r .before .before .before .before .before .args in
+    refused _ (c .refuse .result) (a .rows .now) (r .next-list .result .fault) (l .line) (l .at) (r .next-list .result .end - l .at) (c .refuse .ensures)
     (pasts-bad (a .criterion) (a .count) (take (a .many) (a .numbers)) (a .text .now) (l .inv .4)
-    (search needs) (f .find-from .result) (f .find-from .ensures .0) (l .inv .0) (f .find-from .ensures .2) (short r)
-    (r .read-list-line .result) (r .read-list-line .ensures) (c .before .if2 .taken))
-    (c .before .if2 .taken)
+    (search needs) (l .inv .0) (r .next-list .result) (r .next-list .ensures .0) (r .next-list .ensures .1) (r .next-list .ensures .3) (c .before .if1 .taken))
+    (c .before .if1 .taken)
 
 mul-pasts : tie.Need-mul-pasts Inv-loop μ-loop
 mul-pasts c = search needs
@@ -121,18 +88,21 @@ loop-less c = search needs
 
 loop-again : tie.Need-loop-again Inv-loop μ-loop
 loop-again c =
-    let e2 = c .before in
-    let r = e2 .before in
-    let f = r .before .before .before in
-    let l = f .before .before .loop in
-    let a = f .before .before .before .before .before .args in (
-      omega (arith, short r),
+    let n = c .before in
+    let r = n .before in
+    let l = r .before .before .loop in
+    let a = r .before .before .before .before .before .args in (
+      omega (
+        arith,
+        read-short true (a .count) (l .i) (a .text .now) (l .at) (l .inv .0) (r .next-list .result) (r .next-list .ensures .0) (r .next-list .ensures .1)
+            (no-fault n),
+      ),
       search needs,
       search needs,
       length-set (l .pasts) (l .i) _ ∙ l .inv .3,
       pasts-more (a .criterion) (a .count) (take (a .many) (a .numbers)) (a .text .now) (l .inv .4)
-          (search needs) (f .find-from .result) (f .find-from .ensures .0) (l .inv .0) (f .find-from .ensures .2) (short r)
-          (r .read-list-line .result) (r .read-list-line .ensures) (no-fault e2) (search needs),
+          (search needs) (l .inv .0) (r .next-list .result) (r .next-list .ensures .0) (r .next-list .ensures .1) (r .next-list .ensures .3) (no-fault n)
+          (search needs),
     )
 
 read-view-part-requires : tie.Need-read-view-part-requires Inv-loop μ-loop
@@ -145,8 +115,8 @@ read-view-part-requires c κs =
       l .inv .4 .array-is ∙ ap (λ (ls : List (List ℕ)). pad 64 noList (map eventListOf ls)) (sym (kept (c .before))),
     )
 
-returns-3 : tie.Need-returns-3 Inv-loop μ-loop
-returns-3 c =
+returns-2 : tie.Need-returns-2 Inv-loop μ-loop
+returns-2 c =
     let l = c .before .before .before .loop in
     let a = c .before .before .before .before .before .before .args in
     passed-on _ _ (c .read-view-part .result) _ (a .rows .now)
@@ -163,16 +133,10 @@ read-pasts-spec =
     μ-loop
     no-lists-requires
     loop-holds
-    find-from-requires
+    cast-next-list
+    next-list-requires
     refuse-requires
     returns
-    sub-read-list-line
-    part-read-list-line-start
-    part-read-list-line-end
-    cast-read-list-line
-    read-list-line-requires
-    refuse-requires-2
-    returns-2
     mul-pasts
     array-set-from-pasts
     add-i
@@ -181,4 +145,4 @@ read-pasts-spec =
     loop-less
     loop-again
     read-view-part-requires
-    returns-3)
+    returns-2)

@@ -10,11 +10,11 @@ use lib.Seq.{length-take-le, getD-take}
 use Rattle.layout.specs.Split.{split}
 use Rattle.history.proofs.FaultLaws.{strict}
 use Rattle.certificate.specs.Record.{entriesIn}
-use Rattle.certificate.specs.Steps.Lists.{listRead}
+use Rattle.certificate.specs.Steps.Next.{nextRead}
 use Rattle.certificate_reader.specs.ReadCertificate.{accepted}
 use Rattle.certificate_reader.specs.Steps.Lines.{afterViews, viewLines}
 use Rattle.certificate_reader.proofs.ReadLaws.{end-done, end-cut, end-more}
-use Rattle.certificate_reader.proofs.KeepLaws.{ReadingViews, views-begin, views-end, views-cut, views-bad, views-few, views-more, refused, all-read}
+use Rattle.certificate_reader.proofs.KeepLaws.{ReadingViews, read-short, views-begin, views-end, views-bad, views-few, views-more, refused, all-read}
 use borrow.Author.Needs.{needs}
 use Rattle.certificate_reader.proofs.read.read_views.Statement.{statement}
 use Rattle.certificate_reader.proofs.read.read_views.Tie as tie
@@ -28,12 +28,6 @@ Inv-loop text from first criterion count many pasts kept rows numbers read₀ le
 abbrev μ-loop : tie.MeasureT-loop
 μ-loop text from first criterion count many pasts kept rows numbers read₀ lengths₀ i₀ line₀ at₀ read lengths i line at = many - i
 
--- the line that is read is not the last part
-short : (c : tie.After-read-list-line Inv-loop μ-loop) → let f = c .before .before .before in f .find-from .result < length (f .before .before .before .before .before .args .text .now)
-short c =
-    let f = c .before .before .before in
-    strict _ _ (f .find-from .ensures .2) (c .before .before .if1 .left)
-
 -- how many numbers there are, and the next one
 many-numbers : (c : tie.In-loop Inv-loop μ-loop) → let a = c .before .before .before .before .args in length (take (a .many) (a .t6)) ≡ a .many
 many-numbers c =
@@ -45,37 +39,32 @@ next-number : (c : tie.In-loop Inv-loop μ-loop) → let a = c .before .before .
 next-number c = let h : c .before .loop .i < c .before .before .before .before .args .many = search needs in omega (arith, many-numbers c, h)
 
 -- what was read is the line of the next view
-same-line : (c : tie.After-read-list-line Inv-loop μ-loop) → let f = c .before .before .before in let l = f .before .before .loop in
-    let a = f .before .before .before .before .before .args in
-    c .read-list-line .result
-    ≡ listRead false (a .count) (getD (take (a .many) (a .t6)) (l .i) 0) (take (f .find-from .result - l .at) (drop (l .at) (a .text .now)))
+same-line : (c : tie.After-next-list Inv-loop μ-loop) → let l = c .before .before .loop in
+    let a = c .before .before .before .before .before .args in
+    c .next-list .result ≡ nextRead false (a .count) (getD (take (a .many) (a .t6)) (l .i) 0) (l .at) (drop (l .at) (a .text .now))
 same-line c =
-    let f = c .before .before .before in
-    let l = f .before .before .loop in
-    let a = f .before .before .before .before .before .args in
+    let l = c .before .before .loop in
+    let a = c .before .before .before .before .before .args in
     let h : l .i < a .many = search needs in
-    c .read-list-line .ensures
-    ∙ ap (λ (n : ℕ). listRead false (a .count) n (take (f .find-from .result - l .at) (drop (l .at) (a .text .now))))
-    (sym (getD-take (a .many) (a .t6) (l .i) 0 h))
+    c .next-list .ensures .0
+    ∙ ap (λ (n : ℕ). nextRead false (a .count) n (l .at) (drop (l .at) (a .text .now))) (sym (getD-take (a .many) (a .t6) (l .i) 0 h))
 
-no-fault : (c : tie.Else2 Inv-loop μ-loop) → c .before .read-list-line .result .fault ≡ 0
+no-fault : (c : tie.Else1 Inv-loop μ-loop) → c .before .next-list .result .fault ≡ 0
 no-fault c = search needs
 
-few : (c : tie.Else2 Inv-loop μ-loop) → c .before .read-list-line .result .list .count ≤ 64
+few : (c : tie.Else1 Inv-loop μ-loop) → c .before .next-list .result .list .count ≤ 64
 few c =
     let r = c .before in
-    let f = r .before .before .before in
-    let l = f .before .before .loop in
-    let z = f .before .before .before .before .before in
+    let l = r .before .before .loop in
+    let z = r .before .before .before .before .before in
     let a = z .args in
-    let k : r .read-list-line .result .list .count ≤ a .count =
+    let k : r .next-list .result .list .count ≤ a .count =
     views-few (a .criterion) (a .count) (take (a .many) (a .t6)) (map entriesIn (take (a .kept) (a .pasts))) (a .text .now) (l .inv .6)
-    (next-number (f .before)) (f .find-from .result) (f .find-from .ensures .0) (l .inv .0) (f .find-from .ensures .2) (short r)
-    (r .read-list-line .result) (same-line r) (no-fault c) in
+    (next-number (r .before)) (l .inv .0) (r .next-list .result) (same-line r) (r .next-list .ensures .1) (r .next-list .ensures .3) (no-fault c) in
     omega (arith, k, z .pre .2)
 
 -- no number is left
-all-views : (c : tie.After-find-from2 Inv-loop μ-loop) → let l = c .before .before .loop in let a = c .before .before .before .before .before .args in
+all-views : (c : tie.After-find-from Inv-loop μ-loop) → let l = c .before .before .loop in let a = c .before .before .before .before .before .args in
     viewLines (a .criterion) (a .count) (take (a .many) (a .t6)) (map entriesIn (take (a .kept) (a .pasts))) (a .first) (a .from) (split 10 (drop (a .from) (a .text .now)))
     ≡ afterViews (a .criterion) (map entriesIn (take (a .kept) (a .pasts))) (l .inv .6 .views) (l .line) (l .at) (split 10 (drop (l .at) (a .text .now)))
 all-views c =
@@ -102,54 +91,27 @@ loop-holds c =
           _ (a .first) (a .from) (c .no-rows .ensures) refl,
     )
 
-find-from-requires : tie.Need-find-from-requires Inv-loop μ-loop
-find-from-requires c κs = search needs
+array-read-own : tie.Need-array-read-own Inv-loop μ-loop
+array-read-own c = search needs
+
+cast-next-list : tie.Need-cast-next-list Inv-loop μ-loop
+cast-next-list c = search needs
+
+next-list-requires : tie.Need-next-list-requires Inv-loop μ-loop
+next-list-requires c κs = search needs
 
 refuse-requires : tie.Need-refuse-requires Inv-loop μ-loop
 refuse-requires c κs = search needs
 
 returns : tie.Need-returns Inv-loop μ-loop
 returns c =
-    let f = c .before .before in
-    let l = f .before .before .loop in
-    let a = f .before .before .before .before .before .args in
-    refused _ (c .refuse .result) (a .rows .now) 2 (l .line) (l .at) (f .find-from .result - l .at) (c .refuse .ensures)
-    (views-cut (a .criterion) (a .count) (take (a .many) (a .t6)) (map entriesIn (take (a .kept) (a .pasts))) (a .text .now) (l .inv .6)
-    (next-number (f .before)) (f .find-from .result) (f .find-from .ensures .0) (l .inv .0) (f .find-from .ensures .2) (search needs))
-    (λ z. absurd (omega arith))
-
-array-read-own : tie.Need-array-read-own Inv-loop μ-loop
-array-read-own c = search needs
-
-sub-read-list-line : tie.Need-sub-read-list-line Inv-loop μ-loop
-sub-read-list-line c = search needs
-
-part-read-list-line-start : tie.Need-part-read-list-line-start Inv-loop μ-loop
-part-read-list-line-start c = search needs
-
-part-read-list-line-end : tie.Need-part-read-list-line-end Inv-loop μ-loop
-part-read-list-line-end c = search needs
-
-cast-read-list-line : tie.Need-cast-read-list-line Inv-loop μ-loop
-cast-read-list-line c = search needs
-
-read-list-line-requires : tie.Need-read-list-line-requires Inv-loop μ-loop
-read-list-line-requires c κs = search needs
-
-refuse-requires-2 : tie.Need-refuse-requires-2 Inv-loop μ-loop
-refuse-requires-2 c κs = search needs
-
-returns-2 : tie.Need-returns-2 Inv-loop μ-loop
-returns-2 c =
     let r = c .before .before in
-    let f = r .before .before .before in
-    let l = f .before .before .loop in
-    let a = f .before .before .before .before .before .args in
-    refused _ (c .refuse2 .result) (a .rows .now) (r .read-list-line .result .fault) (l .line) (l .at) (f .find-from .result - l .at) (c .refuse2 .ensures)
+    let l = r .before .before .loop in
+    let a = r .before .before .before .before .before .args in
+    refused _ (c .refuse .result) (a .rows .now) (r .next-list .result .fault) (l .line) (l .at) (r .next-list .result .end - l .at) (c .refuse .ensures)
     (views-bad (a .criterion) (a .count) (take (a .many) (a .t6)) (map entriesIn (take (a .kept) (a .pasts))) (a .text .now) (l .inv .6)
-    (next-number (f .before)) (f .find-from .result) (f .find-from .ensures .0) (l .inv .0) (f .find-from .ensures .2) (short r)
-    (r .read-list-line .result) (same-line r) (c .before .if2 .taken))
-    (c .before .if2 .taken)
+    (next-number (r .before)) (l .inv .0) (r .next-list .result) (same-line r) (r .next-list .ensures .1) (r .next-list .ensures .3) (c .before .if1 .taken))
+    (c .before .if1 .taken)
 
 mul-read : tie.Need-mul-read Inv-loop μ-loop
 mul-read c = search needs
@@ -177,67 +139,70 @@ loop-less c = search needs
 
 loop-again : tie.Need-loop-again Inv-loop μ-loop
 loop-again c =
-    let e2 = c .before .before .before in
-    let r = e2 .before in
-    let f = r .before .before .before in
-    let l = f .before .before .loop in
-    let a = f .before .before .before .before .before .args in (
-      omega (arith, short r),
+    let n = c .before .before .before in
+    let r = n .before in
+    let l = r .before .before .loop in
+    let a = r .before .before .before .before .before .args in (
+      omega (
+        arith,
+        read-short false (a .count) (getD (take (a .many) (a .t6)) (l .i) 0) (a .text .now) (l .at) (l .inv .0) (r .next-list .result) (same-line r)
+            (r .next-list .ensures .1) (no-fault n),
+      ),
       search needs,
       search needs,
       l .inv .3,
       length-set (l .read) (l .i) _ ∙ l .inv .4,
       length-set (l .lengths) (l .i) _ ∙ l .inv .5,
       views-more (a .criterion) (a .count) (take (a .many) (a .t6)) (map entriesIn (take (a .kept) (a .pasts))) (a .text .now) (l .inv .6)
-          (next-number (f .before)) (f .find-from .result) (f .find-from .ensures .0) (l .inv .0) (f .find-from .ensures .2) (short r)
-          (r .read-list-line .result) (same-line r) (no-fault e2) (search needs),
+          (next-number (r .before)) (l .inv .0) (r .next-list .result) (same-line r) (r .next-list .ensures .1) (r .next-list .ensures .3) (no-fault n)
+          (search needs),
     )
 
-find-from-requires-2 : tie.Need-find-from-requires-2 Inv-loop μ-loop
-find-from-requires-2 c κs = search needs
+find-from-requires : tie.Need-find-from-requires Inv-loop μ-loop
+find-from-requires c κs = search needs
 
 put-rows-requires : tie.Need-put-rows-requires Inv-loop μ-loop
 put-rows-requires c κs = search needs
 
-returns-3 : tie.Need-returns-3 Inv-loop μ-loop
-returns-3 c =
+returns-2 : tie.Need-returns-2 Inv-loop μ-loop
+returns-2 c =
     let t = c .before .before .before in
     let f = t .before in
     let l = f .before .before .loop in
     let z = f .before .before .before .before .before in
     let a = z .args in
     let v = l .inv .6 in
-    let w = all-views f ∙ end-done (l .line) (a .text .now) (l .at) (f .find-from2 .result) (f .find-from2 .ensures .0) (l .inv .0) (f .find-from2 .ensures .2)
-    (accepted (a .criterion) (map entriesIn (take (a .kept) (a .pasts))) (v .views)) (search needs) (c .before .before .if4 .taken) in
+    let w = all-views f ∙ end-done (l .line) (a .text .now) (l .at) (f .find-from .result) (f .find-from .ensures .0) (l .inv .0) (f .find-from .ensures .2)
+    (accepted (a .criterion) (map entriesIn (take (a .kept) (a .pasts))) (v .views)) (search needs) (c .before .before .if3 .taken) in
     let p = all-read _ (a .criterion) (a .pasts) (l .lengths) (l .read) (a .rows .now) (map entriesIn (take (a .kept) (a .pasts))) (v .views)
     w (z .pre .4) (v .lengths-are) (v .rows-are) in
     (p .0, c .put-rows .ensures ∙ p .1)
+
+refuse-requires-2 : tie.Need-refuse-requires-2 Inv-loop μ-loop
+refuse-requires-2 c κs = search needs
+
+returns-3 : tie.Need-returns-3 Inv-loop μ-loop
+returns-3 c =
+    let t = c .before .before in
+    let f = t .before in
+    let l = f .before .before .loop in
+    let a = f .before .before .before .before .before .args in
+    refused _ (c .refuse2 .result) (a .rows .now) 2 (l .line) (l .at) (f .find-from .result - l .at) (c .refuse2 .ensures)
+    (all-views f ∙ end-cut (l .line) (a .text .now) (l .at) (f .find-from .result) (f .find-from .ensures .0) (l .inv .0) (f .find-from .ensures .2)
+    (accepted (a .criterion) (map entriesIn (take (a .kept) (a .pasts))) (l .inv .6 .views)) (search needs) (c .before .if3 .left))
+    (λ z. absurd (omega arith))
 
 refuse-requires-3 : tie.Need-refuse-requires-3 Inv-loop μ-loop
 refuse-requires-3 c κs = search needs
 
 returns-4 : tie.Need-returns-4 Inv-loop μ-loop
 returns-4 c =
-    let t = c .before .before in
-    let f = t .before in
-    let l = f .before .before .loop in
-    let a = f .before .before .before .before .before .args in
-    refused _ (c .refuse3 .result) (a .rows .now) 2 (l .line) (l .at) (f .find-from2 .result - l .at) (c .refuse3 .ensures)
-    (all-views f ∙ end-cut (l .line) (a .text .now) (l .at) (f .find-from2 .result) (f .find-from2 .ensures .0) (l .inv .0) (f .find-from2 .ensures .2)
-    (accepted (a .criterion) (map entriesIn (take (a .kept) (a .pasts))) (l .inv .6 .views)) (search needs) (c .before .if4 .left))
-    (λ z. absurd (omega arith))
-
-refuse-requires-4 : tie.Need-refuse-requires-4 Inv-loop μ-loop
-refuse-requires-4 c κs = search needs
-
-returns-5 : tie.Need-returns-5 Inv-loop μ-loop
-returns-5 c =
     let f = c .before .before in
     let l = f .before .before .loop in
     let a = f .before .before .before .before .before .args in
-    refused _ (c .refuse4 .result) (a .rows .now) 2 (l .line) (l .at) (f .find-from2 .result - l .at) (c .refuse4 .ensures)
-    (all-views f ∙ end-more (l .line) (a .text .now) (l .at) (f .find-from2 .result) (f .find-from2 .ensures .0) (l .inv .0) (f .find-from2 .ensures .2)
-    (accepted (a .criterion) (map entriesIn (take (a .kept) (a .pasts))) (l .inv .6 .views)) (strict _ _ (f .find-from2 .ensures .2) (c .before .if3 .left)))
+    refused _ (c .refuse3 .result) (a .rows .now) 2 (l .line) (l .at) (f .find-from .result - l .at) (c .refuse3 .ensures)
+    (all-views f ∙ end-more (l .line) (a .text .now) (l .at) (f .find-from .result) (f .find-from .ensures .0) (l .inv .0) (f .find-from .ensures .2)
+    (accepted (a .criterion) (map entriesIn (take (a .kept) (a .pasts))) (l .inv .6 .views)) (strict _ _ (f .find-from .ensures .2) (c .before .if2 .left)))
     (λ z. absurd (omega arith))
 
 pub read-views-spec : {M : Type 1} → statement M
@@ -248,17 +213,11 @@ read-views-spec =
     μ-loop
     no-rows-requires
     loop-holds
-    find-from-requires
+    array-read-own
+    cast-next-list
+    next-list-requires
     refuse-requires
     returns
-    array-read-own
-    sub-read-list-line
-    part-read-list-line-start
-    part-read-list-line-end
-    cast-read-list-line
-    read-list-line-requires
-    refuse-requires-2
-    returns-2
     mul-read
     array-set-from-read
     cast-lengths
@@ -268,10 +227,10 @@ read-views-spec =
     add-at
     loop-less
     loop-again
-    find-from-requires-2
+    find-from-requires
     put-rows-requires
+    returns-2
+    refuse-requires-2
     returns-3
     refuse-requires-3
-    returns-4
-    refuse-requires-4
-    returns-5)
+    returns-4)

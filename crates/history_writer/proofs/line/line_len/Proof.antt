@@ -5,8 +5,10 @@ use Prim.Native.Nat.{_≤_, _+_, _*_, _-_}
 use mathlib.Core.Path.{_≡_, ap}
 use mathlib.Core.List.{map}
 use lib.ListN.{length, take, drop}
-use Rattle.history_writer.specs.Steps.Lines.{fieldText, piecesText}
-use Rattle.history_writer.proofs.PieceLaws.{pieces-long, pieces-end}
+use Rattle.layout.specs.Steps.Line.{piecesText}
+use Rattle.history_writer.specs.declared.line.Field.the-variants.{Dash}
+use Rattle.history_writer.specs.Steps.Lines.{fieldText}
+use Rattle.layout.proofs.LineLaws.{pieces-long, pieces-end}
 use Rattle.history_writer.proofs.line.line_len.Statement.{statement}
 use Rattle.history_writer.proofs.line.line_len.Tie as tie
 
@@ -49,14 +51,14 @@ loop-again c =
     let f = c .field-len .ensures in
     let h = c .before .before .before in
     let a = h .before .before .args in
-    let p = pieces-long (fieldText (a .items .now)) (a .t1) (a .n) (h .loop .i) (h .loop .inv .1) (search needs) in
+    let p = pieces-long Dash (fieldText (a .items .now)) (a .t1) (a .n) (h .loop .i) (h .loop .inv .1) (search needs) in
     (search needs, h .loop .inv .1, omega (arith, f .1), omega (arith, f .0))
 
 returns : tie.Need-returns Inv-loop μ-loop
 returns c =
     let l = c .before .loop in
     let a = c .before .before .before .args in
-    let z = pieces-end (fieldText (a .items .now)) (a .t1) (a .n) (l .i) (l .inv .1) (search needs) in
+    let z = pieces-end Dash (fieldText (a .items .now)) (a .t1) (a .n) (l .i) (l .inv .1) (search needs) in
     (omega (arith, ap length z), omega arith)
 
 pub line-len-spec : {M : Type 1} → statement M

@@ -7,8 +7,9 @@ use mathlib.Core.List.{map, [], _∷_, _++_}
 use lib.ListN.{length, take, drop, getD}
 use Rattle.layout.proofs.FillLaws.{Writing, writing-begins, writing-from, writing-room, writing-sum, writing-part, writing-ends}
 use Rattle.history_writer.specs.declared.line.Field.the-variants.{Dash}
-use Rattle.history_writer.specs.Steps.Lines.{fieldText, piecesText}
-use Rattle.history_writer.proofs.PieceLaws.{pieces-at, pieces-end}
+use Rattle.layout.specs.Steps.Line.{piecesText}
+use Rattle.history_writer.specs.Steps.Lines.{fieldText}
+use Rattle.layout.proofs.LineLaws.{pieces-at, pieces-end}
 use Rattle.history_writer.proofs.line.put_line.Statement.{statement}
 use Rattle.history_writer.proofs.line.put_line.Tie as tie
 
@@ -49,7 +50,7 @@ put-piece-requires c κs =
     let l = b .before .before .before .loop in
     let a = b .before .before .before .before .before .before .args in
     writing-room (l .inv .2) (fieldText (a .items .now) (getD (a .t2) (l .i) Dash) ++ b .byte-behind .result ∷ []) _
-    (pieces-at (fieldText (a .items .now)) (a .t2) (a .n) (l .i) (l .inv .1) (search needs) (b .byte-behind .result) (b .byte-behind .ensures))
+    (pieces-at Dash (fieldText (a .items .now)) (a .t2) (a .n) (l .i) (l .inv .1) (search needs) (b .byte-behind .result) (b .byte-behind .ensures))
 
 add-at : tie.Need-add-at Inv-loop μ-loop
 add-at c =
@@ -61,7 +62,7 @@ add-at c =
       arith,
       p .put-piece .ensures .0,
       writing-sum (l .inv .2) (fieldText (a .items .now) (getD (a .t2) (l .i) Dash) ++ b .byte-behind .result ∷ []) _
-          (pieces-at (fieldText (a .items .now)) (a .t2) (a .n) (l .i) (l .inv .1) (search needs) (b .byte-behind .result) (b .byte-behind .ensures)),
+          (pieces-at Dash (fieldText (a .items .now)) (a .t2) (a .n) (l .i) (l .inv .1) (search needs) (b .byte-behind .result) (b .byte-behind .ensures)),
     )
 
 add-i : tie.Need-add-i Inv-loop μ-loop
@@ -79,7 +80,7 @@ loop-again c =
       search needs,
       l .inv .1,
       writing-part (l .inv .2) (fieldText (a .items .now) (getD (a .t2) (l .i) Dash) ++ b .byte-behind .result ∷ []) _
-          (pieces-at (fieldText (a .items .now)) (a .t2) (a .n) (l .i) (l .inv .1) (search needs) (b .byte-behind .result) (b .byte-behind .ensures))
+          (pieces-at Dash (fieldText (a .items .now)) (a .t2) (a .n) (l .i) (l .inv .1) (search needs) (b .byte-behind .result) (b .byte-behind .ensures))
           (p .put-piece .result) (p .put-piece .last .0) (p .put-piece .ensures .0) (p .put-piece .ensures .1),
     )
 
@@ -90,7 +91,7 @@ returns : tie.Need-returns Inv-loop μ-loop
 returns c =
     let l = c .before .loop in
     let a = c .before .before .before .before .args in
-    writing-ends (l .inv .2) (pieces-end (fieldText (a .items .now)) (a .t2) (a .n) (l .i) (l .inv .1) (search needs))
+    writing-ends (l .inv .2) (pieces-end Dash (fieldText (a .items .now)) (a .t2) (a .n) (l .i) (l .inv .1) (search needs))
 
 pub put-line-spec : {M : Type 1} → statement M
 put-line-spec =

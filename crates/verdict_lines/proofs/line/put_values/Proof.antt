@@ -5,16 +5,17 @@ use native.Mathlib.Omega.{arith}
 use Prim.Native.Nat.{_≤_, _-_}
 use mathlib.Core.Path.{_≡_}
 use mathlib.Core.List.{map, [], _∷_, _++_}
-use lib.ListN.{length, drop, getD}
+use lib.ListN.{length, take, drop, getD}
 use Rattle.layout.proofs.FillLaws.{Writing, writing-begins, writing-from, writing-room, writing-sum, writing-part, writing-ends}
 use Rattle.verdict_lines.specs.declared.line.Field.the-variants.{Dash}
-use Rattle.verdict_lines.specs.Steps.{fieldText, piecesText}
-use Rattle.verdict_lines.proofs.PieceLaws.{pieces-at, pieces-end}
+use Rattle.verdict_lines.specs.Steps.{fieldText}
+use Rattle.layout.specs.Steps.Line.{piecesText}
+use Rattle.layout.proofs.LineLaws.{pieces-at, pieces-end}
 use borrow.Author.Needs.{needs}
 
 abbrev Inv-loop : tie.InvT-loop
 Inv-loop part₀ fields at₀ i₀ part at i =
-    (i ≤ 6) × (length fields ≡ 6) × Writing (piecesText (map fieldText fields)) part₀ (piecesText (map fieldText (drop i fields))) part at
+    (i ≤ 6) × (length fields ≡ 6) × Writing (piecesText (map fieldText (take 6 fields))) part₀ (piecesText (map fieldText (drop i (take 6 fields)))) part at
 
 abbrev μ-loop : tie.MeasureT-loop
 μ-loop part₀ fields at₀ i₀ part at i = 6 - i
@@ -46,7 +47,7 @@ put-piece-requires c κs =
     let l = b .before .before .before .loop in
     let a = b .before .before .before .before .before .args in
     writing-room (l .inv .2) (fieldText (getD (a .t2) (l .i) Dash) ++ b .byte-behind .result ∷ []) _
-    (pieces-at (a .t2) (l .i) (l .inv .1) (search needs) (b .byte-behind .result) (b .byte-behind .ensures))
+    (pieces-at Dash fieldText (a .t2) 6 (l .i) (omega (arith, l .inv .1)) (search needs) (b .byte-behind .result) (b .byte-behind .ensures))
 
 add-at : tie.Need-add-at Inv-loop μ-loop
 add-at c =
@@ -58,7 +59,7 @@ add-at c =
       arith,
       p .put-piece .ensures .0,
       writing-sum (l .inv .2) (fieldText (getD (a .t2) (l .i) Dash) ++ b .byte-behind .result ∷ []) _
-          (pieces-at (a .t2) (l .i) (l .inv .1) (search needs) (b .byte-behind .result) (b .byte-behind .ensures)),
+          (pieces-at Dash fieldText (a .t2) 6 (l .i) (omega (arith, l .inv .1)) (search needs) (b .byte-behind .result) (b .byte-behind .ensures)),
     )
 
 add-i : tie.Need-add-i Inv-loop μ-loop
@@ -76,7 +77,7 @@ loop-again c =
       search needs,
       l .inv .1,
       writing-part (l .inv .2) (fieldText (getD (a .t2) (l .i) Dash) ++ b .byte-behind .result ∷ []) _
-          (pieces-at (a .t2) (l .i) (l .inv .1) (search needs) (b .byte-behind .result) (b .byte-behind .ensures))
+          (pieces-at Dash fieldText (a .t2) 6 (l .i) (omega (arith, l .inv .1)) (search needs) (b .byte-behind .result) (b .byte-behind .ensures))
           (p .put-piece .result) (p .put-piece .last .0) (p .put-piece .ensures .0) (p .put-piece .ensures .1),
     )
 
@@ -87,7 +88,7 @@ returns : tie.Need-returns Inv-loop μ-loop
 returns c =
     let l = c .before .loop in
     let a = c .before .before .before .args in
-    writing-ends (l .inv .2) (pieces-end (a .t2) (l .i) (l .inv .1) (search needs))
+    writing-ends (l .inv .2) (pieces-end Dash fieldText (a .t2) 6 (l .i) (omega (arith, l .inv .1)) (search needs))
 
 pub put-values-spec : {M : Type 1} → statement M
 put-values-spec =

@@ -1,4 +1,5 @@
 -- `put_verdict` meets its contract: the line of names, and the line of values behind it. Assumes nothing.
+use Rattle.layout.specs.Steps.Line.{piecesText}
 use borrow.Author.Needs.{needs}
 use Rattle.verdict_lines.proofs.line.put_verdict.Statement.{statement}
 use Rattle.verdict_lines.proofs.line.put_verdict.Tie as tie
@@ -9,7 +10,7 @@ use lib.ListN.{length, length-append}
 use Rattle.layout.proofs.FillLaws.{Writing, writing-first, last-part}
 use Rattle.checker.specs.Verdict.{verdictOf}
 use Rattle.verdict_lines.specs.Printed.{names, printed}
-use Rattle.verdict_lines.specs.Steps.{fieldText, piecesText}
+use Rattle.verdict_lines.specs.Steps.{fieldText}
 use Rattle.verdict_lines.proofs.PieceLaws.{printed-is}
 
 -- the names are written, and the values are left

@@ -2,10 +2,6 @@
 use borrow.Author.Needs.{needs}
 use Rattle.verdict_lines.proofs.print.print_check.Statement.{statement}
 use Rattle.verdict_lines.proofs.print.print_check.Tie as tie
-use Rattle.verdict_lines.proofs.print.print_check.Reads as reads
-use Rattle.verdict_lines.proofs.print.print_check.Lts as lts
-use Rattle.checker.proofs.check.check.Reads as check-reads
-use Rattle.verdict_lines.proofs.line.put_verdict.Reads as put-verdict-reads
 use Prim.Native.Nat.{ℕ, _≤_, _<_}
 use native.Mathlib.Omega.{arith}
 use mathlib.Core.Path.{_≡_, sym, ap, ap₂, _∙_, subst}

@@ -75,7 +75,7 @@ completed-view-requires c κs =
     let s = w .before .before .before in
     let v = s .pre .3 in
     let h = last-small w in
-    (s .pre .0, v .few (w .last-of .result) h, v .entries (w .last-of .result) h, v .once (w .last-of .result) h)
+    (s .pre .0, v .few (w .last-of .result) h, v .entries (w .last-of .result) h, s .pre .4 (w .last-of .result) h)
 
 cast-counts : tie.Need-cast-counts Inv-loop μ-loop
 cast-counts c = omega (arith, c .before .before .completed-view .ensures .1)

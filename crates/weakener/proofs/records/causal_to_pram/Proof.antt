@@ -3,7 +3,7 @@ use borrow.Author.Needs.{needs}
 use Rattle.weakener.proofs.records.causal_to_pram.Statement.{statement}
 use Rattle.weakener.proofs.records.causal_to_pram.Tie as tie
 use Rattle.faults.proofs.CheckLaws.{few-of}
-use Rattle.weakener.proofs.CausalRecords.{no-views, whole-views, pram-record}
+use Rattle.weakener.proofs.CausalRecords.{no-views, lists-events, lists-once, pram-record}
 
 view-numbers-requires : tie.Need-view-numbers-requires
 view-numbers-requires c κs = let s = c .before in few-of (s .args .h) (s .pre .1 .history)
@@ -18,7 +18,8 @@ completed-views-requires c κs =
       few-of (s .args .h) (s .pre .1 .history),
       v .view-numbers .ensures .1,
       no-views (s .args .h .count) (s .args .h .events) (v .view-numbers .result) (v .view-numbers .ensures .0),
-      whole-views (s .args .h) (s .args .c) (s .args .t3) (s .pre .0) (s .pre .1),
+      lists-events (s .args .h) (s .args .c) (s .args .t3) (s .pre .0) (s .pre .1),
+      lists-once (s .args .h) (s .args .c) (s .args .t3) (s .pre .0) (s .pre .1),
     )
 
 no-pasts-requires : tie.Need-no-pasts-requires
