@@ -6,6 +6,7 @@ use Prim.Native.Nat.{_≤_, _-_}
 use mathlib.Core.Path.{_≡_}
 use mathlib.Core.List.{map, [], _∷_, _++_}
 use lib.ListN.{length, take, drop, getD}
+use lib.Seq.{take-all}
 use Rattle.layout.proofs.FillLaws.{Writing, writing-begins, writing-from, writing-room, writing-sum, writing-part, writing-ends}
 use Rattle.verdict_lines.specs.declared.line.Field.the-variants.{Dash}
 use Rattle.verdict_lines.specs.Steps.{fieldText}
@@ -21,7 +22,9 @@ abbrev μ-loop : tie.MeasureT-loop
 μ-loop part₀ fields at₀ i₀ part at i = 6 - i
 
 loop-holds : tie.Need-loop-holds Inv-loop μ-loop
-loop-holds c = (search needs, search needs, writing-begins _ _ (c .before .pre))
+loop-holds c =
+    let six : length (c .before .args .t2) ≡ 6 = search needs in
+    (search needs, six, writing-begins _ _ (rw (take-all 6 (c .before .args .t2) (omega (arith, six))) (c .before .pre)))
 
 mul-f : tie.Need-mul-f Inv-loop μ-loop
 mul-f c = search needs
@@ -88,7 +91,7 @@ returns : tie.Need-returns Inv-loop μ-loop
 returns c =
     let l = c .before .loop in
     let a = c .before .before .before .args in
-    writing-ends (l .inv .2) (pieces-end Dash fieldText (a .t2) 6 (l .i) (omega (arith, l .inv .1)) (search needs))
+    rw (take-all 6 (a .t2) (omega (arith, l .inv .1))) at (writing-ends (l .inv .2) (pieces-end Dash fieldText (a .t2) 6 (l .i) (omega (arith, l .inv .1)) (search needs)))
 
 pub put-values-spec : {M : Type 1} → statement M
 put-values-spec =
