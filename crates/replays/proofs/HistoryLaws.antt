@@ -1,5 +1,5 @@
 -- A history taken apart is the history: its events, its objects and what they hold at the start. Assumes nothing.
-use Prim.Native.Nat.{ℕ, zero, suc, _+_, _≤_, _<_}
+use Prim.Native.Nat.{ℕ, zero, suc, _≤_, _<_}
 use native.Mathlib.Nat.{not-suc-le-zero}
 use native.Mathlib.Numerals.{add-one}
 use native.Mathlib.Omega.{arith}
@@ -34,6 +34,7 @@ use Rattle.replays.specs.Replay.{noLight, eventAt, lightHistory, content
 use Rattle.replays.specs.Light.{lightOf}
 use Rattle.replays.proofs.ReplayLaws.{fresh-stands}
 use Rattle.replays.proofs.LightLaws.{Made}
+use Rattle.replays.proofs.DecidingLaws.{wrong-same}
 
 -- an element of a list that is mapped
 getD-mapped : {A : Type 0} (f : A → List ℕ) (l : List A) (i : ℕ) (d : A) → i < length l → getD (map f l) i [] ≡ f (getD l i d)
@@ -77,9 +78,7 @@ module _ (os ps : List Object) (es : List Event)
 -- ---- what is visible, event by event
 pub same-visible : (h : History) (vis seen : ℕ → Bool) → ((e : ℕ) → vis e ≡ seen e) → (s : Contents) (v : List ℕ)
     → firstWrong h vis s v ≡ firstWrong h seen s v
-same-visible h vis seen q s [] = refl
-same-visible h vis seen q s (e ∷ v) =
-    rw (q e) (ap (λ (x : Option ℕ). or (foundIf (seen e && not (right h s e)) e) x) (same-visible h vis seen q (changed h s e) v))
+same-visible h vis seen q s v = wrong-same h vis seen s v (λ e _. q e)
 
 pub visible-events : (os ps : List Object) (es : List Event) (who : Visible) (e : ℕ)
     → isVisible record { objects = os; events = es } who e ≡ isVisible record { objects = ps; events = es } who e

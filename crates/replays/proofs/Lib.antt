@@ -4,3 +4,5 @@ pub mod HistoryLaws
 pub mod SearchLaws
 pub mod VisibleLaws
 pub mod CutLaws
+pub mod ObjectLaws
+pub mod DecidingLaws

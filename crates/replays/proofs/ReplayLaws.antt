@@ -4,14 +4,14 @@ use native.Mathlib.Numerals.{add-one}
 use native.Mathlib.Omega.{arith}
 use native.Mathlib.Decide.{ℕ-discrete}
 use mathlib.Core.Path.{_≡_, refl, ap, sym, subst, _∙_}
-use mathlib.Core.Bool.{Bool, true, false, not, _&&_}
+use mathlib.Core.Bool.{Bool, true, false, not, _&&_, true≢false, false≢true}
 use mathlib.Core.List.{List, [], _∷_, _++_, map}
 use mathlib.Core.Option.{Option, none, some}
-use borrow.Author.Tests.{eq-eqb, ne-eqb, lt-ltb}
+use borrow.Author.Tests.{eq-eqb, ne-eqb, eqb-true, lt-ltb}
 use lib.ListN.{length, take, drop, getD, set, length-map, length-append, List·getD-map}
 use lib.Seq.{slice, slice-cons, slice-empty, length-take-le, getD-set-same, getD-set-other}
 use lib.Dec.{eqb}
-use Rattle.layout.proofs.Cases.{and-false}
+use Rattle.layout.proofs.Cases.{and-right, and-false}
 use Rattle.history.specs.declared.record.Kind.{Kind}
 use Rattle.history.specs.declared.record.Kind.the-variants.{Register, Queue, Stack, Window}
 use Rattle.history.specs.declared.record.Object.{Object}
@@ -23,14 +23,14 @@ use Rattle.criteria.specs.Tests.{sameList}
 use Rattle.criteria.specs.History.{Event, event, object}
 use Rattle.criteria.specs.Replay.{changed}
 use Rattle.criteria.specs.Check.{right, firstWrong}
-use Rattle.criteria.proofs.Lists.{clash, getD-table}
+use Rattle.criteria.proofs.Lists.{by-test, clash, getD-table}
 use Rattle.objects.specs.declared.state.State.{State}
 use Rattle.objects.specs.declared.state.Given.{Given}
 use Rattle.objects.specs.State.{valueIn, contentsOf, givenOf, Fresh, Changed, Answered}
 use Rattle.objects.specs.State.{noState}
 use Rattle.history.specs.Record.{noObject}
 use Rattle.replays.specs.Replay.{noLight, eventAt, lightHistory, contentsIn, isVisible, foundEvent, Stands}
-use Rattle.replays.specs.Steps.{seesOf, Judged}
+use Rattle.replays.specs.Steps.{seesOf, isQuiet, canChange, Judged}
 use Rattle.replays.specs.declared.replay.Light.{Light}
 use Rattle.replays.specs.declared.replay.Visible.{Visible}
 use Rattle.replays.specs.declared.replay.Visible.the-variants.{All, Of, Only}
@@ -78,14 +78,46 @@ module _ (vs xs : List ℕ) (g : Given) (n : ℕ) (lx : length xs ≡ 8) (lk : l
   same-ends i e = rw (e, slice-empty (g .count) xs, slice-empty (g .count) (g .numbers))
 
 -- ---- one event's test
-pub judged-seen : {seen a b : Bool} (vs answer : List ℕ) (s : State) (op : Op) (g : Given) → a ≡ seen → a ≡ true → Answered s op g → b ≡ sameList answer (givenOf vs g)
-    → Judged seen vs answer s op (not b)
+pub judged-given : {b : Bool} (vs answer : List ℕ) (s : State) (op : Op) (g : Given) → Answered s op g → b ≡ sameList answer (givenOf vs g)
+    → Judged true vs answer s op (not b)
 unfolding Judged
-judged-seen vs answer s op g e t g′ q o same few = rw (← e, t, q, g′ .values vs o same few)
+judged-given vs answer s op g g′ q o same few = rw (q, g′ .values vs o same few)
 
-pub judged-unseen : {seen a : Bool} (vs answer : List ℕ) (s : State) (op : Op) → a ≡ seen → a ≡ false → Judged seen vs answer s op false
-unfolding Judged
-judged-unseen vs answer s op e f o same few = rw (← e, f)
+-- an op that answers nothing gives the recorded answer of no value
+pub quiet-right : (o : Object) (op : Op) (count : ℕ) (answer c : List ℕ) → isQuiet op count ≡ true → sameList (take count answer) (gives o op c) ≡ true
+quiet-right o Write count answer c t = rw (eqb-true count 0 t)
+quiet-right o Read count answer c t = absurd (false≢true t)
+quiet-right o Push count answer c t = rw (eqb-true count 0 t)
+quiet-right o Pop count answer c t = absurd (false≢true t)
+quiet-right o Peek count answer c t = absurd (false≢true t)
+
+module _ (seen : Bool) (vs answer : List ℕ) (s : State) (op : Op) where
+  pub judged-seen : {d b : Bool} → seen ≡ true → Judged true vs answer s op d → d ≡ b → Judged seen vs answer s op b
+  unfolding Judged
+  judged-seen t j q o same few = rw t (sym q ∙ j o same few)
+
+  pub judged-unseen : seen ≡ false → Judged seen vs answer s op false
+  unfolding Judged
+  judged-unseen f o same few = rw f
+
+module _ (seen : Bool) (vs answer : List ℕ) (s : State) (op : Op) (count : ℕ) {a : Bool} (asked : a ≡ not (isQuiet op count) && seen) where
+  pub judged-asked : {d b : Bool} → a ≡ true → Judged true vs (take count answer) s op d → d ≡ b → Judged seen vs (take count answer) s op b
+  judged-asked t = judged-seen seen vs (take count answer) s op (and-right (not (isQuiet op count)) seen (sym asked ∙ t))
+
+  pub judged-unasked : a ≡ false → Judged seen vs (take count answer) s op false
+  unfolding Judged
+  judged-unasked f o same few =
+      by-test (isQuiet op count)
+      (λ q. rw (quiet-right o op count answer (contentsOf vs s) q) (sym (and-false seen)))
+      (λ q. let z : seen ≡ false = rw q at (sym asked ∙ f) in rw z)
+
+-- an op that changes nothing leaves the state as it is
+pub unchanged : (s : State) (op : Op) (e : ℕ) → canChange op ≡ false → s .head ≤ s .tail → Changed s op e s
+unchanged s Write e f le = absurd (true≢false f)
+unchanged s Read e f le = record { newest = refl; ends = le; room = omega arith; contents = λ vs o _. refl }
+unchanged s Push e f le = absurd (true≢false f)
+unchanged s Pop e f le = absurd (true≢false f)
+unchanged s Peek e f le = record { newest = refl; ends = le; room = omega arith; contents = λ vs o _. refl }
 
 -- ---- a state stands
 length-first : (n : ℕ) (l : List ℕ) → length (take n l) ≤ n
@@ -141,7 +173,7 @@ few-after o Pop v l e f le = no-shelf-op (o .kind) Pop e f refl
 few-after o Peek v l e f le = no-shelf-op (o .kind) Peek e f refl
 
 module _ (o : Object) (m : ℕ) (s : State) (st : Stands o m s) (op : Op) (has : hasOp (o .kind) op ≡ true) where
-  few-read : (vs : List ℕ) → op ≡ Read → length (contentsOf vs s) ≤ 8
+  pub few-read : (vs : List ℕ) → op ≡ Read → length (contentsOf vs s) ≤ 8
   few-read vs q = st .few (read-no-shelf (o .kind) (subst (λ (p : Op). hasOp (o .kind) p ≡ true) q has)) vs
 
   pub stands-on : (e : ℕ) (t : State) → Changed s op e t → Stands o (m + 1) t
@@ -179,9 +211,15 @@ no-contents : (vs : List ℕ) → contentsOf vs noState ≡ []
 unfolding contentsOf
 no-contents vs = refl
 
-getD-contents : (vs : List ℕ) (states : List State) (o : ℕ) → getD (contentsIn vs states) o [] ≡ contentsOf vs (getD states o noState)
+pub getD-contents : (vs : List ℕ) (states : List State) (o : ℕ) → getD (contentsIn vs states) o [] ≡ contentsOf vs (getD states o noState)
 getD-contents vs states o =
     ap (λ (d : List ℕ). getD (map (contentsOf vs) states) o d) (sym (no-contents vs)) ∙ List·getD-map (contentsOf vs) states o noState
+
+-- an event of the history that was taken apart
+pub event-at : (os : List Object) (size : ℕ) (ls : List Light) (vs : List ℕ) (answers : List (List ℕ)) (cs : List ℕ) (x : ℕ) → x < size
+    → event (lightHistory os size ls vs answers cs) x ≡ eventAt ls vs answers cs x
+unfolding lightHistory
+event-at os size ls vs answers cs x lt = getD-table size (eventAt ls vs answers cs) x _ lt
 
 module _ (os : List Object) (size : ℕ) (ls : List Light) (vs : List ℕ) (answers : List (List ℕ)) (cs : List ℕ) (who : Visible) where
   -- the first wrong answer of what is left of a view
@@ -195,20 +233,16 @@ module _ (os : List Object) (size : ℕ) (ls : List Light) (vs : List ℕ) (answ
   whole states view e = e
 
   module _ (states : List State) (x : ℕ) (lt : x < size) where
-    event-at : event (lightHistory os size ls vs answers cs) x ≡ eventAt ls vs answers cs x
-    unfolding lightHistory
-    event-at = getD-table size (eventAt ls vs answers cs) x _ lt
-
     visible-at : (w : Visible) → isVisible (lightHistory os size ls vs answers cs) w x ≡ seesOf w (getD ls x noLight .process .0) x
     visible-at All = refl
-    visible-at (Of p) = ap (λ (e : Event). eqb (e .process) (p .0)) event-at
+    visible-at (Of p) = ap (λ (e : Event). eqb (e .process) (p .0)) (event-at os size ls vs answers cs x lt)
     visible-at (Only f) = refl
 
     right-at : right (lightHistory os size ls vs answers cs) (contentsIn vs states) x
         ≡ sameList (take (getD cs x 0) (getD answers x [])) (gives (getD os (getD ls x noLight .object) noObject) (getD ls x noLight .op) (contentsOf vs (getD states (getD ls x noLight .object) noState)))
     unfolding right lightHistory
     right-at =
-        ap (λ (e : Event). sameList (e .answer) (gives (getD os (e .object) noObject) (e .op) (getD (contentsIn vs states) (e .object) []))) event-at
+        ap (λ (e : Event). sameList (e .answer) (gives (getD os (e .object) noObject) (e .op) (getD (contentsIn vs states) (e .object) []))) (event-at os size ls vs answers cs x lt)
         ∙ ap (λ (l : List ℕ). sameList (take (getD cs x 0) (getD answers x [])) (gives (getD os (getD ls x noLight .object) noObject) (getD ls x noLight .op) l)) (getD-contents vs states (getD ls x noLight .object))
 
     module _ (t : State) (m : ℕ) (st : Stands (getD os (getD ls x noLight .object) noObject) m (getD states (getD ls x noLight .object) noState))
@@ -218,7 +252,7 @@ module _ (os : List Object) (size : ℕ) (ls : List Light) (vs : List ℕ) (answ
       changed-at =
           let o = getD ls x noLight .object in
           let ob = getD os o noObject in
-          ap (λ (e : Event). set (contentsIn vs states) (e .object) (after (getD os (e .object) noObject) (e .op) (e .value) (getD (contentsIn vs states) (e .object) []))) event-at
+          ap (λ (e : Event). set (contentsIn vs states) (e .object) (after (getD os (e .object) noObject) (e .op) (e .value) (getD (contentsIn vs states) (e .object) []))) (event-at os size ls vs answers cs x lt)
           ∙ ap (λ (l : List ℕ). set (contentsIn vs states) o (after ob (getD ls x noLight .op) (valueIn vs x) l)) (getD-contents vs states o)
           ∙ ap (λ (l : List ℕ). set (contentsIn vs states) o l) (sym (c .contents vs ob (st .newest)))
           ∙ sym (map-set (contentsOf vs) states o t)

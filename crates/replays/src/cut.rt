@@ -4,14 +4,14 @@ ghost use lib.ListN.{take};
 ghost use Rattle.criteria.specs.Tests.{lowest};
 ghost use Rattle.replays.specs.Replay.{lightHistory, contentsIn, foundEvent, Ready};
 ghost use Rattle.replays.specs.Cut.{wrongCut};
+use crate::object::object_rows;
+use crate::object::replay_row;
 use crate::replay::Light;
-use crate::replay::Visible;
-use crate::replay::replay;
 use history::record::EventNo;
 use history::record::Object;
 use objects::state::State;
+use orders::sets::both;
 use orders::sets::with_event;
-use orders::views::cut_to;
 
 // The lowest event whose answer the replay does not give, of the first n entries of the view cut down to the event's row and it, or 64.
 pub fn first_wrong_cut(
@@ -29,24 +29,27 @@ pub fn first_wrong_cut(
     requires { ⌜ Ready objects size events (now values) (now counts) starts view n ⌝ }
     ensures { λ r. ⌜ foundEvent r ≡ lowest size (wrongCut (lightHistory objects size events (now (values .entry)) (now (answers .entry)) (now (counts .entry))) (contentsIn (now (values .entry)) starts) (now (rows .entry)) (take n view)) ⌝ }
 {
+    let on = object_rows(events);
     let mut e: usize = 0;
     while e < size {
         let row = rows[e];
         let past = with_event(row, e);
-        let cut = cut_to(view, n, past);
-        let part = cut.events;
-        let count = cut.count;
-        let found = replay(
+        let own = events[e];
+        let o = own.object as usize;
+        let kept = both(past, on[o]);
+        let start = starts[o];
+        let found = replay_row(
             objects,
             events,
             values,
             answers,
             counts,
             size,
-            starts,
-            part,
-            count,
-            Visible::Only(EventNo(e as u8)),
+            start,
+            view,
+            n,
+            kept,
+            EventNo(e as u8),
         );
         if found < 64 {
             return found;

@@ -1,12 +1,13 @@
 // The replay of a view: the first event whose visible answer the objects do not give.
 ghost use mathlib.Core.Path.{_≡_};
 ghost use Prim.Native.Nat.{_≤_};
+ghost use mathlib.Core.Bool.{true, not, _&&_};
 ghost use lib.ListN.{length, take};
 ghost use Rattle.criteria.specs.Tests.{sameList};
 ghost use Rattle.criteria.specs.Check.{firstWrong};
 ghost use Rattle.objects.specs.State.{valueIn, givenOf};
 ghost use Rattle.replays.specs.Replay.{lightHistory, contentsIn, isVisible, foundEvent, Ready};
-ghost use Rattle.replays.specs.Steps.{seesOf, Judged};
+ghost use Rattle.replays.specs.Steps.{seesOf, isQuiet, canChange};
 use history::record::EventNo;
 use history::record::Object;
 use history::record::Op;
@@ -49,7 +50,7 @@ fn value(values: &[u16; 65], number: u8) -> u16
 }
 
 // Whether the recorded answer is what the state gives: the values of `given`, one by one.
-fn same(values: &[u16; 65], answer: [u16; 8], count: usize, given: Given) -> bool
+pub(crate) fn same(values: &[u16; 65], answer: [u16; 8], count: usize, given: Given) -> bool
     requires { ⌜ (length (now values) ≡ 65) × (count ≤ 8) × (given .count ≤ 8) ⌝ }
     ensures { λ r. ⌜ r ≡ sameList (take count answer) (givenOf (now (values .entry)) given) ⌝ }
 {
@@ -69,25 +70,39 @@ fn same(values: &[u16; 65], answer: [u16; 8], count: usize, given: Given) -> boo
     true
 }
 
-// Whether the answer is visible and is not what the state gives.
-fn wrong(
-    who: Visible,
-    process: ProcessNo,
-    no: EventNo,
-    values: &[u16; 65],
-    answer: [u16; 8],
-    count: usize,
-    s: State,
-    op: Op,
-) -> bool
-    requires { ⌜ (length (now values) ≡ 65) × (count ≤ 8) × (s .head ≤ s .tail) × (s .tail ≤ 72) ⌝ }
-    ensures { λ r. ⌜ Judged (seesOf who (process .0) (no .0)) (now (values .entry)) (take count answer) s op r ⌝ }
+// Whether the op answers nothing and the recorded answer has no value.
+pub(crate) fn quiet(op: Op, count: usize) -> bool
+    ensures { λ r. ⌜ r ≡ isQuiet op count ⌝ }
 {
-    if sees(who, process, no) {
-        let given = s.answer(op);
-        !same(values, answer, count, given)
-    } else {
-        false
+    match op {
+        Op::Write => count == 0,
+        Op::Read => false,
+        Op::Push => count == 0,
+        Op::Pop => false,
+        Op::Peek => false,
+    }
+}
+
+// Whether the answer is visible and the state has to be asked for it.
+fn asks(who: Visible, process: ProcessNo, no: EventNo, op: Op, count: usize) -> bool
+    ensures { λ r. ⌜ r ≡ not (isQuiet op count) && seesOf who (process .0) (no .0) ⌝ }
+{
+    if quiet(op, count) {
+        return false;
+    }
+    sees(who, process, no)
+}
+
+// Whether the op can change what an object holds.
+fn changes(op: Op) -> bool
+    ensures { λ r. ⌜ r ≡ canChange op ⌝ }
+{
+    match op {
+        Op::Write => true,
+        Op::Read => false,
+        Op::Push => true,
+        Op::Pop => true,
+        Op::Peek => false,
     }
 }
 
@@ -114,16 +129,24 @@ pub fn replay(
         let at = no as usize;
         let e = events[at];
         let o = e.object as usize;
-        let s = states[o];
         let op = e.op;
-        let answer = answers[at];
-        let count = counts[at] as usize;
         let process = e.process;
-        if wrong(who, process, EventNo(no), values, answer, count, s, op) {
-            return at;
+        let count = counts[at] as usize;
+        if asks(who, process, EventNo(no), op, count) {
+            let s = states[o];
+            let step = s.step(op, EventNo(no));
+            let given = step.answer;
+            let answer = answers[at];
+            if !same(values, answer, count, given) {
+                return at;
+            }
+            let t = step.state;
+            states[o] = t;
+        } else if changes(op) {
+            let s = states[o];
+            let t = s.changed(op, EventNo(no));
+            states[o] = t;
         }
-        let t = s.changed(op, EventNo(no));
-        states[o] = t;
         i += 1;
     }
     64

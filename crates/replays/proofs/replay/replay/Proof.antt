@@ -1,18 +1,23 @@
 -- The replay: the first wrong answer of the whole view is the first of what is left of it, from the states there are. Assumes nothing.
 use Prim.Native.Nat.{ℕ, _≤_, _<_, _-_}
-use mathlib.Core.Path.{_≡_, refl, sym, _∙_}
-use mathlib.Core.List.{List}
 use native.Mathlib.Omega.{arith}
-use lib.ListN.{length, take, getD, length-set}
-use lib.Seq.{slice}
+use mathlib.Core.Path.{_≡_, refl, sym, ap, _∙_}
+use mathlib.Core.Bool.{Bool, false}
+use mathlib.Core.Logic.{⊎-elim}
+use mathlib.Core.List.{List, []}
+use lib.ListN.{length, take, getD, set, length-set}
+use lib.Seq.{slice, set-getD}
 use Rattle.history.specs.declared.record.Object.{Object}
-use Rattle.objects.specs.State.{noState}
+use Rattle.history.specs.declared.record.Op.{Op}
 use Rattle.history.specs.Record.{noObject}
+use Rattle.objects.specs.declared.state.State.{State}
+use Rattle.objects.specs.State.{noState, Changed}
 use Rattle.replays.specs.Replay.{Ready, Stands, noLight}
-use Rattle.replays.proofs.ReplayLaws.{AllStand, wrongIn, all-on, stands-on, whole, turn-on, turn-stops, view-ends, found-some}
-use borrow.Author.Needs.{needs}
+use Rattle.replays.specs.Steps.{seesOf, Judged}
+use Rattle.replays.proofs.ReplayLaws.{AllStand, wrongIn, all-on, stands-on, unchanged, judged-given, judged-asked, judged-unasked, whole, turn-on, turn-stops, view-ends, found-some}
 use Rattle.replays.proofs.replay.replay.Statement.{statement}
 use Rattle.replays.proofs.replay.replay.Tie as tie
+use borrow.Author.Needs.{needs}
 
 abbrev Inv-loop : tie.InvT-loop
 Inv-loop values answers counts size n who events view states₀ i₀ states i =
@@ -25,12 +30,24 @@ Inv-loop values answers counts size n who events view states₀ i₀ states i =
 abbrev μ-loop : tie.MeasureT-loop
 μ-loop values answers counts size n who events view states₀ i₀ states i = n - i
 
--- the number of the turn's event, and its object
+-- the number of the turn's event, its object, that object's state, its op, its answer and whether it is visible
 abbrev number : tie.In-loop Inv-loop μ-loop → ℕ
 number c = getD (c .before .before .args .t8) (c .before .loop .i) 0
 
 abbrev place : tie.In-loop Inv-loop μ-loop → ℕ
 place c = getD (c .before .before .args .t2) (number c) noLight .object
+
+abbrev state : tie.In-loop Inv-loop μ-loop → State
+state c = getD (c .before .loop .states) (place c) noState
+
+abbrev op : tie.In-loop Inv-loop μ-loop → Op
+op c = getD (c .before .before .args .t2) (number c) noLight .op
+
+abbrev recorded : tie.In-loop Inv-loop μ-loop → List ℕ
+recorded c = getD (c .before .before .args .answers .now) (number c) []
+
+abbrev seen : tie.In-loop Inv-loop μ-loop → Bool
+seen c = let a = c .before .before .args in seesOf (a .who) (getD (a .t2) (number c) noLight .process .0) (number c)
 
 in-view : (c : tie.In-loop Inv-loop μ-loop) → c .before .loop .i < c .before .before .args .n
 in-view c = let t = c .loop-test .taken in omega (arith, t)
@@ -54,15 +71,38 @@ view-holds c =
     omega (arith, e, s)
 
 -- the state of its object stands
-stands : (c : tie.In-loop Inv-loop μ-loop) → Stands (getD (c .before .before .args .objects) (place c) noObject) (c .before .loop .i) (getD (c .before .loop .states) (place c) noState)
+stands : (c : tie.In-loop Inv-loop μ-loop) → Stands (getD (c .before .before .args .objects) (place c) noObject) (c .before .loop .i) (state c)
 stands c = c .before .loop .inv .2 (c .before .before .args .objects) (c .before .before .pre) .0 (place c) (is-object c)
 
-ready : (c : tie.In-loop Inv-loop μ-loop) → (getD (c .before .loop .states) (place c) noState .head ≤ getD (c .before .loop .states) (place c) noState .tail) × (getD (c .before .loop .states) (place c) noState .tail < 72)
+ready : (c : tie.In-loop Inv-loop μ-loop) → (state c .head ≤ state c .tail) × (state c .tail < 72)
 ready c =
     let r = stands c .room in
     let s = c .before .before .pre .short in
     let t = in-view c in
     (stands c .ends, omega (arith, r, s, t))
+
+-- what an event makes of its object: a state that follows, in its place, and no wrong answer that is visible
+follows : (c : tie.Joined1 Inv-loop μ-loop)
+    → let t = c .before .before .before .before .before .before in
+    (s : State) × Changed (state t) (op t) (number t) s
+    × Judged (seen t) (t .before .before .args .values .now) (take (getD (t .before .before .args .counts .now) (number t) 0) (recorded t)) (state t) (op t) false
+    × (c .if1 .states ≡ set (t .before .loop .states) (place t) s)
+follows c =
+    let q = c .before in
+    let t = q .before .before .before .before .before in
+    let a = t .before .before .args in
+    let k = getD (a .counts .now) (number t) 0 in
+    let unasked : q .asks .result ≡ false → Judged (seen t) (a .values .now) (take k (recorded t)) (state t) (op t) false =
+    judged-unasked (seen t) (a .values .now) (recorded t) (state t) (op t) k (q .asks .ensures) in
+    ⊎-elim
+    (λ w.
+    let j = judged-given (a .values .now) (take k (recorded t)) (state t) (op t) (w .2 .result .answer) (w .2 .ensures .1) (w .5 .ensures) in
+    (w .2 .result .state, w .2 .ensures .0, judged-asked (seen t) (a .values .now) (recorded t) (state t) (op t) k (q .asks .ensures) (w .0 .taken) j (w .6 .left), w .8))
+    (⊎-elim
+    (λ w. (w .4 .result, w .4 .ensures, unasked (w .0 .left), w .5))
+    (λ w.
+    (state t, unchanged (state t) (op t) (number t) (sym (w .1 .ensures) ∙ w .2 .left) (ready t .0), unasked (w .0 .left), w .3 ∙ sym (set-getD (t .before .loop .states) (place t) noState))))
+    (c .if1 .came)
 
 loop-holds : tie.Need-loop-holds Inv-loop μ-loop
 loop-holds c = (omega arith, c .good .1 .1 .1 .1 .1 .1 .0 .1 .0 .1, λ os r. (r .start, refl))
@@ -82,48 +122,75 @@ array-copy-out-e c = below c
 cast-o : tie.Need-cast-o Inv-loop μ-loop
 cast-o c = let h = is-object (c .before .before) in omega (arith, h)
 
-mul-s : tie.Need-mul-s Inv-loop μ-loop
-mul-s c = let h = is-object (c .before .before) in omega (arith, h)
-
-array-copy-out-s : tie.Need-array-copy-out-s Inv-loop μ-loop
-array-copy-out-s c = is-object (c .before .before)
-
-mul-answer : tie.Need-mul-answer Inv-loop μ-loop
-mul-answer c = let h = below (c .before .before .before) in omega (arith, h)
-
-element-copy-out-answer : tie.Need-element-copy-out-answer Inv-loop μ-loop
-element-copy-out-answer c = below (c .before .before .before)
-
 element-copy-out-count : tie.Need-element-copy-out-count Inv-loop μ-loop
-element-copy-out-count c = below (c .before .before .before .before)
+element-copy-out-count c = below (c .before .before .before)
 
 cast-count : tie.Need-cast-count Inv-loop μ-loop
-cast-count c = let h = short-answer (c .before .before .before .before .before) in omega (arith, h)
+cast-count c = let h = short-answer (c .before .before .before .before) in omega (arith, h)
 
-wrong-requires : tie.Need-wrong-requires Inv-loop μ-loop
-wrong-requires c κs =
-    let t = c .before .before .before .before .before .before in
-    let r = ready t .1 in
-    (t .before .before .pre .values, short-answer t, ready t .0, omega (arith, r))
+asks-requires : tie.Need-asks-requires Inv-loop μ-loop
+asks-requires c κs = search needs
+
+mul-s : tie.Need-mul-s Inv-loop μ-loop
+mul-s c = let h = is-object (c .before .before .before .before .before .before) in omega (arith, h)
+
+array-copy-out-s : tie.Need-array-copy-out-s Inv-loop μ-loop
+array-copy-out-s c = is-object (c .before .before .before .before .before .before)
+
+step-requires : tie.Need-step-requires Inv-loop μ-loop
+step-requires c κs = ready (c .before .before .before .before .before .before .before)
+
+mul-answer : tie.Need-mul-answer Inv-loop μ-loop
+mul-answer c = let h = below (c .before .before .before .before .before .before .before .before .before) in omega (arith, h)
+
+element-copy-out-answer : tie.Need-element-copy-out-answer Inv-loop μ-loop
+element-copy-out-answer c = below (c .before .before .before .before .before .before .before .before .before)
+
+same-requires : tie.Need-same-requires Inv-loop μ-loop
+same-requires c κs =
+    let t = c .before .before .before .before .before .before .before .before .before .before in
+    (t .before .before .pre .values, short-answer t, c .before .before .step .ensures .1 .few)
 
 returns : tie.Need-returns Inv-loop μ-loop
 returns c =
-    let t = c .before .before .before .before .before .before .before .before in
+    let d = c .before in
+    let p = d .before .before .before in
+    let n = p .before .before in
+    let q = n .before in
+    let t = q .before .before .before .before .before in
     let l = t .before in
     let a = l .before in
+    let k = getD (a .args .counts .now) (number t) 0 in
+    let g = judged-given (a .args .values .now) (take k (recorded t)) (state t) (op t) (p .step .result .answer) (p .step .ensures .1) (d .same .ensures) in
+    let j = judged-asked (seen t) (a .args .values .now) (recorded t) (state t) (op t) k (q .asks .ensures) (n .if1 .taken) g refl in
     found-some (number t) (below t)
     ∙ sym (whole (a .args .objects) (a .args .size) (a .args .t2) (a .args .values .now) (a .args .answers .now) (a .args .counts .now) (a .args .who) (a .args .starts) (take (a .args .n) (a .args .t8))
     (l .loop .inv .2 (a .args .objects) (a .pre) .1
-    ∙ turn-stops (a .args .objects) (a .args .size) (a .args .t2) (a .args .values .now) (a .args .answers .now) (a .args .counts .now) (a .args .who) (l .loop .states) (a .args .t8) (a .args .n) (l .loop .i) (in-view t) (view-holds t) (is-event t) (c .before .wrong .result) (l .loop .i) (stands t) (a .pre .fits (number t) (is-event t)) (c .before .wrong .ensures) (c .if1 .taken)))
-
-changed-requires : tie.Need-changed-requires Inv-loop μ-loop
-changed-requires c κs = ready (c .before .before .before .before .before .before .before .before)
+    ∙ turn-stops (a .args .objects) (a .args .size) (a .args .t2) (a .args .values .now) (a .args .answers .now) (a .args .counts .now) (a .args .who) (l .loop .states) (a .args .t8) (a .args .n) (l .loop .i) (in-view t) (view-holds t) (is-event t) _ (l .loop .i) (stands t) (a .pre .fits (number t) (is-event t)) j (c .if2 .taken)))
 
 mul-states : tie.Need-mul-states Inv-loop μ-loop
-mul-states c = let h = is-object (c .before .before .before .before .before .before .before .before .before) in omega (arith, h)
+mul-states c = let h = is-object (c .before .before .before .before .before .before .before .before .before .before .before .before .before) in omega (arith, h)
 
 array-set-from-states : tie.Need-array-set-from-states Inv-loop μ-loop
-array-set-from-states c = is-object (c .before .before .before .before .before .before .before .before .before)
+array-set-from-states c = is-object (c .before .before .before .before .before .before .before .before .before .before .before .before .before)
+
+changes-requires : tie.Need-changes-requires Inv-loop μ-loop
+changes-requires c κs = search needs
+
+mul-s-2 : tie.Need-mul-s-2 Inv-loop μ-loop
+mul-s-2 c = let h = is-object (c .before .before .before .before .before .before .before .before) in omega (arith, h)
+
+array-copy-out-s-2 : tie.Need-array-copy-out-s-2 Inv-loop μ-loop
+array-copy-out-s-2 c = is-object (c .before .before .before .before .before .before .before .before)
+
+changed-requires : tie.Need-changed-requires Inv-loop μ-loop
+changed-requires c κs = ready (c .before .before .before .before .before .before .before .before .before)
+
+mul-states-2 : tie.Need-mul-states-2 Inv-loop μ-loop
+mul-states-2 c = let h = is-object (c .before .before .before .before .before .before .before .before .before .before) in omega (arith, h)
+
+array-set-from-states-2 : tie.Need-array-set-from-states-2 Inv-loop μ-loop
+array-set-from-states-2 c = is-object (c .before .before .before .before .before .before .before .before .before .before)
 
 add-i : tie.Need-add-i Inv-loop μ-loop
 add-i c = search needs
@@ -133,20 +200,21 @@ loop-less c = search needs
 
 loop-again : tie.Need-loop-again Inv-loop μ-loop
 loop-again c =
-    let t = c .before .before .before .before .before .before .before .before .before in
+    let t = c .before .before .before .before .before .before in
     let l = t .before in
     let a = l .before in
-    let w = c .before .before in (
+    let f = follows c in (
       omega arith,
-      length-set (l .loop .states) (place t) (c .changed .result) ∙ l .loop .inv .1,
+      ap length (f .3) ∙ length-set (l .loop .states) (place t) (f .0) ∙ l .loop .inv .1,
       λ os r.
           let e = r .event (l .loop .i) (in-view t) in
           let all = l .loop .inv .2 os r .0 in
           let st = all (place t) (r .object (number t) e) in
-          let has = r .fits (number t) e in (
-            all-on os (l .loop .i) (l .loop .states) (place t) (c .changed .result) (l .loop .inv .1) all (stands-on (getD os (place t) noObject) (l .loop .i) (getD (l .loop .states) (place t) noState) st (getD (a .args .t2) (number t) noLight .op) has (number t) (c .changed .result) (c .changed .ensures)),
+          let has = r .fits (number t) e in
+          rw (f .3) (
+            all-on os (l .loop .i) (l .loop .states) (place t) (f .0) (l .loop .inv .1) all (stands-on (getD os (place t) noObject) (l .loop .i) (state t) st (op t) has (number t) (f .0) (f .1)),
             l .loop .inv .2 os r .1
-                ∙ turn-on os (a .args .size) (a .args .t2) (a .args .values .now) (a .args .answers .now) (a .args .counts .now) (a .args .who) (l .loop .states) (a .args .t8) (a .args .n) (l .loop .i) (in-view t) (view-holds t) e (w .wrong .result) (l .loop .i) st has (w .wrong .ensures) (c .before .if1 .left) (c .changed .result) (c .changed .ensures),
+                ∙ turn-on os (a .args .size) (a .args .t2) (a .args .values .now) (a .args .answers .now) (a .args .counts .now) (a .args .who) (l .loop .states) (a .args .t8) (a .args .n) (l .loop .i) (in-view t) (view-holds t) e false (l .loop .i) st has (f .2) refl (f .0) (f .1),
           ),
     )
 
@@ -170,17 +238,24 @@ replay-spec =
     mul-e
     array-copy-out-e
     cast-o
-    mul-s
-    array-copy-out-s
-    mul-answer
-    element-copy-out-answer
     element-copy-out-count
     cast-count
-    wrong-requires
+    asks-requires
+    mul-s
+    array-copy-out-s
+    step-requires
+    mul-answer
+    element-copy-out-answer
+    same-requires
     returns
-    changed-requires
     mul-states
     array-set-from-states
+    changes-requires
+    mul-s-2
+    array-copy-out-s-2
+    changed-requires
+    mul-states-2
+    array-set-from-states-2
     add-i
     loop-less
     loop-again
