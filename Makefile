@@ -14,7 +14,7 @@ WEAKENED = samples/Q-sequential samples/Q-pram samples/R samples/W samples/C sam
 
 test: rt
 	rt fmt --check
-	$(MAKE) calls agree console suite
+	$(MAKE) -j2 --output-sync=target calls agree console suite
 	rt ci
 
 run: rt

@@ -30,16 +30,16 @@ use Rattle.orders.specs.Rows.{inRows, EventViews}
 use Rattle.replays.specs.declared.replay.Light.{Light}
 use Rattle.replays.specs.declared.replay.Visible.{Visible}
 use Rattle.replays.specs.declared.replay.Visible.the-variants.{Only}
-use Rattle.replays.specs.declared.search.Place.{Place}
+use Rattle.replayed_views.specs.declared.search.Place.{Place}
 use Rattle.replays.specs.Replay.{noLight, lightHistory, contentsIn, isVisible, foundEvent, Ready}
 use Rattle.replays.specs.Light.{lightOf}
-use Rattle.replays.specs.Search.{noVisible, atView, placeOf, wrongIn}
-use Rattle.replays.specs.Visible.{visibleAt}
-use Rattle.replays.specs.Cut.{wrongCut}
+use Rattle.replayed_views.specs.Search.{atView, placeOf, wrongIn}
+use Rattle.replays.specs.Visible.{noVisible, visibleAt}
+use Rattle.replayed_views.specs.Cut.{wrongCut}
 use Rattle.replays.proofs.LightLaws.{Made}
 use Rattle.replays.proofs.HistoryLaws.{same-visible, replay-is, ready-of}
 use Rattle.replays.proofs.VisibleLaws.{visible-is}
-use Rattle.replays.proofs.CutLaws.{first-below, kept-below}
+use Rattle.replayed_views.proofs.CutLaws.{first-below, kept-below}
 use Rattle.faults.specs.Steps.{isConverge}
 use Rattle.faults.proofs.FoundLaws.{lowest-same}
 use Rattle.faults.proofs.RecordFacts.{objects-agree, events-long, object-declared}

@@ -17,12 +17,12 @@ use certificate::record::Criterion;
 use history::record::EventNo;
 use history::record::History;
 use objects::starts::starts;
-use replays::cut::first_wrong_cut;
+use replayed_views::cut::first_wrong_cut;
+use replayed_views::search::first_wrong;
 use replays::light::answers_of;
 use replays::light::counts_of;
 use replays::light::light_events;
 use replays::light::values_of;
-use replays::search::first_wrong;
 use replays::visible::visible_views;
 
 // Whether the criterion is converge.

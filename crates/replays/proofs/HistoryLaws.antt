@@ -34,7 +34,6 @@ use Rattle.replays.specs.Replay.{noLight, eventAt, lightHistory, content
 use Rattle.replays.specs.Light.{lightOf}
 use Rattle.replays.proofs.ReplayLaws.{fresh-stands}
 use Rattle.replays.proofs.LightLaws.{Made}
-use Rattle.replays.proofs.DecidingLaws.{wrong-same}
 
 -- an element of a list that is mapped
 getD-mapped : {A : Type 0} (f : A → List ℕ) (l : List A) (i : ℕ) (d : A) → i < length l → getD (map f l) i [] ≡ f (getD l i d)
@@ -74,6 +73,14 @@ module _ (os ps : List Object) (es : List Event)
       rw (agree (event record { objects = os; events = es } e .object))
       (ap (λ (x : Option ℕ). or (foundIf (vis e && not (right record { objects = ps; events = es } s e)) e) x)
       (other-objects vis (changed record { objects = ps; events = es } s e) v))
+
+-- tests that agree on a view
+pub wrong-same : (h : History) (vis seen : ℕ → Bool) (s : Contents) (v : List ℕ) → ((f : ℕ) → mem f v ≡ true → vis f ≡ seen f)
+    → firstWrong h vis s v ≡ firstWrong h seen s v
+wrong-same h vis seen s [] q = refl
+wrong-same h vis seen s (x ∷ v) q =
+    rw (q x (true-or-left (mem x v) (eq-eqb x x refl)))
+    (ap (or (foundIf (seen x && not (right h s x)) x)) (wrong-same h vis seen (changed h s x) v (λ f t. q f (true-or-right (eqb f x) t))))
 
 -- ---- what is visible, event by event
 pub same-visible : (h : History) (vis seen : ℕ → Bool) → ((e : ℕ) → vis e ≡ seen e) → (s : Contents) (v : List ℕ)

@@ -9,6 +9,10 @@ use Rattle.replays.specs.declared.replay.Visible.{Visible}
 use Rattle.replays.specs.declared.replay.Visible.the-variants.{All, Of, Only}
 use Rattle.replays.specs.Replay.{noLight}
 
+-- What stands in a place that is not used.
+abbrev pub noVisible : Visible
+noVisible = All
+
 abbrev pub visibleIn : Criterion → ℕ → ℕ → ℕ → Visible
 visibleIn Pram number process k = Of record { 0 = number }
 visibleIn Weak number process k = Only record { 0 = k }

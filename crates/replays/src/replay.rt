@@ -50,7 +50,7 @@ fn value(values: &[u16; 65], number: u8) -> u16
 }
 
 // Whether the recorded answer is what the state gives: the values of `given`, one by one.
-pub(crate) fn same(values: &[u16; 65], answer: [u16; 8], count: usize, given: Given) -> bool
+pub fn same(values: &[u16; 65], answer: [u16; 8], count: usize, given: Given) -> bool
     requires { ⌜ (length (now values) ≡ 65) × (count ≤ 8) × (given .count ≤ 8) ⌝ }
     ensures { λ r. ⌜ r ≡ sameList (take count answer) (givenOf (now (values .entry)) given) ⌝ }
 {
@@ -71,7 +71,7 @@ pub(crate) fn same(values: &[u16; 65], answer: [u16; 8], count: usize, given: Gi
 }
 
 // Whether the op answers nothing and the recorded answer has no value.
-pub(crate) fn quiet(op: Op, count: usize) -> bool
+pub fn quiet(op: Op, count: usize) -> bool
     ensures { λ r. ⌜ r ≡ isQuiet op count ⌝ }
 {
     match op {

@@ -3,7 +3,7 @@ ghost use mathlib.Core.Path.{_≡_};
 ghost use Prim.Native.Nat.{ℕ, _<_};
 ghost use lib.ListN.{getD};
 ghost use Rattle.replays.specs.Visible.{visibleIn, visibleAt};
-ghost use Rattle.replays.specs.Search.{noVisible};
+ghost use Rattle.replays.specs.Visible.{noVisible};
 use crate::replay::Light;
 use crate::replay::Visible;
 use certificate::record::Criterion;

@@ -3,7 +3,7 @@ use native.Mathlib.Omega.{arith}
 use Prim.Native.Nat.{ℕ, _≤_, _<_, _-_}
 use mathlib.Core.Path.{_≡_, refl, _∙_}
 use lib.ListN.{length, getD, length-set}
-use Rattle.replays.specs.Search.{noVisible}
+use Rattle.replays.specs.Visible.{noVisible}
 use Rattle.replays.specs.Visible.{visibleAt}
 use Rattle.replays.proofs.LightLaws.{made-at}
 use borrow.Author.Needs.{needs}

@@ -1,0 +1,4 @@
+pub mod ObjectLaws
+pub mod DecidingLaws
+pub mod SearchLaws
+pub mod CutLaws
