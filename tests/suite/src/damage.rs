@@ -150,6 +150,12 @@ fn line_starts(text: &[u8]) -> Vec<usize> {
     starts
 }
 
+/// Changes one thing in one of two texts.
+pub fn damage_either(random: &mut Random, history: &mut Vec<u8>, certificate: &mut Vec<u8>) {
+    let text = if random.once_in(2) { history } else { certificate };
+    damage_text(random, text);
+}
+
 /// Changes one thing in a text.
 pub fn damage_text(random: &mut Random, text: &mut Vec<u8>) {
     if text.is_empty() {

@@ -1,7 +1,7 @@
 //! Lent memory of every size: the shown line, the buffers of writing, the slices of places; and texts with neighbours in memory.
 
 use crate::compare::{Call, Comparer};
-use crate::damage::{damage_certificate, damage_text};
+use crate::damage::{damage_certificate, damage_either, damage_text};
 use crate::group_random::pair;
 use crate::make::register_history;
 use crate::random::Random;
@@ -47,11 +47,7 @@ pub fn buffers(comparer: &mut Comparer, random: &mut Random, rounds: usize) {
         let (history, certificate) = pair(random);
         let (mut history, mut certificate) = (history.text(), certificate.text());
         if round % 4 == 3 {
-            if random.once_in(2) {
-                damage_text(random, &mut history);
-            } else {
-                damage_text(random, &mut certificate);
-            }
+            damage_either(random, &mut history, &mut certificate);
         }
         for buffer in lengths_around(history.len()) {
             comparer.compare(Call::RewriteHistory { buffer }, &history, &certificate);
@@ -74,11 +70,7 @@ pub fn slices(comparer: &mut Comparer, random: &mut Random, rounds: usize) {
         }
         let (mut history, mut certificate) = (history.text(), certificate.text());
         if round % 3 == 2 {
-            if random.once_in(2) {
-                damage_text(random, &mut history);
-            } else {
-                damage_text(random, &mut certificate);
-            }
+            damage_either(random, &mut history, &mut certificate);
         }
         for places in 0..=9 {
             comparer.compare(Call::Verdict { places }, &history, &certificate);

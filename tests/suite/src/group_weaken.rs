@@ -4,7 +4,7 @@
 use crate::certificate::CRITERIA;
 use crate::check::{CheckRules, Document01};
 use crate::compare::{Call, Comparer};
-use crate::damage::{damage_certificate, damage_history, damage_text};
+use crate::damage::{damage_certificate, damage_either, damage_history};
 use crate::group_memory::lengths_around;
 use crate::group_random::pair;
 use crate::random::Random;
@@ -75,11 +75,7 @@ pub fn damaged(comparer: &mut Comparer, random: &mut Random, rounds: usize) {
         }
         let (mut history, mut certificate) = (history.text(), certificate.text());
         if round % 4 == 3 {
-            if random.once_in(2) {
-                damage_text(random, &mut history);
-            } else {
-                damage_text(random, &mut certificate);
-            }
+            damage_either(random, &mut history, &mut certificate);
         }
         for wanted in WANTED {
             let buffer = *random.pick(&[0, 1, certificate.len(), 5_000, 25_000]);
