@@ -5,6 +5,7 @@ ghost use Prim.Native.Nat.{ℕ, _≤_, _<_};
 ghost use lib.ListN.{getD, take};
 ghost use Rattle.replays.specs.Replay.{noLight};
 ghost use Rattle.replayed_views.specs.Steps.{showsOf, GoesOn, Decides};
+use history::record::EventNo;
 use history::record::ProcessNo;
 use replays::replay::Light;
 use replays::replay::Visible;
@@ -24,16 +25,23 @@ fn begins(a: [u8; 64], m: usize, b: [u8; 64]) -> bool
 }
 
 // Whether e is the only event of process p among the entries of a view from one place up to another.
-fn alone(events: [Light; 64], view: [u8; 64], from: usize, n: usize, p: ProcessNo, e: u8) -> bool
+fn alone(
+    events: [Light; 64],
+    view: [u8; 64],
+    from: usize,
+    n: usize,
+    p: ProcessNo,
+    e: EventNo,
+) -> bool
     requires { ⌜ (n ≤ 64) × ((i : ℕ) → i < n → getD view i 0 < 64) ⌝ }
-    ensures { λ r. ⌜ (r ≡ true → (i : ℕ) → from ≤ i → i < n → getD events (getD view i 0) noLight .process .0 ≡ p .0 → getD view i 0 ≡ e) ⌝ }
+    ensures { λ r. ⌜ (r ≡ true → (i : ℕ) → from ≤ i → i < n → getD events (getD view i 0) noLight .process .0 ≡ p .0 → getD view i 0 ≡ e .0) ⌝ }
 {
     let mut i = from;
     while i < n {
         let no = view[i];
         let f = events[no as usize];
         let process = f.process;
-        if (process.0 == p.0) & (no != e) {
+        if (process.0 == p.0) & (no != e.0) {
             return false;
         }
         i += 1;
@@ -49,15 +57,15 @@ fn goes_on(
     b: [u8; 64],
     n: usize,
     p: ProcessNo,
-    e: u8,
+    e: EventNo,
 ) -> bool
-    requires { ⌜ (m ≤ 64) × (n ≤ 64) × (e < 64) × ((i : ℕ) → i < n → getD b i 0 < 64) ⌝ }
-    ensures { λ r. ⌜ (r ≡ true → GoesOn events a m b n (p .0) e) ⌝ }
+    requires { ⌜ (m ≤ 64) × (n ≤ 64) × (e .0 < 64) × ((i : ℕ) → i < n → getD b i 0 < 64) ⌝ }
+    ensures { λ r. ⌜ (r ≡ true → GoesOn events a m b n (p .0) (e .0)) ⌝ }
 {
     if n < m {
         return false;
     }
-    let own = events[e as usize];
+    let own = events[e.0 as usize];
     let process = own.process;
     if process.0 != p.0 {
         return false;
@@ -111,7 +119,7 @@ fn deciding_of(
     if !shows(before, p) {
         return 64;
     }
-    if goes_on(events, a, m, view, n, p, k as u8) {
+    if goes_on(events, a, m, view, n, p, EventNo(k as u8)) {
         return k;
     }
     64

@@ -13,7 +13,7 @@ use borrow.Author.Needs.{needs}
 
 abbrev Inv-loop : tie.InvT-loop
 Inv-loop from n p e events view i₀ i =
-    (from ≤ i) × ((j : ℕ) → from ≤ j → j < i → getD events (getD view j 0) noLight .process .0 ≡ p .0 → getD view j 0 ≡ e)
+    (from ≤ i) × ((j : ℕ) → from ≤ j → j < i → getD events (getD view j 0) noLight .process .0 ≡ p .0 → getD view j 0 ≡ e .0)
 
 abbrev μ-loop : tie.MeasureT-loop
 μ-loop from n p e events view i₀ i = n - i
@@ -47,7 +47,7 @@ loop-less c = search needs
 
 loop-again : tie.Need-loop-again Inv-loop μ-loop
 loop-again c =
-    let i = c .before .before .before .before .before .before .loop in (
+    let i = c .before .before .before .before .before .before .before .loop in (
       omega arith,
       λ j h k. by-eq j (i .i) (λ q. rw q (none-other _ _ _ _ (c .if1 .left))) (λ q. i .inv .1 j h (omega (arith, q))),
     )

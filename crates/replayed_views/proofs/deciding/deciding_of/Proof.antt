@@ -18,8 +18,8 @@ shows-requires c κs = search needs
 returns-2 : tie.Need-returns-2
 returns-2 c = λ l. absurd (omega arith)
 
-cast-goes-on : tie.Need-cast-goes-on
-cast-goes-on c = search needs
+cast-t13 : tie.Need-cast-t13
+cast-t13 c = search needs
 
 goes-on-requires : tie.Need-goes-on-requires
 goes-on-requires c κs =
@@ -43,4 +43,4 @@ returns-4 c = λ l. absurd (omega arith)
 pub deciding-of-spec : {M : Type 1} → statement M
 deciding-of-spec =
     tie.close
-    (tie.spec returns shows-requires returns-2 cast-goes-on goes-on-requires returns-3 returns-4)
+    (tie.spec returns shows-requires returns-2 cast-t13 goes-on-requires returns-3 returns-4)

@@ -8,6 +8,9 @@ use Rattle.replayed_views.proofs.deciding.goes_on.Tie as tie
 returns : tie.Need-returns
 returns c = λ t. absurd (false≢true t)
 
+cast-own : tie.Need-cast-own
+cast-own c = search needs
+
 mul-own : tie.Need-mul-own
 mul-own c = search needs
 
@@ -37,6 +40,7 @@ goes-on-spec =
     tie.close
     (tie.spec
     returns
+    cast-own
     mul-own
     array-copy-out-own
     returns-2
