@@ -1,6 +1,6 @@
 -- What a loop needs of the tests and of the check: one more entry, and the first that is found. Assumes nothing.
 use mathlib.Core.Path.{_≡_, refl, sym, ap, _∙_}
-use mathlib.Core.Bool.{Bool, true, false, not, _||_}
+use mathlib.Core.Bool.{Bool, true, false, not, _&&_, _||_}
 use mathlib.Core.List.{List, [], _∷_, _++_}
 use mathlib.Core.Option.{Option, none, some}
 use Prim.Native.Nat.{ℕ, zero, suc, _+_, _<_}
@@ -10,6 +10,9 @@ use lib.Dec.{eqb}
 use lib.ListN.{length, getD, take}
 use lib.Seq.{take-suc}
 use Rattle.criteria.specs.Tests.{lowest, keepIf, keep, more, mem}
+use Rattle.criteria.specs.History.{History}
+use Rattle.criteria.specs.Replay.{Contents, changed}
+use Rattle.criteria.specs.Check.{right, firstWrong}
 use Rattle.criteria.proofs.Lists.{below-suc, none-lowest, mem-append, keep-append}
 
 -- the search found something at k and nothing below
@@ -29,6 +32,28 @@ mem-take-suc e v i l = ap (mem e) (take-suc v i 0 l) ∙ mem-append e (take i v)
 
 pub keep-take-suc : (f : ℕ → Bool) (v : List ℕ) (i : ℕ) → i < length v → keep f (take (suc i) v) ≡ keep f (take i v) ++ keepIf (f (getD v i 0)) (getD v i 0) []
 keep-take-suc f v i l = ap (keep f) (take-suc v i 0 l) ∙ keep-append f (take i v) (getD v i 0 ∷ [])
+
+-- what the objects hold after a list of events
+abbrev pub after-all : History → Contents → List ℕ → Contents
+after-all h s [] = s
+after-all h s (e ∷ v) = after-all h (changed h s e) v
+
+-- "16 a visible answer that the replay doesn't give, at the first such event in the view": what `firstWrong` finds
+abbrev pub wrongAt : History → (ℕ → Bool) → Contents → List ℕ → ℕ → Bool
+wrongAt h vis s v i = vis (getD v i 0) && not (right h (after-all h s (take i v)) (getD v i 0))
+
+pub wrong-found : (h : History) (vis : ℕ → Bool) (s : Contents) (v : List ℕ) (i : ℕ) → i < length v
+    → ((j : ℕ) → j < i → wrongAt h vis s v j ≡ false) → wrongAt h vis s v i ≡ true → firstWrong h vis s v ≡ some (getD v i 0)
+wrong-found h vis s [] i l g e = absurd (not-suc-le-zero l)
+wrong-found h vis s (x ∷ v) zero l g e = rw e refl
+wrong-found h vis s (x ∷ v) (suc i) l g e =
+    rw (g zero (omega arith)) (wrong-found h vis (changed h s x) v i (le-of-suc-le-suc l) (λ j m. g (suc j) (omega arith)) e)
+
+pub wrong-nowhere : (h : History) (vis : ℕ → Bool) (s : Contents) (v : List ℕ)
+    → ((j : ℕ) → j < length v → wrongAt h vis s v j ≡ false) → firstWrong h vis s v ≡ none
+wrong-nowhere h vis s [] g = refl
+wrong-nowhere h vis s (x ∷ v) g =
+    rw (g zero (omega arith)) (wrong-nowhere h vis (changed h s x) v (λ j m. g (suc j) (omega arith)))
 
 -- an element that is there, whatever stands for one that is not
 pub any-default : {A : Type 0} (l : List A) (i : ℕ) (d e : A) → i < length l → getD l i d ≡ getD l i e

@@ -18,6 +18,7 @@ use Rattle.criteria.specs.Replay.{Contents, changed}
 use Rattle.criteria.specs.Check.{right, firstWrong}
 use Rattle.criteria.proofs.Lists.{by-test, clash, place-in}
 use Rattle.criteria.proofs.Replay.{none-wrong, wrong-none, replays-fewer}
+use Rattle.criteria.proofs.Loops.{after-all}
 use Rattle.replays.specs.declared.replay.Light.{Light}
 use Rattle.replays.specs.declared.replay.Visible.{Visible}
 use Rattle.replays.specs.declared.replay.Visible.the-variants.{All, Of, Only}
@@ -29,11 +30,6 @@ use Rattle.replays.proofs.HistoryLaws.{wrong-same}
 or-assoc : (a b c : Option ℕ) → or a (or b c) ≡ or (or a b) c
 or-assoc none b c = refl
 or-assoc (some x) b c = refl
-
--- what the objects hold after a list of events
-abbrev after-all : History → Contents → List ℕ → Contents
-after-all h s [] = s
-after-all h s (e ∷ v) = after-all h (changed h s e) v
 
 module _ (h : History) where
   wrong-append : (vis : ℕ → Bool) (s : Contents) (v w : List ℕ)
