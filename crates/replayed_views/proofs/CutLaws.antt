@@ -8,7 +8,7 @@ use mathlib.Core.Bool.{Bool, true, _&&_}
 use mathlib.Core.List.{List, [], _∷_}
 use mathlib.Core.Option.{Option, none, some}
 use lib.ListN.{length, getD, take, length-take, length-map}
-use lib.Seq.{length-take-le, getD-take}
+use lib.Seq.{getD-take}
 use lib.Dec.{eqb}
 use borrow.Author.Tests.{lt-ltb, le-ltb, eqb-true, eq-eqb}
 use Rattle.layout.proofs.Cases.{and-right}
@@ -18,16 +18,16 @@ use Rattle.certificate.specs.Record.{entriesIn}
 use Rattle.criteria.specs.Tests.{lowest, keepIf, keep, mem, place}
 use Rattle.criteria.specs.History.{Event, event, only}
 use Rattle.criteria.specs.Check.{firstWrong}
-use Rattle.criteria.proofs.Lists.{by-test, true-or-left, true-or-right, none-lowest, mem-keep, mem-getD, place-in}
+use Rattle.criteria.proofs.Lists.{by-test, true-or-left, true-or-right, none-lowest, mem-keep, place-in}
 use Rattle.criteria.proofs.Loops.{lowest-found}
 use Rattle.objects.specs.declared.state.State.{State}
 use Rattle.objects.specs.State.{noState, contentsOf}
 use Rattle.orders.specs.Rows.{inRow}
 use Rattle.replays.specs.declared.replay.Light.{Light}
 use Rattle.replays.specs.Replay.{noLight, lightHistory, contentsIn, foundEvent, Ready}
-use Rattle.replayed_views.specs.Steps.{oneWrong, ReadyPart, ReadyRow}
+use Rattle.replayed_views.specs.Steps.{oneWrong, ReadyKept}
 use Rattle.replays.proofs.ReplayLaws.{event-at, getD-contents}
-use Rattle.replayed_views.proofs.ObjectLaws.{onObject, one-object}
+use Rattle.replayed_views.proofs.ObjectLaws.{onObject, one-object, entry-in}
 
 -- what passes two tests, and every entry
 keep-both : (f g r : ℕ → Bool) (v : List ℕ) → ((x : ℕ) → mem x v ≡ true → r x ≡ g x && f x) → keep f (keep g v) ≡ keep r v
@@ -58,19 +58,16 @@ module _ (view : List ℕ) (n size : ℕ) (entries : (i : ℕ) → i < n → get
 part-kept : (view : List ℕ) (n : ℕ) (f : ℕ → Bool) (cut : EventList) → length (cut .events) ≡ 64 → cut .count ≤ 64 → entriesIn cut ≡ keep f (take n view)
     → (i : ℕ) → i < cut .count → mem (getD (cut .events) i 0) (keep f (take n view)) ≡ true
 part-kept view n f cut long few q i h =
-    let k : length (take (cut .count) (cut .events)) ≡ cut .count = length-take-le (cut .count) (cut .events) (omega (arith, long, few)) in
-    ap (mem (getD (cut .events) i 0)) (sym q)
-    ∙ ap (λ (x : ℕ). mem x (take (cut .count) (cut .events))) (sym (getD-take (cut .count) (cut .events) i 0 h))
-    ∙ mem-getD (take (cut .count) (cut .events)) i (omega (arith, h, k))
+    ap (mem (getD (cut .events) i 0)) (sym q) ∙ entry-in (cut .events) (cut .count) i h (omega (arith, long, few))
 
 -- a view that is cut down to a row of events of e's object
 pub entry-small : (size : ℕ) (view : List ℕ) (n : ℕ) → size ≤ 64 → ((i : ℕ) → i < n → getD view i 0 < size) → (i : ℕ) → i < n → getD view i 0 < 64
 entry-small size view n l entries i h = omega (arith, entries i h)
 
 module _ (os : List Object) (size : ℕ) (ls : List Light) (vs cs : List ℕ) (view : List ℕ) (n row e : ℕ) where
-  pub part-ready : (first : State) → ReadyRow os size ls vs cs first view n row e → (cut : EventList) → length (cut .events) ≡ 64
+  pub part-ready : (first : State) → ReadyKept os size ls vs cs first view n (inRow row) e → (cut : EventList) → length (cut .events) ≡ 64
       → (entriesIn cut ≡ keep (inRow row) (take n view)) × (cut .count ≤ n)
-      → ReadyPart os size ls vs cs first (cut .events) (cut .count) e
+      → ReadyKept os size ls vs cs first (cut .events) (cut .count) (λ f. mem f (entriesIn cut)) e
   part-ready first r cut long q =
       let few : cut .count ≤ 64 = omega (arith, q .1, r .short) in
       let kept = part-kept view n (inRow row) cut long few (q .0) in
@@ -82,7 +79,7 @@ module _ (os : List Object) (size : ℕ) (ls : List Light) (vs cs : List ℕ) (v
         short = few;
         own = r .own;
         event = below;
-        object = λ i h. r .object (getD (cut .events) i 0) (below i h) (mem-keep (inRow row) (getD (cut .events) i 0) (take n view) (kept i h) .0);
+        object = λ f l t. r .object f l (mem-keep (inRow row) f (take n view) (ap (mem f) (sym (q .0)) ∙ t) .0);
         fits = r .fits;
         answer = r .answer;
         start = r .start;
@@ -90,7 +87,7 @@ module _ (os : List Object) (size : ℕ) (ls : List Light) (vs cs : List ℕ) (v
 
   module _ (starts : List State) (r : Ready os size ls vs cs starts view n) (below : e < size) (g : ℕ → Bool)
       (is-row : (f : ℕ) → f < size → inRow row f ≡ g f && eqb (getD ls f noLight .object) (getD ls e noLight .object)) where
-    pub row-ready : ReadyRow os size ls vs cs (getD starts (getD ls e noLight .object) noState) view n row e
+    pub row-ready : ReadyKept os size ls vs cs (getD starts (getD ls e noLight .object) noState) view n (inRow row) e
     row-ready =
         record {
           values = r .values;

@@ -7,19 +7,19 @@ use mathlib.Core.Bool.{Bool, true, false, not, _&&_, _||_}
 use mathlib.Core.List.{List, [], _∷_}
 use mathlib.Core.Option.{Option, none, some}
 use lib.ListN.{length, getD, take, set, length-set}
-use lib.Seq.{slice, slice-cons, slice-empty, getD-set-same, getD-set-other}
+use lib.Seq.{slice, slice-cons, slice-empty, getD-set-same, getD-set-other, getD-take, length-take-le}
 use lib.Dec.{eqb, ltb}
 use borrow.Author.Tests.{eqb-true, eqb-false, eq-eqb, ne-eqb, lt-ltb, le-ltb}
 use Rattle.layout.proofs.Cases.{by-lt, by-eq}
 use Rattle.history.specs.declared.record.Object.{Object}
 use Rattle.history.specs.Record.{noObject}
 use Rattle.history.specs.Kinds.{hasOp}
-use Rattle.criteria.specs.Tests.{or, foundIf, sameList, keepIf, keep}
+use Rattle.criteria.specs.Tests.{or, foundIf, sameList, keepIf, keep, mem}
 use Rattle.criteria.specs.Object.{after, gives}
 use Rattle.criteria.specs.History.{Event, History, event, object, only}
 use Rattle.criteria.specs.Replay.{Contents}
 use Rattle.criteria.specs.Check.{right, firstWrong}
-use Rattle.criteria.proofs.Lists.{by-test}
+use Rattle.criteria.proofs.Lists.{by-test, mem-getD}
 use Rattle.objects.specs.declared.state.State.{State}
 use Rattle.objects.specs.State.{contentsOf, Changed}
 use Rattle.orders.specs.Rows.{inRow}
@@ -63,6 +63,11 @@ module _ (h : History) (e o : ℕ) (its : event h e .object ≡ o) where
       ∙ one-object (set s x c) fs fits
       ∙ ap (λ (d : List ℕ). oneWrong h e o d (keep (onObject h o) fs)) (getD-set-other s x o c [] (λ q. eqb-false x o t (sym q)))
       ∙ ap (λ (b : Bool). oneWrong h e o (getD s o []) (keepIf b f (keep (onObject h o) fs))) (sym t))
+
+-- an entry of the first n of a view is one of them
+pub entry-in : (view : List ℕ) (n i : ℕ) → i < n → n ≤ length view → mem (getD view i 0) (take n view) ≡ true
+entry-in view n i h fits =
+    ap (λ (x : ℕ). mem x (take n view)) (sym (getD-take n view i 0 h)) ∙ mem-getD (take n view) i (omega (arith, h, length-take-le n view fits))
 
 -- ---- one turn
 module _ (os : List Object) (size : ℕ) (ls : List Light) (vs : List ℕ) (answers : List (List ℕ)) (cs : List ℕ) (e o : ℕ) where

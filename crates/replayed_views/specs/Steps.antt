@@ -15,7 +15,6 @@ use Rattle.criteria.specs.History.{History, event, object, only}
 use Rattle.criteria.specs.Replay.{Contents}
 use Rattle.criteria.specs.Check.{firstWrong}
 use Rattle.objects.specs.declared.state.State.{State}
-use Rattle.orders.specs.Rows.{inRow}
 use Rattle.replays.specs.declared.replay.Light.{Light}
 use Rattle.replays.specs.declared.replay.Visible.{Visible}
 use Rattle.replays.specs.declared.replay.Visible.the-variants.{All, Of, Only}
@@ -28,28 +27,16 @@ oneWrong h e o c (f ∷ fs) =
     or (foundIf (only e f && not (sameList (event h f .answer) (gives (object h o) (event h f .op) c))) f)
     (oneWrong h e o (after (object h o) (event h f .op) (event h f .value) c) fs)
 
--- What the replay of one object's events takes for granted: there are values of 64 events and of the start, e is an event, the part
--- holds events of e's object, an event's object has its op, no recorded answer has more than eight values, and the state of e's
--- object stands before any event.
-pub record ReadyPart (os : List Object) (size : ℕ) (ls : List Light) (vs cs : List ℕ) (first : State) (part : List ℕ) (m e : ℕ) : Type 0 where
-  pub values : length vs ≡ 65
-  pub small : size ≤ 64
-  pub short : m ≤ 64
-  pub own : e < size
-  pub event : (i : ℕ) → i < m → getD part i 0 < size
-  pub object : (i : ℕ) → i < m → getD ls (getD part i 0) noLight .object ≡ getD ls e noLight .object
-  pub fits : (f : ℕ) → f < size → hasOp (getD os (getD ls f noLight .object) noObject .kind) (getD ls f noLight .op) ≡ true
-  pub answer : (f : ℕ) → f < size → getD cs f 0 ≤ 8
-  pub start : Stands (getD os (getD ls e noLight .object) noObject) 0 first
-
--- The same of a view and a row: the entries that are in the row are events of e's object.
-pub record ReadyRow (os : List Object) (size : ℕ) (ls : List Light) (vs cs : List ℕ) (first : State) (view : List ℕ) (n row e : ℕ) : Type 0 where
+-- What the replay of one object's events takes for granted: there are values of 64 events and of the start, e is an event, the view
+-- holds events, those of them that are kept are of e's object, an event's object has its op, no recorded answer has more than eight
+-- values, and the state of e's object stands before any event.
+pub record ReadyKept (os : List Object) (size : ℕ) (ls : List Light) (vs cs : List ℕ) (first : State) (view : List ℕ) (n : ℕ) (kept : ℕ → Bool) (e : ℕ) : Type 0 where
   pub values : length vs ≡ 65
   pub small : size ≤ 64
   pub short : n ≤ 64
   pub own : e < size
   pub event : (i : ℕ) → i < n → getD view i 0 < size
-  pub object : (f : ℕ) → f < size → inRow row f ≡ true → getD ls f noLight .object ≡ getD ls e noLight .object
+  pub object : (f : ℕ) → f < size → kept f ≡ true → getD ls f noLight .object ≡ getD ls e noLight .object
   pub fits : (f : ℕ) → f < size → hasOp (getD os (getD ls f noLight .object) noObject .kind) (getD ls f noLight .op) ≡ true
   pub answer : (f : ℕ) → f < size → getD cs f 0 ≤ 8
   pub start : Stands (getD os (getD ls e noLight .object) noObject) 0 first

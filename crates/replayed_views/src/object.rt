@@ -3,11 +3,11 @@ ghost use mathlib.Core.Path.{_≡_};
 ghost use Prim.Native.Nat.{ℕ, _<_};
 ghost use lib.ListN.{take, getD};
 ghost use lib.Dec.{eqb};
-ghost use Rattle.criteria.specs.Tests.{keep};
+ghost use Rattle.criteria.specs.Tests.{keep, mem};
 ghost use Rattle.objects.specs.State.{contentsOf};
 ghost use Rattle.orders.specs.Rows.{inRow};
 ghost use Rattle.replays.specs.Replay.{noLight, lightHistory, foundEvent};
-ghost use Rattle.replayed_views.specs.Steps.{oneWrong, ReadyPart, ReadyRow};
+ghost use Rattle.replayed_views.specs.Steps.{oneWrong, ReadyKept};
 use history::record::EventNo;
 use history::record::Object;
 use objects::state::State;
@@ -48,7 +48,7 @@ fn replay_object(
     m: usize,
     e: EventNo,
 ) -> usize
-    requires { ⌜ ReadyPart objects size events (now values) (now counts) start part m (e .0) ⌝ }
+    requires { ⌜ ReadyKept objects size events (now values) (now counts) start part m (λ f. mem f (take m part)) (e .0) ⌝ }
     ensures { λ r. ⌜ foundEvent r ≡ oneWrong (lightHistory objects size events (now (values .entry)) (now (answers .entry)) (now (counts .entry))) (e .0) (getD events (e .0) noLight .object) (contentsOf (now (values .entry)) start) (take m part) ⌝ }
 {
     let mut s = start;
@@ -88,7 +88,7 @@ pub(crate) fn replay_row(
     row: u64,
     e: EventNo,
 ) -> usize
-    requires { ⌜ ReadyRow objects size events (now values) (now counts) start view n row (e .0) ⌝ }
+    requires { ⌜ ReadyKept objects size events (now values) (now counts) start view n (inRow row) (e .0) ⌝ }
     ensures { λ r. ⌜ foundEvent r ≡ oneWrong (lightHistory objects size events (now (values .entry)) (now (answers .entry)) (now (counts .entry))) (e .0) (getD events (e .0) noLight .object) (contentsOf (now (values .entry)) start) (keep (inRow row) (take n view)) ⌝ }
 {
     let at = e.0 as usize;

@@ -14,11 +14,12 @@ use Rattle.history.specs.declared.record.Object.{Object}
 use Rattle.history.specs.declared.record.Op.{Op}
 use Rattle.history.specs.Record.{noObject}
 use Rattle.history.specs.Kinds.{hasOp}
+use Rattle.criteria.specs.Tests.{mem}
 use Rattle.replays.specs.Replay.{Stands, noLight}
 use Rattle.replays.specs.Steps.{Judged}
-use Rattle.replayed_views.specs.Steps.{ReadyPart}
+use Rattle.replayed_views.specs.Steps.{ReadyKept}
 use Rattle.replays.proofs.ReplayLaws.{stands-on, judged-given, judged-seen, judged-unseen, found-some}
-use Rattle.replayed_views.proofs.ObjectLaws.{oneIn, whole-part, part-stops, part-on, part-ends}
+use Rattle.replayed_views.proofs.ObjectLaws.{entry-in, oneIn, whole-part, part-stops, part-on, part-ends}
 use Rattle.replayed_views.proofs.object.replay_object.Statement.{statement}
 use Rattle.replayed_views.proofs.object.replay_object.Tie as tie
 use borrow.Author.Needs.{needs}
@@ -26,7 +27,7 @@ use borrow.Author.Needs.{needs}
 abbrev Inv-loop : tie.InvT-loop
 Inv-loop values answers counts size m e events part s₀ i₀ s i =
     (i ≤ m)
-    × ((os : List Object) → ReadyPart os size events values counts s₀ part m (e .0)
+    × ((os : List Object) → ReadyKept os size events values counts s₀ part m (λ f. mem f (take m part)) (e .0)
     → Stands (getD os (getD events (e .0) noLight .object) noObject) i s
     × (oneIn os size events values answers counts (e .0) (getD events (e .0) noLight .object) s₀ (take m part)
     ≡ oneIn os size events values answers counts (e .0) (getD events (e .0) noLight .object) s (slice i m part)))
@@ -68,9 +69,12 @@ part-holds c =
 
 has-op : (c : tie.In-loop Inv-loop μ-loop) (os : List Object)
     → let a = c .before .before .args in
-    ReadyPart os (a .size) (a .t2) (a .values .now) (a .counts .now) (a .start) (a .t8) (a .m) (a .e .0)
+    ReadyKept os (a .size) (a .t2) (a .values .now) (a .counts .now) (a .start) (a .t8) (a .m) (λ f. mem f (take (a .m) (a .t8))) (a .e .0)
     → hasOp (getD os (place (c .before .before)) noObject .kind) (op c) ≡ true
-has-op c os r = rw (r .object (c .before .loop .i) (in-part c)) at (r .fits (number c) (r .event (c .before .loop .i) (in-part c)))
+has-op c os r =
+    let i = c .before .loop .i in
+    let a = c .before .before .args in
+    rw (r .object (number c) (r .event i (in-part c)) (entry-in (a .t8) (a .m) i (in-part c) (part-holds c))) at (r .fits (number c) (r .event i (in-part c)))
 
 -- the state stands
 stands : (c : tie.In-loop Inv-loop μ-loop) → Stands (getD (c .before .before .args .objects) (place (c .before .before)) noObject) (c .before .loop .i) (c .before .loop .s)
