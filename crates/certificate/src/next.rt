@@ -2,17 +2,17 @@
 ghost use mathlib.Core.Path.{_≡_};
 ghost use Prim.Native.Nat.{ℕ, _+_, _-_, _≤_, _<_};
 ghost use mathlib.Core.Bool.{Bool, true, not, _||_};
-ghost use mathlib.Core.List.{_++_};
 ghost use lib.ListN.{length, drop};
 ghost use lib.Dec.{leb};
 ghost use Rattle.layout.specs.Split.{find};
 ghost use Rattle.layout.specs.Number.{isDigit, spell};
+ghost use Rattle.layout.specs.Steps.Stands.{Stands};
 ghost use Rattle.certificate.specs.Record.{noList};
 ghost use Rattle.certificate.specs.Steps.Next.{ListFrom, nextRead};
 use crate::list::no_list;
 use crate::list::read_list_line;
 use crate::record::EventList;
-use layout::number::is_spelling;
+use layout::number::spaced_number;
 use layout::split::find_from;
 
 // Where the line ends, with its list and fault 0, or with its first fault and no list.
@@ -47,7 +47,7 @@ fn digit_value(b: u8) -> usize
 // The number of one or two digits that begins at a place and has a byte behind its first digit.
 fn quick_entry(text: &[u8], from: usize) -> Entry
     requires { ⌜ from ≤ length (now text) ⌝ }
-    ensures { λ r. ⌜ (r .value < 100 → (r .end ≤ length (now (text .entry))) × (drop from (now (text .entry)) ≡ spell (r .value) ++ drop (r .end) (now (text .entry)))) ⌝ }
+    ensures { λ r. ⌜ (r .value < 100 → Stands (spell (r .value)) from (r .end) (now (text .entry))) ⌝ }
 {
     if text.len() - from < 2 {
         return Entry {
@@ -181,14 +181,16 @@ fn quick_line(text: &[u8], from: usize, own: u32, count: usize, past: bool) -> N
     requires { ⌜ (from ≤ length (now text)) × (count ≤ 64) ⌝ }
     ensures { λ r. ⌜ (r .fault ≡ 0 → r ≡ nextRead past count own from (drop from (now (text .entry)))) ⌝ }
 {
-    let a = find_from(text, from, 32);
-    if a == text.len() {
+    let n = spaced_number(text, from, 64);
+    let a = n.end;
+    let number = n.value;
+    if number >= 64 {
         return untold(from);
     }
-    if is_spelling(&text[from..a], own) {
-        return quick_list(text, a + 1, count, past);
+    if number != own as u64 {
+        return untold(from);
     }
-    untold(from)
+    quick_list(text, a, count, past)
 }
 
 // Reads the line of a past or of a view whose number is `own` and that begins at a place, in a history with `count` events.

@@ -18,7 +18,7 @@ use Rattle.layout.proofs.SplitLaws.{without, join-split}
 use Rattle.layout.proofs.WordLaws.{same-true, same-refl}
 use Rattle.layout.proofs.RoundTrips.{written-read}
 use Rattle.history.specs.Readable.{allLess}
-use Rattle.history_theorems.proofs.EventRound.{values-less}
+use Rattle.event_reader.proofs.EventRound.{values-less}
 use Rattle.certificate.specs.declared.record.Criterion.{Criterion}
 use Rattle.certificate.specs.declared.record.Criterion.the-variants.{Pram, Weak, Causal, Converge, Sequential}
 use Rattle.certificate.specs.Criteria.{wordOf, isCriterion, criterionOf}

@@ -1,4 +1,5 @@
 pub mod PadLaws
+pub mod ListingLaws
 pub mod FaultLaws
 pub mod ObjectLaws
 pub mod AnswerLaws

@@ -5,13 +5,13 @@ use native.Mathlib.Omega.{arith}
 use mathlib.Core.Path.{_≡_, refl, sym, ap, _∙_}
 use mathlib.Core.Bool.{true, false, cond, _&&_, _||_}
 use mathlib.Core.List.{List, [], _∷_, _++_}
-use lib.ListN.{length, take, drop}
+use lib.ListN.{length, take, drop, drop-of-length-le}
 use lib.Dec.{eqb, ltb}
 use borrow.Author.Tests.{eq-eqb, ne-eqb, eqb-false, ltb-true, le-leb, lt-leb}
 use Rattle.layout.specs.Split.{find, split}
 use Rattle.layout.specs.Word.{same, dash, objectHeading, eventHeading}
 use Rattle.layout.specs.Number.{value}
-use Rattle.layout.proofs.Cases.{by-eq, and-left}
+use Rattle.layout.proofs.Cases.{by-lt, by-eq, and-left}
 use Rattle.layout.proofs.SplitLaws.{cut-more, cut-last, split-some}
 use Rattle.layout.proofs.NumberLaws.{cut-long}
 use Rattle.history.specs.declared.record.Object.{Object}
@@ -25,6 +25,9 @@ use Rattle.history.specs.Faults.{objectLine, eventLine, objectLimits, objectFau
 use Rattle.history.proofs.FaultLaws.{fault-none}
 use Rattle.history.proofs.ObjectLaws.{three-order, object-three, object-count}
 use Rattle.history.proofs.EventLaws.{limited, event-six, event-count}
+use Rattle.event_reader.specs.declared.next.NextEvent.{NextEvent}
+use Rattle.event_reader.specs.Steps.Next.{nextRead}
+use Rattle.event_reader.proofs.NextLaws.{next-cut, next-line}
 use Rattle.history_reader.specs.ReadHistory.{refusal, readAs, eventsFrom, objectsFrom, linesFrom, readHistory}
 
 -- ---- a line with its line feed: some part follows it
@@ -69,32 +72,24 @@ module _ (line : ℕ) (s : List ℕ) (a e : ℕ) (found : e ≡ a + find 10 (dro
   rest-some = split-some 10 (drop (e + 1) s)
 
   module _ (os : List Object) where
-    module _ (es : List Event) where
-      events-end : length s ≤ e
-          → eventsFrom os es line a (split 10 (drop a s)) ≡ cond (eqb (e - a) 0) (readAs os es) (refusal 2 line a (e - a))
+    module _ (h : a < length s) (x : NextEvent) (own : ℕ) (q : x ≡ nextRead own os a (drop a s)) (es : List Event) (many : length es ≡ own) where
+      events-turn : eventsFrom os es line a (split 10 (drop a s))
+          ≡ cond (eqb (x .fault) 0) (eventsFrom os (es ++ x .event ∷ []) (line + 1) (e + 1) (split 10 (drop (e + 1) s))) (refusal (x .fault) line a (e - a))
       unfolding eventsFrom
-      events-end h = rw (cut-last 10 s a e found from h, long)
+      events-turn =
+          by-lt e (length s)
+          (λ k.
+          ap (eventsFrom os es line a) (cut-more 10 s a e found from k)
+          ∙ events-step os es line a (take (e - a) (drop a s)) (split 10 (drop (e + 1) s)) rest-some
+          ∙ rw (many, q, next-line own os s a e found from k, next, long))
+          (λ k. rw (q, next-cut own os s a e found from k, cut-last 10 s a e found from k, long, ne-eqb (e - a) 0 (λ z. omega arith)))
 
-      pub events-done : length s ≤ e → a ≡ e → eventsFrom os es line a (split 10 (drop a s)) ≡ readAs os es
-      events-done h z = let k : e - a ≡ 0 = omega arith in events-end h ∙ rw k
+      pub events-more : x .fault ≡ 0
+          → eventsFrom os es line a (split 10 (drop a s)) ≡ eventsFrom os (es ++ x .event ∷ []) (line + 1) (e + 1) (split 10 (drop (e + 1) s))
+      events-more z = events-turn ∙ rw (eq-eqb (x .fault) 0 z)
 
-      pub events-cut : length s ≤ e → (a ≡ e → ⊥) → eventsFrom os es line a (split 10 (drop a s)) ≡ refusal 2 line a (e - a)
-      events-cut h z = events-end h ∙ rw (ne-eqb (e - a) 0 (λ q. z (omega (arith, before))))
-
-      module _ (x : EventRead) (q : x ≡ eventLine (length es) os (take (e - a) (drop a s))) (h : e < length s) where
-        events-turn : eventsFrom os es line a (split 10 (drop a s))
-            ≡ cond (eqb (x .fault) 0) (eventsFrom os (es ++ x .event ∷ []) (line + 1) (e + 1) (split 10 (drop (e + 1) s))) (refusal (x .fault) line a (e - a))
-        events-turn =
-            ap (eventsFrom os es line a) (cut-more 10 s a e found from h)
-            ∙ events-step os es line a (take (e - a) (drop a s)) (split 10 (drop (e + 1) s)) rest-some
-            ∙ rw (q, next, long)
-
-        pub events-more : x .fault ≡ 0
-            → eventsFrom os es line a (split 10 (drop a s)) ≡ eventsFrom os (es ++ x .event ∷ []) (line + 1) (e + 1) (split 10 (drop (e + 1) s))
-        events-more z = events-turn ∙ rw (eq-eqb (x .fault) 0 z)
-
-        pub events-bad : (x .fault ≡ 0 → ⊥) → eventsFrom os es line a (split 10 (drop a s)) ≡ refusal (x .fault) line a (e - a)
-        events-bad z = events-turn ∙ rw (ne-eqb (x .fault) 0 z)
+      pub events-bad : (x .fault ≡ 0 → ⊥) → eventsFrom os es line a (split 10 (drop a s)) ≡ refusal (x .fault) line a (e - a)
+      events-bad z = events-turn ∙ rw (ne-eqb (x .fault) 0 z)
 
     pub objects-end : length s ≤ e → objectsFrom os line a (split 10 (drop a s)) ≡ refusal 2 line a (e - a)
     unfolding objectsFrom
@@ -124,6 +119,11 @@ module _ (line : ℕ) (s : List ℕ) (a e : ℕ) (found : e ≡ a + find 10 (dro
         pub objects-bad : (x .fault ≡ 0 → ⊥) → objectsFrom os line a (split 10 (drop a s)) ≡ refusal (x .fault) line a (e - a)
         objects-bad z = objects-turn ∙ rw (w, ← q, ne-eqb (x .fault) 0 z)
 
+-- ---- the end of the text, after the last event
+pub events-done : (os : List Object) (es : List Event) (line : ℕ) (s : List ℕ) (a : ℕ) → length s ≤ a → eventsFrom os es line a (split 10 (drop a s)) ≡ readAs os es
+unfolding split eventsFrom
+events-done os es line s a h = rw (drop-of-length-le s h)
+
 -- ---- an own number that is read has a place
 event-with : (k : ℕ) (e : Event) → eventWith k e .fault ≡ k
 event-with k e = by-eq k 0 (λ z. rw (eq-eqb k 0 z) (sym z)) (λ z. rw (ne-eqb k 0 z))
@@ -147,7 +147,7 @@ three-own : (own : ℕ) (a k w : List ℕ) → objectFault own a k w ≡ 0 → o
 unfolding objectLimits
 three-own own a k w e = ltb-true own 16 (and-left (ltb own 16) (same w dash || (ltb 0 (value w) && ltb (value w) 9)) (three-order own a k w e .limits))
 
-pub event-own : (own : ℕ) (os : List Object) (line : List ℕ) → eventLine own os line .fault ≡ 0 → own < 64
+event-own : (own : ℕ) (os : List Object) (line : List ℕ) → eventLine own os line .fault ≡ 0 → own < 64
 event-own own os line e =
     by-eq (length (split 32 line)) 6
     (λ h. six-own own os _ _ _ _ _ _ (sym (six-fault own os _ _ _ _ _ _) ∙ ap (λ (x : EventRead). x .fault) (sym (event-six own os line (split 32 line) refl h)) ∙ e))
@@ -158,6 +158,22 @@ object-own own line e =
     by-eq (length (split 32 line)) 3
     (λ h. three-own own _ _ _ (sym (three-fault own _ _ _) ∙ ap (λ (x : ObjectRead). x .fault) (sym (object-three own line (split 32 line) refl h)) ∙ e))
     (λ h. absurd (eqb-false 2 0 refl (ap (λ (x : ObjectRead). x .fault) (sym (object-count own line (split 32 line) refl h)) ∙ e)))
+
+-- ---- the next line is x, of an event
+module _ (own : ℕ) (os : List Object) (s : List ℕ) (a e : ℕ) (found : e ≡ a + find 10 (drop a s)) (from : a ≤ length s)
+    (x : NextEvent) (q : x ≡ nextRead own os a (drop a s)) where
+  -- a line without a fault has its line feed
+  pub event-short : x .fault ≡ 0 → e < length s
+  event-short z =
+      by-lt e (length s)
+      (λ h. h)
+      (λ h. let k : x .fault ≡ 2 = ap (λ (y : NextEvent). y .fault) (q ∙ next-cut own os s a e found from h) in absurd (omega arith))
+
+  -- an event that is read has a place
+  pub event-few : x .fault ≡ 0 → own < 64
+  event-few z =
+      event-own own os (take (e - a) (drop a s))
+      (ap (λ (y : NextEvent). y .fault) (sym (q ∙ next-line own os s a e found from (event-short z))) ∙ z)
 
 -- ---- the record that was read
 pub history-made : (objects : List Object) (declared : ℕ) (events : List Event) (count : ℕ)

@@ -6,8 +6,8 @@ ghost use lib.ListN.{length, take, drop, replicate};
 ghost use Rattle.layout.specs.Split.{split};
 ghost use Rattle.history.specs.Record.{pad, noObject, noEvent};
 ghost use Rattle.history_reader.specs.ReadHistory.{refusal, eventsFrom, objectsFrom, linesFrom, readHistory, faultyLine};
+use event_reader::next::next_event;
 use history::answer::no_answer;
-use history::event::read_event;
 use history::object::read_object;
 use history::record::Event;
 use history::record::History;
@@ -96,27 +96,9 @@ fn read_events(
     let mut count: usize = 0;
     let mut line = first;
     let mut at = from;
-    loop {
-        let e = find_from(text, at, 10);
-        if e == text.len() {
-            if at == e {
-                let history = History {
-                    objects,
-                    declared,
-                    events,
-                    count,
-                };
-                return HistoryRead {
-                    fault: 0,
-                    line: 0,
-                    start: 0,
-                    end: 0,
-                    history,
-                };
-            }
-            return refuse(2, line, at, e);
-        }
-        let r = read_event(&text[at..e], count as u32, objects, declared);
+    while at < text.len() {
+        let r = next_event(text, at, count as u32, objects, declared);
+        let e = r.end;
         let fault = r.fault;
         if fault != 0 {
             return refuse(fault, line, at, e);
@@ -126,6 +108,19 @@ fn read_events(
         count += 1;
         line += 1;
         at = e + 1;
+    }
+    let history = History {
+        objects,
+        declared,
+        events,
+        count,
+    };
+    HistoryRead {
+        fault: 0,
+        line: 0,
+        start: 0,
+        end: 0,
+        history,
     }
 }
 

@@ -1,6 +1,4 @@
-pub mod LineRound
 pub mod ObjectRound
-pub mod EventRound
 pub mod TextRound
 pub mod TextLength
 pub mod Theorems

@@ -25,7 +25,7 @@ use Rattle.history.specs.HistoryText.{objectText}
 use Rattle.history.specs.Readable.{goodObject}
 use Rattle.history.proofs.FaultLaws.{InOrder, fault-zero}
 use Rattle.history.proofs.ObjectLaws.{three-order, three-faulty, object-count, object-three}
-use Rattle.history_theorems.proofs.LineRound.{spell-without, join-without, spell-not-dash, option-without, option-layout, option-fits, option-value, option-says}
+use Rattle.event_reader.proofs.LineRound.{spell-without, join-without, spell-not-dash, option-without, option-layout, option-fits, option-value, option-says}
 
 -- ---- the words of the kinds
 kind-word : (k : Kind) → kindOf (kindWord k) ≡ k

@@ -18,7 +18,7 @@ use Rattle.history_reader.specs.ReadHistory.{readAs, eventsFrom, objectsFrom, l
 use Rattle.history.specs.HistoryText.{linesText, objectText, eventText, objectLines, eventLines, textOf}
 use Rattle.history.specs.Readable.{goodObject, goodObjects, goodEvent, goodEvents}
 use Rattle.history_theorems.proofs.ObjectRound.{object-written, object-not-heading, object-clean, object-read}
-use Rattle.history_theorems.proofs.EventRound.{event-written, event-clean, event-read}
+use Rattle.event_reader.proofs.EventRound.{event-written, event-clean, event-read}
 
 -- ---- the lines of a text: every line with its line feed, and nothing behind the last
 pub split-lines : (ls : List (List ℕ)) → allWithout 10 ls ≡ true → split 10 (linesText ls) ≡ ls ++ [] ∷ []

@@ -3,7 +3,7 @@ use Prim.Native.Nat.{ℕ, suc, _+_, _-_, _≤_, _<_}
 use native.Mathlib.Numerals.{add-one}
 use native.Mathlib.Omega.{arith}
 use mathlib.Core.Path.{_≡_, refl, sym, ap, _∙_}
-use mathlib.Core.List.{List, [], _∷_, _++_, map, append-nil}
+use mathlib.Core.List.{List, [], _∷_, _++_, map, append-assoc, append-nil}
 use lib.ListN.{length, getD, drop, length-append, drop-of-length-le}
 use lib.Seq.{drop-cons}
 use Rattle.layout.specs.Split.{join}
@@ -33,6 +33,14 @@ tail-none = refl
 tail-some : (x : ℕ) (xs : List ℕ) → tailText (x ∷ xs) ≡ (44 ∷ spell x) ++ tailText xs
 unfolding tailText
 tail-some x xs = refl
+
+-- one number more
+pub tail-more : (xs : List ℕ) (v : ℕ) → tailText (xs ++ v ∷ []) ≡ tailText xs ++ 44 ∷ spell v
+unfolding tailText
+tail-more [] v = ap (λ (l : List ℕ). 44 ∷ l) (append-nil (spell v))
+tail-more (x ∷ xs) v =
+    ap (λ (l : List ℕ). 44 ∷ (spell x ++ l)) (tail-more xs v)
+    ∙ ap (λ (l : List ℕ). 44 ∷ l) (sym (append-assoc (spell x) (tailText xs) (44 ∷ spell v)))
 
 -- ---- a loop over the items, at the place i
 module _ (items : List ℕ) (i : ℕ) (h : i < length items) where

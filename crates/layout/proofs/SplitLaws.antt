@@ -206,6 +206,14 @@ split-append b (x ∷ p) s e =
     rw (not-true (eqb x b) (and-left (not (eqb x b)) (without b p) e))
     (ap (onFirst x) (split-append b p s (and-right (not (eqb x b)) (without b p) e)))
 
+-- the first b behind a part without b
+pub find-append : (b : ℕ) (p s : List ℕ) → without b p ≡ true → find b (p ++ b ∷ s) ≡ length p
+unfolding without find
+find-append b [] s e = rw (eq-eqb b b refl)
+find-append b (x ∷ p) s e =
+    rw (not-true (eqb x b) (and-left (not (eqb x b)) (without b p) e))
+    (ap suc (find-append b p s (and-right (not (eqb x b)) (without b p) e)))
+
 -- parts that hold no b, joined and split again
 pub split-join : (b : ℕ) (p : List ℕ) (ps : List (List ℕ)) → allWithout b (p ∷ ps) ≡ true → split b (join b (p ∷ ps)) ≡ p ∷ ps
 unfolding allWithout join

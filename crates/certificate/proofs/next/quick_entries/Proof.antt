@@ -57,7 +57,7 @@ returns-3 c h =
     let l = q .before .before .loop in
     let z = q .before .before .before .before in
     reading-ends (l .inv .3) (z .pre .1) (search needs) (q .quick-entry .result .value) (q .quick-entry .result .end)
-    (q .quick-entry .ensures (omega arith) .1) (search needs) (sym (m .may-follow .ensures) ∙ c .before .before .before .if2 .taken) (search needs)
+    (q .quick-entry .ensures (omega arith)) (search needs) (sym (m .may-follow .ensures) ∙ c .before .before .before .if2 .taken) (search needs)
     (z .pre .0) (c .if4 .taken)
 
 untold-requires-3 : tie.Need-untold-requires-3 Inv-loop μ-loop
@@ -85,7 +85,7 @@ loop-again c =
       search needs,
       length-set (l .events) (l .k) _ ∙ l .inv .2,
       reading-more (l .inv .3) (z .pre .1) (search needs) (q .quick-entry .result .value) (q .quick-entry .result .end)
-          (q .quick-entry .ensures (omega arith) .1) (search needs) (sym (m .may-follow .ensures) ∙ c .before .before .before .before .if2 .taken)
+          (q .quick-entry .ensures (omega arith)) (search needs) (sym (m .may-follow .ensures) ∙ c .before .before .before .before .if2 .taken)
           (search needs) (search needs),
     )
 

@@ -65,11 +65,9 @@ returns-3 : tie.Need-returns-3
 returns-3 c h =
     let t = c .before .before .before .before .before in
     let e = t .before .before .before .before in
-    let a = e .before .before .args in (
-      search needs,
-      rw (c .before .digit-value .ensures, c .digit-value2 .ensures)
-          (entry-two (a .text .now) (a .from) (two-bytes e) (first t) (second (c .before .before .before)) (c .before .before .if4 .left)),
-    )
+    let a = e .before .before .args in
+    rw (c .before .digit-value .ensures, c .digit-value2 .ensures)
+    (entry-two (a .text .now) (a .from) (two-bytes e) (first t) (second (c .before .before .before)) (c .before .before .if4 .left))
 
 digit-value-requires-3 : tie.Need-digit-value-requires-3
 digit-value-requires-3 c κs = let d = first (c .before .before) in (digit-from _ d, digit-to _ d)
@@ -82,7 +80,7 @@ returns-4 c h =
     let t = c .before .before .before in
     let e = t .before .before .before .before in
     let a = e .before .before .args in
-    (search needs, rw (c .digit-value3 .ensures) (entry-one (a .text .now) (a .from) (two-bytes e) (first t)))
+    rw (c .digit-value3 .ensures) (entry-one (a .text .now) (a .from) (two-bytes e) (first t))
 
 returns-5 : tie.Need-returns-5
 returns-5 c h = absurd (omega arith)

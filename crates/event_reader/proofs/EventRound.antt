@@ -34,7 +34,7 @@ use Rattle.history.specs.Readable.{allLess, allZero, goodAnswer, goodValue, goo
 use Rattle.history.proofs.PadLaws.{pad-length, take-pad}
 use Rattle.history.proofs.FaultLaws.{InOrder, fault-none, fault-zero}
 use Rattle.history.proofs.EventLaws.{with-faulty, with-event, Laid, laid, Limited, limited, event-count, event-six}
-use Rattle.history_theorems.proofs.LineRound.{spell-without, join-without, list-without, spell-not-dash, option-without, option-layout, option-fits, option-value, option-says}
+use Rattle.event_reader.proofs.LineRound.{spell-without, join-without, list-without, spell-not-dash, option-without, option-layout, option-fits, option-value, option-says}
 
 -- ---- the words of the ops
 op-word : (x : Op) → opOf (opWord x) ≡ x
@@ -158,7 +158,7 @@ unfolding pad
 drop-pad xs = drop-append-seam xs (replicate (8 - length xs) 0)
 
 -- the answer of a few small values is good
-made-good : (object : Object) (op : Op) (xs : List ℕ) → length xs ≤ 8 → canAnswer object op (length xs) ≡ true
+pub made-good : (object : Object) (op : Op) (xs : List ℕ) → length xs ≤ 8 → canAnswer object op (length xs) ≡ true
     → allLess 65536 xs ≡ true → goodAnswer object op (answerOf xs) ≡ true
 unfolding goodAnswer answerOf
 made-good object op xs h c s =
@@ -330,7 +330,7 @@ six (a ∷ b ∷ c ∷ d ∷ e ∷ f ∷ []) n = refl
 six (a ∷ b ∷ c ∷ d ∷ e ∷ f ∷ g ∷ l) n = absurd (omega arith)
 
 -- the values of the answer of a list are that list
-values-of : (xs : List ℕ) → valuesIn (answerOf xs) ≡ xs
+pub values-of : (xs : List ℕ) → valuesIn (answerOf xs) ≡ xs
 unfolding answerOf
 values-of xs = take-pad 8 0 xs
 

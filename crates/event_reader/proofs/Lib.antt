@@ -1,0 +1,4 @@
+pub mod LineRound
+pub mod EventRound
+pub mod NextLaws
+pub mod QuickLaws

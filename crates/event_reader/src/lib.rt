@@ -1,0 +1,2 @@
+// The next line of an event in a history text.
+pub mod next;
