@@ -1,6 +1,6 @@
 -- What a loop needs of the tests and of the check: one more entry, and the first that is found. Assumes nothing.
 use mathlib.Core.Path.{_≡_, refl, sym, ap, _∙_}
-use mathlib.Core.Bool.{Bool, true, false, not, _&&_, _||_}
+use mathlib.Core.Bool.{Bool, true, false, not, _&&_, _||_, or-false}
 use mathlib.Core.List.{List, [], _∷_, _++_}
 use mathlib.Core.Option.{Option, none, some}
 use Prim.Native.Nat.{ℕ, zero, suc, _+_, _<_}
@@ -24,11 +24,7 @@ lowest-found (suc n) f k a l g e =
 
 -- one more entry of a list
 pub mem-take-suc : (e : ℕ) (v : List ℕ) (i : ℕ) → i < length v → mem e (take (suc i) v) ≡ mem e (take i v) || eqb e (getD v i 0)
-mem-take-suc e v i l = ap (mem e) (take-suc v i 0 l) ∙ mem-append e (take i v) (getD v i 0 ∷ []) ∙ ap (λ (b : Bool). mem e (take i v) || b) (or-no (eqb e (getD v i 0)))
-  where
-    or-no : (b : Bool) → b || false ≡ b
-    or-no true = refl
-    or-no false = refl
+mem-take-suc e v i l = ap (mem e) (take-suc v i 0 l) ∙ mem-append e (take i v) (getD v i 0 ∷ []) ∙ ap (λ (b : Bool). mem e (take i v) || b) (or-false (eqb e (getD v i 0)))
 
 pub keep-take-suc : (f : ℕ → Bool) (v : List ℕ) (i : ℕ) → i < length v → keep f (take (suc i) v) ≡ keep f (take i v) ++ keepIf (f (getD v i 0)) (getD v i 0) []
 keep-take-suc f v i l = ap (keep f) (take-suc v i 0 l) ∙ keep-append f (take i v) (getD v i 0 ∷ [])

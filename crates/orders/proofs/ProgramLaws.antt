@@ -2,7 +2,7 @@
 use Prim.Native.Nat.{ℕ, _+_, _<_}
 use native.Mathlib.Omega.{arith}
 use mathlib.Core.Path.{_≡_, refl, sym, _∙_}
-use mathlib.Core.Bool.{Bool, true, false, _&&_, _||_}
+use mathlib.Core.Bool.{Bool, true, false, _&&_, or-true, or-false}
 use mathlib.Core.List.{List, [], map}
 use lib.ListN.{length, getD, set, replicate, List·getD-map}
 use lib.Seq.{getD-set-same, getD-set-other}
@@ -23,14 +23,6 @@ Earlier ps i earlier = (p : ℕ) → p < 8 → (a : ℕ) → inRow (getD earlier
 
 pub earlier-begins : (ps : List ℕ) → Earlier ps 0 (replicate 8 0)
 earlier-begins ps p l a = blank-rows 8 a p ∙ sym (rw (le-ltb a 0 (omega arith)) refl)
-
-or-true : (b : Bool) → (b || true) ≡ true
-or-true true = refl
-or-true false = refl
-
-or-false : (b : Bool) → (b || false) ≡ b
-or-false true = refl
-or-false false = refl
 
 module _ (ps : List ℕ) (i : ℕ) (earlier : List ℕ) (row′ : ℕ) (long : length earlier ≡ 8) (p : ℕ) (its : getD ps i 0 ≡ p) (few : p < 8)
     (more : More (getD earlier p 0) i row′) (s : Earlier ps i earlier) where

@@ -2,7 +2,7 @@
 use Prim.Native.Nat.{ℕ, zero, suc, _≤_, _<_}
 use native.Mathlib.Omega.{arith}
 use mathlib.Core.Path.{_≡_, refl, ap, _∙_}
-use mathlib.Core.Bool.{Bool, true, false, not, _&&_, _||_}
+use mathlib.Core.Bool.{Bool, true, false, not, _&&_, _||_, or-false}
 use mathlib.Core.List.{List}
 use lib.Dec.{eqb}
 use Rattle.layout.proofs.Cases.{by-lt, by-bool}
@@ -10,10 +10,6 @@ use Rattle.criteria.specs.Tests.{any, count, one, mem}
 use Rattle.criteria.specs.Check.{lacksPast, notItsSet}
 use Rattle.criteria.proofs.Lists.{count-out}
 use Rattle.orders.proofs.BitLaws.{any-same}
-
-or-no : (a b : Bool) → b ≡ false → (a || b) ≡ a
-or-no true b e = refl
-or-no false b e = e
 
 pub and-no : (a b : Bool) → a ≡ false → (a && b) ≡ false
 and-no true b e = absurd-by e
@@ -27,7 +23,7 @@ pub any-fewer : (m n : ℕ) (f : ℕ → Bool) → n ≤ m → ((k : ℕ) → n 
 any-fewer zero n f h out = let z : n ≡ zero = omega arith in rw z
 any-fewer (suc m) n f h out =
     by-lt n (suc m)
-    (λ l. or-no (any m f) (f m) (out m (omega arith)) ∙ any-fewer m n f (omega arith) out)
+    (λ l. ap (λ (t : Bool). any m f || t) (out m (omega arith)) ∙ or-false (any m f) ∙ any-fewer m n f (omega arith) out)
     (λ l. let z : n ≡ suc m = omega arith in rw z)
 
 -- an order of the events below n

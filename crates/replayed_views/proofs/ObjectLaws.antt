@@ -3,7 +3,7 @@ use Prim.Native.Nat.{ℕ, _+_, _≤_, _<_}
 use native.Mathlib.Numerals.{add-one}
 use native.Mathlib.Omega.{arith}
 use mathlib.Core.Path.{_≡_, refl, ap, sym, _∙_}
-use mathlib.Core.Bool.{Bool, true, false, not, _&&_, _||_}
+use mathlib.Core.Bool.{Bool, true, false, not, _&&_, _||_, or-false}
 use mathlib.Core.List.{List, [], _∷_}
 use mathlib.Core.Option.{Option, none, some}
 use lib.ListN.{length, getD, take, set, length-set}
@@ -147,11 +147,7 @@ module _ (of : ℕ → ℕ) (f e o : ℕ) where
   row-here its =
       by-eq f e
       (λ q. rw (q, le-ltb e e (omega arith), lt-ltb e (e + 1) (omega arith), eq-eqb e e refl, eq-eqb (of e) o its))
-      (λ ne. rw (next-below ne, ne-eqb f e ne) (or-no (ltb f e && eqb (of f) o)))
-    where
-      or-no : (b : Bool) → b || false ≡ b
-      or-no true = refl
-      or-no false = refl
+      (λ ne. rw (next-below ne, ne-eqb f e ne) (or-false (ltb f e && eqb (of f) o)))
 
   pub row-there : (of e ≡ o → ⊥) → ltb f e && eqb (of f) o ≡ ltb f (e + 1) && eqb (of f) o
   row-there other =

@@ -50,7 +50,7 @@ pub fn first_wrong(
     requires { ⌜ (m ≤ 64) × ((k : ℕ) → k < m → Ready objects size events (now values) (now counts) starts (getD (now views) k []) (getD lengths k 0)) ⌝ }
     ensures { λ r. ⌜ placeOf r ≡ lowest m (wrongIn (lightHistory objects size events (now (values .entry)) (now (answers .entry)) (now (counts .entry))) (contentsIn (now (values .entry)) starts) who (now (views .entry)) lengths) ⌝ }
 {
-    // One view is replayed whole: what the tables below cost is more than they save.
+    // Where one event's answer decides a view, only the events of its object are replayed.
     let rows = object_rows(events);
     let earlier = earlier_views(events);
     let mut k = 0;
