@@ -1,13 +1,12 @@
 -- Laws of a certificate record within the limits that a history's events set: it is the record of its pasts and views, and its
 -- rows are the rows of its views. Assumes nothing.
-use Prim.Native.Nat.{ℕ, zero, suc, _+_, _-_, _≤_, _<_}
-use native.Mathlib.Nat.{not-suc-le-zero, le-of-suc-le-suc}
+use Prim.Native.Nat.{ℕ, zero, suc, _+_, _-_, _≤_}
 use native.Mathlib.Omega.{arith}
 use mathlib.Core.Path.{_≡_, refl, sym, ap, ap₂, _∙_}
 use mathlib.Core.Bool.{Bool, true, false, not, _&&_, _||_, false≢true}
 use mathlib.Core.List.{List, [], _∷_, map}
-use lib.ListN.{length, getD, take, drop, replicate, length-map}
-use lib.Seq.{length-take-le, getD-take}
+use lib.ListN.{length, take, drop, replicate, length-map}
+use lib.Seq.{length-take-le}
 use lib.Dec.{eqb, leb}
 use borrow.Author.Tests.{eqb-true, leb-true, le-leb, lt-ltb}
 use Rattle.layout.proofs.Cases.{by-bool, and-left, and-right}
@@ -258,14 +257,8 @@ pasts-good count (l ∷ ls) h e =
 -- ---- views, within their limits
 record Views (count : ℕ) (ns : List ℕ) (rows : List (List ℕ)) : Type 0 where
   good : goodLists false count (beginnings ns rows) ≡ true
-  few : (i : ℕ) → i < length ns → getD ns i 0 ≤ count
   lengths : ns ≡ map length (beginnings ns rows)
   made : rows ≡ map rowOf (beginnings ns rows)
-
-few-more : (count n : ℕ) (ns : List ℕ) → n ≤ count → ((i : ℕ) → i < length ns → getD ns i 0 ≤ count)
-    → (i : ℕ) → i < suc (length ns) → getD (n ∷ ns) i 0 ≤ count
-few-more count n ns h f zero k = h
-few-more count n ns h f (suc i) k = f i (le-of-suc-le-suc k)
 
 views-more : (count n : ℕ) (ns : List ℕ) (row : List ℕ) (rows : List (List ℕ))
     → Row count n row → Views count ns rows → Views count (n ∷ ns) (row ∷ rows)
@@ -274,7 +267,6 @@ views-more count n ns row rows r v =
     record {
       good =
           lists-good false count (take n row) (beginnings ns rows) (omega (arith, r .said, r .at-most)) (r .less) refl (v .good);
-      few = few-more count n ns (r .at-most) (v .few);
       lengths = ap₂ {C = List ℕ} _∷_ (sym (r .said)) (v .lengths);
       made = ap₂ {C = List (List ℕ)} _∷_ (r .blank) (v .made);
     }
@@ -282,7 +274,7 @@ views-more count n ns row rows r v =
 views-facts : (count : ℕ) (ns : List ℕ) (rows : List (List ℕ)) → count ≤ 64 → goodRows count ns rows ≡ true → Views count ns rows
 unfolding goodRows beginnings
 views-facts count [] [] h e =
-    record { good = lists-none false count; few = λ i k. absurd (not-suc-le-zero k); lengths = refl; made = refl }
+    record { good = lists-none false count; lengths = refl; made = refl }
 views-facts count [] (row ∷ rows) h e = absurd (false≢true e)
 views-facts count (n ∷ ns) [] h e = absurd (false≢true e)
 views-facts count (n ∷ ns) (row ∷ rows) h e =
@@ -304,7 +296,6 @@ pub record Fits (es : List Event) (c : Certificate) (rows : List (List ℕ)) : T
   pub view-count : length (viewsIn (length (viewNumbers (c .criterion) es)) c rows) ≡ length (viewNumbers (c .criterion) es)
   pub good-pasts : goodLists true (length es) (pastsIn (pastCount (c .criterion) es) c) ≡ true
   pub good-views : goodLists false (length es) (viewsIn (length (viewNumbers (c .criterion) es)) c rows) ≡ true
-  pub lengths-few : (i : ℕ) → i < length (viewNumbers (c .criterion) es) → getD (c .lengths) i 0 ≤ length es
   pub record-is : c ≡ certificateOf (c .criterion) (pastsIn (pastCount (c .criterion) es) c) (viewsIn (length (viewNumbers (c .criterion) es)) c rows)
   pub rows-are : rows ≡ rowsOf (viewsIn (length (viewNumbers (c .criterion) es)) c rows)
 
@@ -351,7 +342,6 @@ fits-facts es c rows h e =
       view-count = sym (ap length (v .lengths) ∙ length-map (viewsIn m c rows) length) ∙ lm;
       good-pasts = p .good;
       good-views = v .good;
-      lengths-few = λ i j. omega (arith, getD-take m ns i 0 j, v .few i (omega arith));
       record-is =
           certificate-parts (c .criterion) ps ns (pastsIn k c) (viewsIn m c rows)
           (made-is 64 noList eventListOf (pastsIn k c) ps k lp hk

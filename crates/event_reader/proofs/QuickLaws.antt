@@ -8,7 +8,7 @@ use lib.ListN.{length, getD, take, drop, set, length-append}
 use lib.Seq.{take-at, getD-take, length-take-le}
 use lib.Dec.{eqb, ltb}
 use borrow.Author.Tests.{lt-ltb}
-use Rattle.layout.specs.Split.{find, join}
+use Rattle.layout.specs.Split.{join}
 use Rattle.layout.specs.Word.{dash}
 use Rattle.layout.specs.Number.{spell}
 use Rattle.layout.specs.List.{listText}
