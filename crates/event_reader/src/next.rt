@@ -58,6 +58,7 @@ struct AnswerAt {
     pub end: usize,
 }
 
+// The op whose word stands at a place with a space behind it.
 fn op_at(text: &[u8], from: usize) -> OpAt
     requires { ⌜ from ≤ length (now text) ⌝ }
     ensures { λ r. ⌜ (r .known ≡ true → Stands (opWord (r .op) ++ 32 ∷ []) from (r .end) (now (text .entry))) ⌝ }
@@ -104,7 +105,7 @@ fn op_at(text: &[u8], from: usize) -> OpAt
     }
 }
 
-// A number where one is wanted, and else `-`.
+// The value that stands at a place with a space behind it: a number where one is wanted, and else `-`.
 fn value_at(text: &[u8], from: usize, wanted: bool) -> ValueAt
     requires { ⌜ from ≤ length (now text) ⌝ }
     ensures { λ r. ⌜ (r .known ≡ true → (cond wanted (ltb (r .value) 65536) (eqb (r .value) 0) ≡ true) × Stands (cond wanted (spell (r .value)) dash ++ 32 ∷ []) from (r .end) (now (text .entry))) ⌝ }
@@ -140,6 +141,7 @@ fn value_at(text: &[u8], from: usize, wanted: bool) -> ValueAt
     }
 }
 
+// The answer of a step that does not know.
 fn unknown_answer(from: usize) -> AnswerAt
     ensures { λ r. ⌜ r .known ≡ false ⌝ }
 {
@@ -151,7 +153,7 @@ fn unknown_answer(from: usize) -> AnswerAt
     }
 }
 
-// Values with commas between them up to a line feed.
+// The answer that stands at a place as values with commas between them, and its line feed.
 fn values_at(text: &[u8], from: usize) -> AnswerAt
     requires { ⌜ from ≤ length (now text) ⌝ }
     ensures { λ r. ⌜ (r .known ≡ true → AnswerFrom from (now (text .entry)) r) ⌝ }
@@ -188,6 +190,7 @@ fn values_at(text: &[u8], from: usize) -> AnswerAt
     unknown_answer(from)
 }
 
+// The answer that stands at a place, and its line feed.
 fn answer_at(text: &[u8], from: usize) -> AnswerAt
     requires { ⌜ from ≤ length (now text) ⌝ }
     ensures { λ r. ⌜ (r .known ≡ true → AnswerFrom from (now (text .entry)) r) ⌝ }
