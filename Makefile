@@ -26,7 +26,7 @@ run: rt
 	@rt check walnutgleam > target/run.log 2>&1 || { cat target/run.log; exit 1; }
 	@cd $(DIR) && $(CURDIR)/target/bin/walnutgleam
 
-# `rt check` proves the crates below `interface` two at a time, which `rt staticlib` alone does not.
+# `rt check` proves crates beside each other where it can; `rt staticlib` alone proves one after the other.
 archive: rt
 	@mkdir -p target
 	@echo "Proving and building the archive; the first time this takes some minutes."
