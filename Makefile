@@ -5,9 +5,6 @@
 # make fuzz            a longer run of the test suite, with a new seed
 # make archive         proves and writes target/staticlib/libinterface.a, which include/walnutgleam.h declares
 
-# Proofs at a time: more than a small machine has cores, so that none of them waits for the longest of a few.
-export RT_JOBS ?= 4
-
 DIR = samples/Q
 ARCHIVE = target/staticlib/libinterface.a
 # Accepted certificates of each criterion, and one that the check refuses.
