@@ -1,33 +1,46 @@
-# make test            the whole gate: formatting, the archive called from C, the console, the test suite, then every proof, must-fail
-#                      edit and program; its last line is 'N passed, 0 failed'
+# make help            these lines
 # make run [DIR=..]    proves and builds the program and runs it on the two texts of a folder (samples/Q if none is named)
-# make bench           the time and the stack of a check beside a plain one in C (bench/plain.c)
-# make fuzz            a longer run of the test suite, with a new seed
+# make test            the whole gate: formatting, every proof, must-fail edit and program, then the archive called from C, the console, the
+#                      test suite and the programs on the compiler's back ends; its last line is 'N passed, 0 failed'
 # make archive         proves and writes target/staticlib/libinterface.a, which include/walnutgleam.h declares
+# make bench           the time and the stack of a check beside a plain one in C (bench/plain.c)
+# make suite           the archive against an independent model and a brute force (tests/suite)
+# make fuzz            a longer run of the test suite, with a new seed
+# make setup           installs what the tests need beside the Rattle kit and a C compiler: valgrind and cargo
+
+SHELL = /bin/bash
+.SHELLFLAGS = -e -o pipefail -c
 
 DIR = samples/Q
 ARCHIVE = target/staticlib/libinterface.a
+PROGRAMS = $(patsubst crates/%/src/main.rt,%,$(wildcard crates/*/src/main.rt))
 # Accepted certificates of each criterion, and one that the check refuses.
 WEAKENED = samples/Q-sequential samples/Q-pram samples/R samples/W samples/C samples/Q samples/width-9
 
-.PHONY: run test archive calls console suite fuzz bench agree rt
+.PHONY: help run test outside archive calls console suite fuzz bench agree back_ends setup rt
 
-test: rt
+help:
+	@sed -n '/^# make/,/^$$/s/^# //p' Makefile
+
+# `rt ci` removes target/ and proves all from nothing; what comes after it finds its crates proved. The line with which it ended is
+# written again at the very end, so that it stands last only where everything passed.
+test: setup
 	rt fmt --check
-	$(MAKE) -j2 --output-sync=target calls agree console suite
-	rt ci
+	@log=$$(mktemp) && trap 'rm -f "$$log"' EXIT && rt ci 2>&1 | tee "$$log" && tail -n 1 "$$log" > target/verdict
+	$(MAKE) outside
+	@cat target/verdict
+
+outside:
+	$(MAKE) -j2 --output-sync=target calls agree console suite back_ends
 
 run: rt
-	@mkdir -p target
-	@echo "Proving and building the program; the first time this takes some minutes." >&2
-	@rt check walnutgleam > target/run.log 2>&1 || { cat target/run.log; exit 1; }
+	@tools/prove walnutgleam >&2
 	@cd $(DIR) && $(CURDIR)/target/bin/walnutgleam
 
-# `rt check` proves crates beside each other where it can; `rt staticlib` alone proves one after the other.
 archive: rt
-	@mkdir -p target
-	@echo "Proving and building the archive; the first time this takes some minutes."
-	@{ rt check weakener && rt staticlib interface; } > target/archive.log 2>&1 || { cat target/archive.log; exit 1; }
+	@tools/prove weakener
+	@echo "Proving interface and writing $(ARCHIVE)"
+	@rt staticlib interface > target/archive.log 2>&1 || { cat target/archive.log; exit 1; }
 
 CC_FLAGS = -std=c11 -Wall -Wextra -Werror -Iinclude
 
@@ -40,20 +53,19 @@ calls: archive
 	target/tests/weaken_pairs $(WEAKENED) | diff tests/weaken_pairs.out -
 
 # The console on the samples and on damaged texts: as it is, with the sanitizers, and under valgrind.
-console: archive
+console: archive setup
 	mkdir -p target/tests
 	cc $(CC_FLAGS) -O2 console/console.c $(ARCHIVE) -o target/tests/console
 	cc $(CC_FLAGS) -g -fsanitize=address,undefined -fno-sanitize-recover=all console/console.c $(ARCHIVE) -o target/tests/console_sanitized
 	tests/console.sh target/tests/damaged target/tests/console | diff tests/console.out -
 	tests/console.sh target/tests/damaged target/tests/console_sanitized | diff tests/console.out -
-	command -v valgrind > /dev/null || apt-get install -y valgrind
 	tests/console.sh target/tests/damaged valgrind -q --error-exitcode=9 target/tests/console | diff tests/console.out -
 
 # The archive against an independent model and a brute force (tests/suite): SEED and ROUNDS may be given.
 SEED = 20160312
 ROUNDS = 4000
 
-suite: archive
+suite: archive setup
 	cd tests/suite && CARGO_TARGET_DIR=$(CURDIR)/target/suite cargo run --quiet --release --offline -- $(SEED) $(ROUNDS)
 
 fuzz:
@@ -72,5 +84,17 @@ agree: archive
 	cc $(CC_FLAGS) -O2 bench/agree.c $(BENCH) $(ARCHIVE) -o target/tests/agree
 	target/tests/agree 100 samples/*
 
+# Nothing proves the compiler's back end, so each program is run on the interpreter, compiled at -O0 and at -O3, and with LLVM's
+# assumptions checked; all must write what its file stdout has.
+back_ends: rt
+	for program in $(PROGRAMS); do rt try $$program; done
+
+# cargo comes with rustc.
+setup: rt
+	@missing=$$(for tool in valgrind cargo; do command -v $$tool > /dev/null || echo $$tool; done); \
+	if [ -z "$$missing" ]; then exit 0; fi; \
+	if ! command -v apt-get > /dev/null; then echo "The tests need" $$missing "and there is no apt-get here to install it." >&2; exit 1; fi; \
+	apt-get install -y $$missing || { apt-get update && apt-get install -y $$missing; }
+
 rt:
-	@command -v rt >/dev/null || { echo "The Rattle kit is missing: its command rt is not on the path."; exit 1; }
+	@command -v rt > /dev/null || { echo "The Rattle kit is missing: its command rt is not on the path." >&2; exit 1; }

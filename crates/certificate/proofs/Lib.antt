@@ -4,3 +4,4 @@ pub mod ListLineLaws
 pub mod FitsLaws
 pub mod LineTextLaws
 pub mod NextLaws
+pub mod Guarantees

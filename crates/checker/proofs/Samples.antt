@@ -1,15 +1,21 @@
 -- Document 01's (p) cases on the texts, one list, by computation. Assumes nothing.
 use Prim.Native.Nat.{ℕ}
-use mathlib.Core.Path.{_≡_, refl}
+use mathlib.Core.Path.{_≡_, refl, ap₂, _∙_}
 use mathlib.Core.List.{List, [], _∷_}
 use mathlib.Core.Option.{Option, none, some}
 use Rattle.certificate.specs.declared.record.Criterion.{Criterion}
 use Rattle.certificate.specs.declared.record.Criterion.the-variants.{Pram, Weak, Causal, Converge, Sequential}
 use Rattle.certificate_reader.specs.declared.read.Text.the-variants.{Neither}
+use Rattle.history_reader.specs.ReadHistory.{readHistory}
+use Rattle.certificate_reader.specs.ReadCertificate.{readCertificate}
 use Rattle.criteria.specs.History.{own}
 use Rattle.criteria.specs.Replay.{start, Replays}
+use Rattle.criteria.specs.Certificate.{Certificate}
+use Rattle.criteria.specs.Check.{Fault, answerOf, check}
 use Rattle.criteria.proofs.Replay.{none-wrong}
-use Rattle.checker.specs.CheckText.{Verdict, historyRead, checkText}
+use Rattle.criteria.proofs.Samples as lists
+use Rattle.checker.specs.CheckText.{Verdict, checked, historyRead, certificateRead, checkText}
+use Rattle.checker.proofs.TextTheorems.{checked-as}
 use Rattle.layout.specs.Split as layout-split
 use Rattle.layout.specs.Word as layout-word
 use Rattle.layout.specs.Number as layout-number
@@ -90,6 +96,10 @@ c-converge-text = 99 ∷ 114 ∷ 105 ∷ 116 ∷ 101 ∷ 114 ∷ 105 ∷ 111 ∷
 abbrev pub r-inside-text : List ℕ
 r-inside-text = 99 ∷ 114 ∷ 105 ∷ 116 ∷ 101 ∷ 114 ∷ 105 ∷ 111 ∷ 110 ∷ 32 ∷ 119 ∷ 101 ∷ 97 ∷ 107 ∷ 10 ∷ 101 ∷ 118 ∷ 101 ∷ 110 ∷ 116 ∷ 32 ∷ 112 ∷ 97 ∷ 115 ∷ 116 ∷ 10 ∷ 48 ∷ 32 ∷ 45 ∷ 10 ∷ 49 ∷ 32 ∷ 45 ∷ 10 ∷ 50 ∷ 32 ∷ 45 ∷ 10 ∷ 51 ∷ 32 ∷ 48 ∷ 44 ∷ 49 ∷ 44 ∷ 50 ∷ 44 ∷ 51 ∷ 10 ∷ 52 ∷ 32 ∷ 48 ∷ 44 ∷ 49 ∷ 44 ∷ 50 ∷ 44 ∷ 51 ∷ 10 ∷ 118 ∷ 105 ∷ 101 ∷ 119 ∷ 32 ∷ 111 ∷ 114 ∷ 100 ∷ 101 ∷ 114 ∷ 10 ∷ 48 ∷ 32 ∷ 48 ∷ 10 ∷ 49 ∷ 32 ∷ 49 ∷ 10 ∷ 50 ∷ 32 ∷ 48 ∷ 44 ∷ 50 ∷ 10 ∷ 51 ∷ 32 ∷ 48 ∷ 44 ∷ 49 ∷ 44 ∷ 51 ∷ 10 ∷ 52 ∷ 32 ∷ 49 ∷ 44 ∷ 48 ∷ 44 ∷ 52 ∷ 10 ∷ []
 
+-- The pasts of that text: 3 is in its own past.
+abbrev pub r-pasts : List (List ℕ)
+r-pasts = [] ∷ [] ∷ [] ∷ (0 ∷ 1 ∷ 2 ∷ 3 ∷ []) ∷ (0 ∷ 1 ∷ 2 ∷ 3 ∷ []) ∷ []
+
 -- Of Nothing: `criterion sequential`, `view order`, `0 -`.
 abbrev pub nothing-sequential-text : List ℕ
 nothing-sequential-text = 99 ∷ 114 ∷ 105 ∷ 116 ∷ 101 ∷ 114 ∷ 105 ∷ 111 ∷ 110 ∷ 32 ∷ 115 ∷ 101 ∷ 113 ∷ 117 ∷ 101 ∷ 110 ∷ 116 ∷ 105 ∷ 97 ∷ 108 ∷ 10 ∷ 118 ∷ 105 ∷ 101 ∷ 119 ∷ 32 ∷ 111 ∷ 114 ∷ 100 ∷ 101 ∷ 114 ∷ 10 ∷ 48 ∷ 32 ∷ 45 ∷ 10 ∷ []
@@ -109,12 +119,28 @@ pub record Samples : Type 0 where
   pub w-past : checkText W w-past-text ≡ answer Causal 11 none (some 1)
   -- "(p) converge accepted with pasts -; -; 1; 0,1,2 and view 0,1,2,3."
   pub c-converge : checkText C c-converge-text ≡ answer Converge 0 none none
-  -- "(p) weak with pasts -; -; -; 0,1,2,3; 0,1,2,3 and any views that read: 12, event 3."
-  pub r-inside : checkText R r-inside-text ≡ answer Weak 12 none (some 3)
+  -- "(p) weak with pasts -; -; -; 0,1,2,3; 0,1,2,3 and any views that read: 12, event 3." And there is such a text.
+  pub r-inside : (text : List ℕ) → readCertificate R text .fault ≡ 0 → certificateRead R text .criterion ≡ Weak → certificateRead R text .pasts ≡ r-pasts
+      → checkText R text ≡ answer Weak 12 none (some 3)
+  pub r-inside-one : checkText R r-inside-text ≡ answer Weak 12 none (some 3)
+  pub r-inside-pasts : certificateRead R r-inside-text .pasts ≡ r-pasts
   -- "(p) empty history, sequential view `0 -` accepted"
   pub nothing-sequential : checkText Nothing nothing-sequential-text ≡ answer Sequential 0 none none
-  -- "(p) p2's view 1,2,3,4,0 replays."
+  -- "(p) p2's view 1,2,3,4,0 replays." M is read.
+  pub m-reads : readHistory M .fault ≡ 0
   pub m-replays : Replays (historyRead M) (own (historyRead M) 2) (start (historyRead M)) (1 ∷ 2 ∷ 3 ∷ 4 ∷ 0 ∷ [])
+
+-- the check of a certificate by its criterion, its pasts and its views
+certificate-is : (c : Certificate) (w : Criterion) (ps : List (List ℕ)) → c .criterion ≡ w → c .pasts ≡ ps → c ≡ lists.claim w ps (c .views)
+certificate-is c w ps e q = ap₂ (λ (w : Criterion) (ps : List (List ℕ)). lists.claim w ps (c .views)) e q
+
+-- R with any views that read, where R is read as the history of that name on lists
+r-any : historyRead R ≡ lists.R → (text : List ℕ) → readCertificate R text .fault ≡ 0 → certificateRead R text .criterion ≡ Weak
+    → certificateRead R text .pasts ≡ r-pasts → checkText R text ≡ answer Weak 12 none (some 3)
+r-any h text z w p =
+    checked-as R text z
+    ∙ ap₂ (λ (c : Criterion) (x : Option Fault). checked c (answerOf x)) w
+    (ap₂ check h (certificate-is (certificateRead R text) Weak r-pasts w p) ∙ lists.R-inside (certificateRead R text .views))
 
 pub samples : Samples
 unfolding layout-split.find layout-split.onFirst layout-split.split layout-split.join layout-split.partStart layout-word.same layout-number.isDigit layout-number.allDigits layout-number.startsWell layout-number.isNumber layout-number.valueFrom layout-number.below layout-number.numberOf layout-number.spellWithin layout-number.spellBefore layout-list.itemsOf layout-list.allNumbers layout-list.allBelow layout-list.judged layout-list.listOf layout-list.numbersOf layout-list.leading layout-list.listText history-record.pad history-record.answerOf history-record.historyOf history-kinds.kindWord history-kinds.opWord history-kinds.isKind history-kinds.kindOf history-kinds.isOp history-kinds.opOf history-faults.firstFault history-faults.isOptional history-faults.optional history-faults.objectLayout history-faults.objectLimits history-faults.objectFits history-faults.objectFault history-faults.objectThree history-faults.objectFields history-faults.objectLine history-faults.eventLayout history-faults.eventLimits history-faults.eventFits history-faults.eventLong history-faults.eventFault history-faults.eventSaid history-faults.eventSix history-faults.eventFields history-faults.eventLine history-reader-readhistory.eventsFrom history-reader-readhistory.objectsFrom history-reader-readhistory.linesFrom history-reader-readhistory.readHistory history-reader-readhistory.faultyLine certificate-record.eventListOf certificate-record.rowOf certificate-record.certificateOf certificate-record.rowsOf certificate-record.beginnings certificate-criteria.wordOf certificate-criteria.isCriterion certificate-criteria.criterionOf certificate-criteria.countFrom certificate-criteria.hasEvents certificate-criteria.processesFrom certificate-criteria.viewNumbers certificate-faults.rising certificate-faults.criterionLine certificate-faults.listLayout certificate-faults.listLimits certificate-faults.pairFault certificate-faults.listFault certificate-faults.listSaid certificate-reader-readcertificate.endFrom certificate-reader-readcertificate.headingFrom certificate-reader-readcertificate.listsFrom certificate-reader-readcertificate.viewsFrom certificate-reader-readcertificate.pastsFrom certificate-reader-readcertificate.bodyFrom certificate-reader-readcertificate.linesFrom certificate-reader-readcertificate.readLines certificate-reader-readcertificate.readCertificate certificate-reader-readcertificate.rowsRead certificate-reader-readcertificate.faultyLine criteria-history.programOrder criteria-certificate.processes criteria-check.lacksOwn criteria-check.lacksPast criteria-check.notItsSet criteria-check.against criteria-check.right criteria-check.check criteria-records.eventOf criteria-records.historyOf criteria-records.certificateOf checker-checktext.historyRead checker-checktext.certificateRead checker-checktext.checkText
@@ -127,7 +153,10 @@ samples =
       w-causal = refl;
       w-past = refl;
       c-converge = refl;
-      r-inside = refl;
+      r-inside = r-any refl;
+      r-inside-one = refl;
+      r-inside-pasts = refl;
       nothing-sequential = refl;
+      m-reads = refl;
       m-replays = none-wrong (historyRead M) (own (historyRead M) 2) (start (historyRead M)) (1 ∷ 2 ∷ 3 ∷ 4 ∷ 0 ∷ []) refl;
     }

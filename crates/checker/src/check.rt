@@ -1,7 +1,7 @@
 // The check of two texts: the history's reading refusals, then the certificate's, then 11 to 16, then 0.
 ghost use mathlib.Core.Path.{_≡_};
 ghost use Rattle.checker.specs.CheckText.{checkText};
-ghost use Rattle.checker.specs.Verdict.{verdictOf};
+ghost use Rattle.checker.specs.Verdict.{checkedOf};
 use certificate::record::Criterion;
 use certificate_reader::read::Text;
 use certificate_reader::read::read_certificate;
@@ -9,7 +9,8 @@ use faults::check::check_records;
 use faults::finding::Finding;
 
 // What the check of two texts says. `fault` is the number of a reading refusal, with its text, its line and where that lies; or it
-// is 0, and then the certificate names the criterion and `finding` is what was found of it.
+// is 0, and then the certificate names the criterion and `finding` is what was found of it. A field that carries nothing has 0, `Neither`,
+// `Pram` or `Nothing`.
 pub struct Checked {
     pub fault: u8,
     pub text: Text,
@@ -22,7 +23,7 @@ pub struct Checked {
 
 // Checks a certificate text for a history text.
 pub fn check(history: &[u8], text: &[u8]) -> Checked
-    ensures { λ r. ⌜ verdictOf r ≡ checkText (now (history .entry)) (now (text .entry)) ⌝ }
+    ensures { λ r. ⌜ r ≡ checkedOf (checkText (now (history .entry)) (now (text .entry))) ⌝ }
 {
     let mut rows = [[0u8; 64]; 64];
     let read = read_certificate(history, text, &mut rows);

@@ -13,7 +13,7 @@ use Rattle.layout.proofs.Cases.{by-lt, and-left, and-right}
 use Rattle.history.specs.declared.record.Event as written-event
 use Rattle.history.specs.declared.record.History as written-history
 use Rattle.history.specs.Record.{noEvent, eventsIn}
-use Rattle.history_theorems.proofs.Guarantees as history-guarantees
+use Rattle.history.proofs.Guarantees as history-guarantees
 use Rattle.certificate.specs.declared.record.Criterion.{Criterion}
 use Rattle.certificate.specs.declared.record.Criterion.the-variants.{Pram, Weak, Causal, Converge, Sequential}
 use Rattle.certificate.specs.declared.record.Certificate as written-certificate
@@ -22,7 +22,7 @@ use Rattle.certificate.specs.Criteria.{hasPasts, countFrom, hasEvents, processe
 use Rattle.certificate.specs.Criteria as text
 use Rattle.certificate.specs.Faults.{rising}
 use Rattle.certificate.proofs.NumberingLaws.{count-long}
-use Rattle.certificate_theorems.proofs.Guarantees as certificate-guarantees
+use Rattle.certificate.proofs.Guarantees as certificate-guarantees
 use Rattle.criteria.specs.Tests.{keepIf, keep, upTo, mem, RisingFrom, Rising}
 use Rattle.criteria.specs.History.{Event, History, size, event, process, own}
 use Rattle.criteria.specs.Certificate.{active, processes, pastCount, viewCount, viewNumber, EventsOf, Readable}

@@ -14,7 +14,7 @@ use Rattle.history.specs.declared.record.History as written-history
 use Rattle.history.specs.Record.{noEvent, eventsIn, pad}
 use Rattle.history.specs.Readable.{within}
 use Rattle.history.proofs.PadLaws.{getD-pad, pad-length}
-use Rattle.history_theorems.proofs.Guarantees.{Sound, within-sound}
+use Rattle.history.proofs.Guarantees.{Sound, within-sound}
 use Rattle.certificate.specs.declared.record.EventList.{EventList}
 use Rattle.certificate.specs.declared.record.Certificate as written-certificate
 use Rattle.certificate.specs.declared.numbers.ViewNumbers.{ViewNumbers}
@@ -25,7 +25,7 @@ use Rattle.certificate.specs.Criteria as text
 use Rattle.certificate.specs.Readable.{fits}
 use Rattle.certificate.specs.Steps.Numbers.{viewNumbersOf}
 use Rattle.certificate.proofs.FitsLaws.{Fits, fits-facts}
-use Rattle.certificate_theorems.proofs.Guarantees.{SoundCertificate, fits-sound}
+use Rattle.certificate.proofs.Guarantees.{SoundCertificate, fits-sound}
 use Rattle.criteria.specs.Tests.{or, mem}
 use Rattle.criteria.specs.History.{Event, History, size, process, programOrder}
 use Rattle.criteria.specs.Certificate.{Certificate, listed, orderBy, order, pastCount, Readable}

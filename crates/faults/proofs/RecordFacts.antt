@@ -16,7 +16,7 @@ use Rattle.history.specs.Kinds.{isWindow}
 use Rattle.history.specs.Readable.{goodObject, within}
 use Rattle.history.proofs.PadLaws.{pad-length, getD-pad}
 use Rattle.history.proofs.WithinLaws.{within-limits}
-use Rattle.history_theorems.proofs.Guarantees.{within-sound}
+use Rattle.history.proofs.Guarantees.{within-sound}
 use Rattle.criteria.specs.History.{event}
 use Rattle.criteria.specs.Records as criteria-records
 use Rattle.criteria.proofs.RecordLaws.{event-is}

@@ -12,7 +12,7 @@ use Rattle.history.specs.declared.record.Event as written-event
 use Rattle.history.specs.declared.record.History as written-history
 use Rattle.history.specs.Record.{noObject, noEvent, eventsIn}
 use Rattle.history.specs.Readable.{within}
-use Rattle.history_theorems.proofs.Guarantees.{within-sound}
+use Rattle.history.proofs.Guarantees.{within-sound}
 use Rattle.certificate.specs.declared.record.Criterion.{Criterion}
 use Rattle.certificate.specs.declared.record.Criterion.the-variants.{Pram, Weak, Causal, Converge, Sequential}
 use Rattle.certificate.specs.Record.{beginnings}

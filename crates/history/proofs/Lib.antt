@@ -5,3 +5,4 @@ pub mod ObjectLaws
 pub mod AnswerLaws
 pub mod EventLaws
 pub mod WithinLaws
+pub mod Guarantees

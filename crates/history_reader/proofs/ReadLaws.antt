@@ -147,7 +147,7 @@ three-own : (own : ℕ) (a k w : List ℕ) → objectFault own a k w ≡ 0 → o
 unfolding objectLimits
 three-own own a k w e = ltb-true own 16 (and-left (ltb own 16) (same w dash || (ltb 0 (value w) && ltb (value w) 9)) (three-order own a k w e .limits))
 
-event-own : (own : ℕ) (os : List Object) (line : List ℕ) → eventLine own os line .fault ≡ 0 → own < 64
+pub event-own : (own : ℕ) (os : List Object) (line : List ℕ) → eventLine own os line .fault ≡ 0 → own < 64
 event-own own os line e =
     by-eq (length (split 32 line)) 6
     (λ h. six-own own os _ _ _ _ _ _ (sym (six-fault own os _ _ _ _ _ _) ∙ ap (λ (x : EventRead). x .fault) (sym (event-six own os line (split 32 line) refl h)) ∙ e))

@@ -1,4 +1,4 @@
--- Laws of showing an event: how many objects were read, and the answer in each case. Assumes nothing.
+-- Laws of showing an event: how many objects and events are read, and the answer in each case. Assumes nothing.
 use Prim.Native.Nat.{ℕ, _+_, _-_, _≤_, _<_}
 use native.Mathlib.Omega.{arith}
 use mathlib.Core.Path.{_≡_, refl, sym, ap, _∙_}
@@ -19,34 +19,39 @@ use Rattle.history_reader.specs.declared.read.HistoryRead.{HistoryRead}
 use Rattle.history_reader.specs.declared.show.Shown.{Shown}
 use Rattle.history_reader.specs.ReadHistory.{refusal, readAs, eventsFrom, objectsFrom, linesFrom, readHistory}
 use Rattle.history_reader.specs.Show.{lineShown, shownOf, shown}
-use Rattle.history_reader.proofs.ReadLaws.{object-own}
+use Rattle.history_reader.proofs.ReadLaws.{object-own, event-own}
 
--- ---- at most 16 objects are read
+-- ---- at most 16 objects and 64 events are read
 record Few (r : HistoryRead) : Type 0 where
-  at-most : r .history .declared ≤ 16
+  objects : r .history .declared ≤ 16
+  events : r .history .count ≤ 64
 
 few-refusal : (fault line at size : ℕ) → Few (refusal fault line at size)
-few-refusal fault line at size = record { at-most = omega arith }
+few-refusal fault line at size = record { objects = omega arith; events = omega arith }
 
-few-read : (os : List Object) (es : List Event) → length os ≤ 16 → Few (readAs os es)
+few-read : (os : List Object) (es : List Event) → length os ≤ 16 → length es ≤ 64 → Few (readAs os es)
 unfolding historyOf
-few-read os es h = record { at-most = h }
+few-read os es h k = record { objects = h; events = k }
 
 few-cond : (t : Bool) (r q : HistoryRead) → (t ≡ true → Few r) → Few q → Few (cond t r q)
 few-cond true r q p s = p refl
 few-cond false r q p s = s
 
-few-events : (os : List Object) (es : List Event) (line at : ℕ) (ps : List (List ℕ)) → length os ≤ 16 → Few (eventsFrom os es line at ps)
+few-events : (os : List Object) (es : List Event) (line at : ℕ) (ps : List (List ℕ)) → length os ≤ 16 → length es ≤ 64
+    → Few (eventsFrom os es line at ps)
 unfolding eventsFrom
-few-events os es line at [] h = few-refusal 2 line at 0
-few-events os es line at (p ∷ []) h =
-    few-cond (eqb (length p) 0) (readAs os es) (refusal 2 line at (length p)) (λ z. few-read os es h) (few-refusal 2 line at (length p))
-few-events os es line at (p ∷ q ∷ ps) h =
+few-events os es line at [] h k = few-refusal 2 line at 0
+few-events os es line at (p ∷ []) h k =
+    few-cond (eqb (length p) 0) (readAs os es) (refusal 2 line at (length p)) (λ z. few-read os es h k) (few-refusal 2 line at (length p))
+few-events os es line at (p ∷ q ∷ ps) h k =
     let x = eventLine (length es) os p in
     few-cond (eqb (x .fault) 0)
     (eventsFrom os (es ++ x .event ∷ []) (line + 1) (at + length p + 1) (q ∷ ps))
     (refusal (x .fault) line at (length p))
-    (λ z. few-events os (es ++ eventLine (length es) os p .event ∷ []) (line + 1) (at + length p + 1) (q ∷ ps) h)
+    (λ z.
+    let own : length es < 64 = event-own (length es) os p (eqb-true (eventLine (length es) os p .fault) 0 z) in
+    few-events os (es ++ eventLine (length es) os p .event ∷ []) (line + 1) (at + length p + 1) (q ∷ ps) h
+    (omega (arith, length-append es (eventLine (length es) os p .event ∷ []))))
     (few-refusal (x .fault) line at (length p))
 
 few-objects : (os : List Object) (line at : ℕ) (ps : List (List ℕ)) → length os ≤ 16 → Few (objectsFrom os line at ps)
@@ -58,7 +63,7 @@ few-objects os line at (p ∷ q ∷ ps) h =
     let more = objectsFrom (os ++ x .object ∷ []) (line + 1) (at + length p + 1) (q ∷ ps) in
     let bad = refusal (x .fault) line at (length p) in
     few-cond (same p eventHeading) (eventsFrom os [] (line + 1) (at + length p + 1) (q ∷ ps)) (cond (eqb (x .fault) 0) more bad)
-    (λ w. few-events os [] (line + 1) (at + length p + 1) (q ∷ ps) h)
+    (λ w. few-events os [] (line + 1) (at + length p + 1) (q ∷ ps) h (omega arith))
     (few-cond (eqb (x .fault) 0) more bad
     (λ z.
     let own : length os < 16 = object-own (length os) p (eqb-true (objectLine (length os) p .fault) 0 z) in
@@ -75,11 +80,16 @@ few-lines (p ∷ q ∷ ps) =
     (λ w. few-objects [] 2 (length p + 1) (q ∷ ps) (omega arith))
     (few-refusal 2 1 0 (length p))
 
-pub few-declared : (text : List ℕ) → readHistory text .history .declared ≤ 16
+few-history : (text : List ℕ) → Few (readHistory text)
 unfolding readHistory
-few-declared text =
+few-history text =
     few-cond (leb (length text) 16384) (linesFrom (split 10 text)) (refusal 1 0 0 0) (λ z. few-lines (split 10 text)) (few-refusal 1 0 0 0)
-    .at-most
+
+pub few-declared : (text : List ℕ) → readHistory text .history .declared ≤ 16
+few-declared text = few-history text .objects
+
+pub few-counted : (text : List ℕ) → readHistory text .history .count ≤ 64
+few-counted text = few-history text .events
 
 -- ---- the answer in each case, of a reading x of the text
 module _ (text : List ℕ) (e : ℕ) (x : HistoryRead) (q : x ≡ readHistory text) where

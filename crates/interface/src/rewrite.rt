@@ -48,7 +48,7 @@ pub extern "C" fn walnutgleam_rewrite_certificate(
     }
     let h = read.history;
     let c = read.certificate;
-    let written = write_certificate(buffer, h, c, &rows);
-    *length = written.length as u64;
-    written.number as u32
+    let rewritten = write_certificate(buffer, h, c, &rows);
+    *length = rewritten.length as u64;
+    rewritten.number as u32
 }

@@ -105,6 +105,9 @@ digits-prefix (b ∷ s) =
     let ih = digits-prefix s in
     by-bool (isDigit b) (λ e. rw e (ap (λ (l : List ℕ). b ∷ l) ih)) (λ e. rw e)
 
+pub digits-few : (s : List ℕ) → length (digits s) ≤ length s
+digits-few s = omega (arith, ap length (digits-prefix s), length-take (length (digits s)) s)
+
 -- digits up to the first b, or to the end, where b is none
 pub digits-part : (b : ℕ) (s : List ℕ) → isDigit b ≡ false → allDigits (take (find b s) s) ≡ true → digits s ≡ take (find b s) s
 unfolding digits allDigits find

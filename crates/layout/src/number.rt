@@ -1,13 +1,12 @@
 // Numbers in base ten: read from a field of any length, and measured.
 ghost use mathlib.Core.Path.{_≡_};
-ghost use Prim.Native.Nat.{_+_, _-_, _*_, _≤_, _<_};
-ghost use mathlib.Core.List.{[], _∷_, _++_};
+ghost use Prim.Native.Nat.{_+_, _-_, _*_, _≤_};
 ghost use lib.ListN.{length, take, drop};
 ghost use Rattle.layout.specs.Word.{same};
 ghost use Rattle.layout.specs.Number.{below, value, startsWell, numberOf, spell};
 ghost use Rattle.layout.specs.Fill.{fill};
 ghost use Rattle.layout.specs.Steps.Number.{digits, pushDigit};
-ghost use Rattle.layout.specs.Steps.Stands.{Stands};
+ghost use Rattle.layout.specs.Steps.Stands.{numberAt, spacedNumber};
 use crate::word::stands_at;
 
 // What a field is as a number below a bound.
@@ -17,7 +16,7 @@ pub enum Number {
     Over,
 }
 
-// A number below a bound that stands at a place, and where it ends; a value that is not below the bound where there is none.
+// A number below a bound that stands at a place, and where it ends; the bound and the place itself where there is none.
 pub struct NumberAt {
     pub value: u64,
     pub end: usize,
@@ -99,11 +98,17 @@ pub fn read_number(field: &[u8], bound: u64) -> Number
 // The number below a bound that stands at a place of s.
 pub fn number_at(s: &[u8], from: usize, bound: u64) -> NumberAt
     requires { ⌜ (from ≤ length (now s)) × (bound ≤ 4294967296) ⌝ }
-    ensures { λ r. ⌜ (r .value < bound → Stands (spell (r .value)) from (r .end) (now (s .entry))) ⌝ }
+    ensures { λ r. ⌜ r ≡ numberAt bound from (now (s .entry)) ⌝ }
 {
     let d = scan_digits(s, from, bound);
     let end = d.end;
     let value = d.value;
+    if value >= bound {
+        return NumberAt {
+            value: bound,
+            end: from,
+        };
+    }
     if starts_well(s, from, end) {
         return NumberAt { value, end };
     }
@@ -116,7 +121,7 @@ pub fn number_at(s: &[u8], from: usize, bound: u64) -> NumberAt
 // The number below a bound that stands at a place of s with a space behind it, and the place behind the space.
 pub fn spaced_number(s: &[u8], from: usize, bound: u64) -> NumberAt
     requires { ⌜ (from ≤ length (now s)) × (bound ≤ 4294967296) ⌝ }
-    ensures { λ r. ⌜ (r .value < bound → Stands (spell (r .value) ++ 32 ∷ []) from (r .end) (now (s .entry))) ⌝ }
+    ensures { λ r. ⌜ r ≡ spacedNumber bound from (now (s .entry)) ⌝ }
 {
     let n = number_at(s, from, bound);
     let end = n.end;

@@ -1,10 +1,9 @@
 // Words, compared whole.
 ghost use mathlib.Core.Path.{_≡_};
-ghost use Prim.Native.Nat.{_+_, _≤_};
-ghost use mathlib.Core.Bool.{true};
+ghost use Prim.Native.Nat.{_≤_};
 ghost use lib.ListN.{length};
 ghost use Rattle.layout.specs.Word.{same};
-ghost use Rattle.layout.specs.Steps.Stands.{Stands};
+ghost use Rattle.layout.specs.Steps.Stands.{standsAt};
 
 // Whether a field is a word.
 pub fn is_word(field: &[u8], word: &[u8]) -> bool
@@ -26,7 +25,7 @@ pub fn is_word(field: &[u8], word: &[u8]) -> bool
 // Whether a word stands at a place of s.
 pub fn stands_at(s: &[u8], from: usize, word: &[u8]) -> bool
     requires { ⌜ from ≤ length (now s) ⌝ }
-    ensures { λ r. ⌜ (r ≡ true → Stands (now (word .entry)) from (from + length (now (word .entry))) (now (s .entry))) ⌝ }
+    ensures { λ r. ⌜ r ≡ standsAt (now (word .entry)) from (now (s .entry)) ⌝ }
 {
     let n = word.len();
     if s.len() - from < n {

@@ -17,7 +17,7 @@ use Rattle.history.specs.declared.record.Event as written-event
 use Rattle.history.specs.declared.record.History as written-history
 use Rattle.history.specs.Record.{noObject, noEvent, objectsIn, eventsIn}
 use Rattle.history.proofs.PadLaws.{take-more}
-use Rattle.history_theorems.proofs.Guarantees.{SoundEvent, Sound}
+use Rattle.history.proofs.Guarantees.{SoundEvent, Sound}
 use Rattle.criteria.specs.Tests.{foundIf, or, table, mem}
 use Rattle.criteria.specs.Object.{fresh, after}
 use Rattle.criteria.specs.History.{Event, History, event, object}

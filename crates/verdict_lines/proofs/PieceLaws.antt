@@ -1,14 +1,16 @@
 -- Laws of the fields of a verdict as they are written. Assumes nothing.
-use Prim.Native.Nat.{ℕ, _+_, _-_, _≤_, _<_}
+use Prim.Native.Nat.{ℕ, zero, suc, _+_, _-_, _≤_, _<_}
 use native.Mathlib.Omega.{arith}
-use mathlib.Core.Path.{_≡_, refl, sym, ap, _∙_}
+use mathlib.Core.Path.{_≡_, refl, sym, ap, ap₂, _∙_}
 use mathlib.Core.List.{List, [], _∷_, _++_, map, append-assoc}
 use mathlib.Core.Option.{Option, none, some}
-use lib.ListN.{length, length-append}
+use lib.ListN.{length, drop, replicate, length-append}
 use borrow.Author.Tests.{eq-eqb, ne-eqb}
 use Rattle.layout.specs.Number.{spell}
+use Rattle.layout.specs.Fill.{fill}
 use Rattle.layout.specs.Steps.Line.{piecesText}
 use Rattle.layout.proofs.SpellLaws.{spell-short}
+use Rattle.history.specs.Record.{pad}
 use Rattle.certificate.specs.declared.record.Criterion.{Criterion}
 use Rattle.certificate.specs.declared.record.Criterion.the-variants.{Pram, Weak, Causal, Converge, Sequential}
 use Rattle.certificate.specs.Criteria.{wordOf}
@@ -21,7 +23,8 @@ use Rattle.checker.specs.CheckText.{Verdict}
 use Rattle.checker.specs.Verdict.{verdictOf}
 use Rattle.verdict_lines.specs.declared.line.Field.{Field}
 use Rattle.verdict_lines.specs.declared.line.Field.the-variants.{Dash, Number, CriterionWord, TextWord}
-use Rattle.verdict_lines.specs.Printed.{textWord, criterionWord, numberWord, names, values, printed}
+use Rattle.verdict_lines.specs.declared.print.Printed.{Printed}
+use Rattle.verdict_lines.specs.Printed.{textWord, criterionWord, numberWord, names, values, printed, printedIn}
 use Rattle.verdict_lines.specs.Steps.{fieldText, numberField, criterionField, fieldsOf}
 
 -- ---- no field is longer than eleven bytes
@@ -124,3 +127,23 @@ module _ (v : Checked) where
       six-long (spell (v .fault)) (fieldText Dash) (textWord (v .text)) (spell (v .line)) (fieldText Dash) (fieldText Dash)
           (number-short (v .fault) small) (omega arith) (text-short (v .text)) (number-short (v .line) line-fits) (omega arith) (omega arith),
     )
+
+-- ---- the lines in an array of zeros
+drop-zeros : (n k : ℕ) → drop {A = ℕ} n (replicate k 0) ≡ replicate (k - n) 0
+drop-zeros zero k = let z : k ≡ k - 0 = omega arith in ap (λ (m : ℕ). replicate {A = ℕ} m 0) z
+drop-zeros (suc n) zero = let z : 0 ≡ 0 - suc n = omega arith in ap (λ (m : ℕ). replicate {A = ℕ} m 0) z
+drop-zeros (suc n) (suc k) = let z : k - n ≡ suc k - suc n = omega arith in drop-zeros n k ∙ ap (λ (m : ℕ). replicate {A = ℕ} m 0) z
+
+fill-zeros : (t : List ℕ) → fill t (replicate 128 0) ≡ pad 128 0 t
+unfolding fill pad
+fill-zeros t = ap (λ (l : List ℕ). t ++ l) (drop-zeros (length t) 128)
+
+pub printed-whole : (v : Verdict) (n : ℕ) (bytes : List ℕ) → n ≡ length (printed v) → bytes ≡ fill (printed v) (replicate 128 0)
+    → _≡_ {A = Printed} (record { length = n; bytes = bytes }) (printedIn v)
+printed-whole v n bytes q e =
+    ap₂ {C = Printed} (λ (k : ℕ) (l : List ℕ). record { length = k; bytes = l }) q (e ∙ fill-zeros (printed v))
+
+-- the lines lie within the array
+pub printed-fits : (v : Verdict) (r : Printed) → r ≡ printedIn v → r .length ≤ length (r .bytes)
+unfolding pad
+printed-fits v r q = rw q (omega (arith, length-append (printed v) (replicate (128 - length (printed v)) 0)))

@@ -3,13 +3,16 @@
 use Prim.Native.Nat.{ℕ}
 use mathlib.Core.List.{List, [], _∷_, _++_}
 use mathlib.Core.Option.{Option, none, some}
+use lib.ListN.{length}
 use Rattle.layout.specs.Word.{dash}
 use Rattle.layout.specs.Number.{spell}
+use Rattle.history.specs.Record.{pad}
 use Rattle.certificate.specs.declared.record.Criterion.{Criterion}
 use Rattle.certificate.specs.Criteria.{wordOf}
 use Rattle.certificate_reader.specs.declared.read.Text.{Text}
 use Rattle.certificate_reader.specs.declared.read.Text.the-variants.{Neither, HistoryText, CertificateText}
 use Rattle.checker.specs.CheckText.{Verdict}
+use Rattle.verdict_lines.specs.declared.print.Printed.{Printed}
 
 -- `answer criterion text line view event` and a line feed.
 abbrev pub names : List ℕ
@@ -38,3 +41,7 @@ values v =
 
 unfoldable pub printed : Verdict → List ℕ
 printed v = names ++ values v
+
+-- The two lines in an array of 128 bytes, with zeros behind them, and their length.
+abbrev pub printedIn : Verdict → Printed
+printedIn v = record { length = length (printed v); bytes = pad 128 0 (printed v) }

@@ -1,51 +1,49 @@
 -- Weakening on texts is weakening of the records that they are read as. Assumes nothing.
 use Prim.Native.Nat.{ℕ}
 use mathlib.Core.Path.{_≡_, refl, sym, ap, _∙_, subst}
+use mathlib.Core.Bool.{Bool, true, false, cond}
 use mathlib.Core.List.{List}
 use mathlib.Core.Option.{Option, none, some}
 use lib.ListN.{length, replicate}
+use lib.Dec.{eqb, leb}
 use borrow.Author.Tests.{eq-eqb, ne-eqb}
+use Rattle.layout.proofs.Cases.{by-eq}
 use Rattle.history.specs.declared.record.History.{History}
 use Rattle.history.specs.Record.{eventsIn}
 use Rattle.certificate.specs.declared.record.Criterion.{Criterion}
-use Rattle.certificate.specs.declared.record.Criterion.the-variants.{Pram}
 use Rattle.certificate.specs.declared.record.Certificate.{Certificate}
 use Rattle.certificate.specs.Record.{noRow}
 use Rattle.certificate_reader.specs.declared.read.CertificateRead.{CertificateRead}
 use Rattle.certificate_reader.specs.ReadCertificate.{readCertificate, rowsRead}
-use Rattle.criteria.specs.Check.{answerOf, check}
+use Rattle.criteria.specs.Check.{Fault, fault11, fault12, fault13, fault14, fault15, fault16, answerOf, check}
 use Rattle.criteria.specs.Weaken.{weakened}
 use Rattle.criteria.specs.Records.{historyOf, certificateOf}
 use Rattle.faults.specs.declared.finding.Finding.the-variants.{Nothing}
-use Rattle.checker.specs.CheckText.{Verdict, checked, historyRead, certificateRead, checkText}
-use Rattle.checker.specs.WeakenText.{textIfSome, weakenedText, wantedOf, weakenedWanted, weakenAnswer, weakenLength, weakenBytes}
-use Rattle.checker.proofs.TextTheorems.{refused-as}
-use Rattle.checker.proofs.VerdictLaws.{refused-verdict, no-fault, of-texts, checked-read}
+use Rattle.checker.specs.CheckText.{Verdict, refused, checked, historyRead, certificateRead, checkText}
+use Rattle.checker.specs.WeakenText.{textIfSome, weakenedText, wantedOf, weakenedWanted, plain, pairAnswer, weakenAnswer, weakenLength, weakenBytes}
+use Rattle.checker.proofs.TextTheorems.{checked-as}
+use Rattle.checker.proofs.VerdictLaws.{refusal, refused-back, no-fault, of-texts, checked-read}
 use Rattle.weakener.specs.declared.weaken.Weakened.{Weakened}
-use Rattle.weakener.specs.Weakening.{weakeningOf, IsPair}
+use Rattle.weakener.specs.Weakening.{weakeningOf, weakenedOf, IsPair}
 use Rattle.weakener.proofs.WeakenLaws.{answered, pair-refused}
 
--- an answer, its length and the buffer are those of the texts
+-- an answer and the buffer are those of the texts
 abbrev pub Weakens : List ℕ → List ℕ → ℕ → List ℕ → Weakened → List ℕ → Type 0
 Weakens history text wanted buffer k then =
-    (weakeningOf k ≡ weakenAnswer history text wanted buffer) × (k .length ≡ weakenLength history text wanted buffer)
+    (k ≡ weakenedOf (weakenAnswer history text wanted buffer) (weakenLength history text wanted buffer))
     × (then ≡ weakenBytes history text wanted buffer)
 
 module _ (history text : List ℕ) (wanted : ℕ) (buffer : List ℕ) (r : CertificateRead) (read : r ≡ readCertificate history text) where
   -- a reading refusal
   pub weakening-refused : (r .fault ≡ 0 → ⊥)
       → Weakens history text wanted buffer
-      record {
-        checked = record { fault = r .fault; text = r .text; line = r .line; start = r .start; end = r .end; criterion = Pram; finding = Nothing };
-        refusal = 0;
-        length = 0;
-      }
+      record { checked = refusal r; refusal = 0; length = 0 }
       buffer
   unfolding weakenAnswer weakenLength weakenBytes
   weakening-refused n =
       let m : readCertificate history text .fault ≡ 0 → ⊥ = λ z. n (ap (λ (x : CertificateRead). x .fault) read ∙ z) in
       let e = ne-eqb (readCertificate history text .fault) 0 m in
-      (refused-verdict history text r read n ∙ refused-as history text m ∙ rw e refl, rw e refl, rw e refl)
+      (ap (λ (x : CertificateRead). weakenedOf (refused x) 0) read ∙ rw e refl, rw e refl)
 
   module _ (z : r .fault ≡ 0) (rows : List (List ℕ)) (rows-read : rows ≡ rowsRead history text (replicate 64 noRow)) where
     -- both texts are read
@@ -55,7 +53,7 @@ module _ (history text : List ℕ) (wanted : ℕ) (buffer : List ℕ) (r : Certi
     unfolding weakenAnswer weakenLength weakenBytes
     weakening-read k then p =
         let e = eq-eqb (readCertificate history text .fault) 0 (no-fault history text r read z rows rows-read) in
-        (p .answers ∙ rw e refl, p .long ∙ rw e refl, p .bytes ∙ rw e refl)
+        (p .whole ∙ rw e refl, p .bytes ∙ rw e refl)
 
     criterion-read : r .certificate .criterion ≡ certificateRead history text .criterion
     unfolding certificateRead certificateOf
@@ -94,3 +92,38 @@ module _ (history text : List ℕ) (wanted : ℕ) (buffer : List ℕ) (r : Certi
         (subst (λ (v : Verdict). IsPair v (r .certificate .criterion)
         (textIfSome (eventsIn (r .history)) (weakened w (historyOf (r .history)) (certificateOf (r .history) (r .certificate) rows))) buffer k then)
         (checked-read history text r read z rows rows-read) p))))
+
+-- ---- a whole answer stands for its verdict
+module _ (history text : List ℕ) (long : ℕ) where
+  abbrev Back : Verdict → Type 0
+  Back v = weakeningOf (weakenedOf v long) ≡ v
+
+  check-back : (c : Criterion) (x : Option Fault) → Back (checked c (answerOf x))
+  check-back c none = refl
+  check-back c (some (fault11 e)) = refl
+  check-back c (some (fault12 e)) = refl
+  check-back c (some (fault13 e)) = refl
+  check-back c (some (fault14 v)) = refl
+  check-back c (some (fault15 v)) = refl
+  check-back c (some (fault16 v e)) = refl
+
+  test-back : (t : Bool) (v w : Verdict) → Back v → Back w → Back (cond t v w)
+  test-back true v w p q = p
+  test-back false v w p q = q
+
+  pair-back : (v : Verdict) → Back v → (c : Criterion) (o : Option (List ℕ)) (buffer : List ℕ) → Back (pairAnswer v c o buffer)
+  pair-back v p c none buffer = refl
+  pair-back v p c (some t) buffer =
+      test-back (eqb (v .number) 0) (cond (leb (length t) (length buffer)) v (plain c 18)) v
+      (test-back (leb (length t) (length buffer)) v (plain c 18) p refl) p
+
+  pub weakening-is : (wanted : ℕ) (buffer : List ℕ) → Back (weakenAnswer history text wanted buffer)
+  unfolding weakenAnswer
+  weakening-is wanted buffer =
+      by-eq (readCertificate history text .fault) 0
+      (λ z. rw (eq-eqb (readCertificate history text .fault) 0 z)
+      (pair-back (checkText history text)
+      (subst Back (sym (checked-as history text z))
+      (check-back (certificateRead history text .criterion) (check (historyRead history) (certificateRead history text))))
+      (certificateRead history text .criterion) (weakenedWanted history text (wantedOf wanted)) buffer))
+      (λ n. rw (ne-eqb (readCertificate history text .fault) 0 n) (refused-back (readCertificate history text) n))

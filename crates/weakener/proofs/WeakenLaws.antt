@@ -18,7 +18,6 @@ use Rattle.certificate.specs.declared.record.Certificate as written-certificate
 use Rattle.certificate.specs.Record as text-record
 use Rattle.certificate.specs.CertificateText.{certificateText}
 use Rattle.certificate.specs.Readable.{fits}
-use Rattle.certificate_reader.specs.declared.read.Text.the-variants.{Neither}
 use Rattle.certificate_writer.specs.declared.write.CertificateWritten.{CertificateWritten}
 use Rattle.certificate_writer.specs.WriteCertificate.{certificateWritten, certificateAfter}
 use Rattle.criteria.specs.Certificate.{Certificate}
@@ -28,15 +27,16 @@ use Rattle.criteria.specs.Records.{historyOf, certificateOf}
 use Rattle.criteria.proofs.RecordLaws.{readable}
 use Rattle.criteria.proofs.Weaken.{isSome, weaken-accepted, pair-weakened}
 use Rattle.faults.specs.declared.finding.Finding.{Finding}
-use Rattle.faults.specs.declared.finding.Finding.the-variants.{Nothing}
+use Rattle.faults.specs.declared.finding.Finding.the-variants.{Nothing, LacksOwn, InOwnPast, LacksPast, NotItsSet, Against, Wrong}
 use Rattle.faults.specs.Finding.{findingOf, isFound}
 use Rattle.checker.specs.CheckText.{Verdict, checked}
 use Rattle.checker.specs.WeakenText.{textOfLists, textIfSome, wantedOf}
 use Rattle.checker.proofs.ListTexts.{lists-fit, text-lists}
+use Rattle.checker.proofs.VerdictLaws.{found}
 use Rattle.weakener.proofs.PassedLaws.{few-events, readable-passed}
 use Rattle.weakener.specs.declared.weaken.Weakened.{Weakened}
 use Rattle.weakener.specs.Steps.{Passed, IsRecordOf}
-use Rattle.weakener.specs.Weakening.{IsPair}
+use Rattle.weakener.specs.Weakening.{weakenedOf, IsPair}
 
 -- ---- the criterion wanted
 pub wanted-none : (n : ℕ) → (n ≡ 0 → ⊥) → (n ≡ 1 → ⊥) → (n ≡ 2 → ⊥) → (n ≡ 3 → ⊥) → (n ≡ 4 → ⊥) → none ≡ wantedOf n
@@ -51,11 +51,17 @@ wanted-none (suc (suc (suc (suc (suc n))))) a b c d e = refl
 -- what the code answers of texts that were read
 abbrev pub answered : Criterion → Finding → ℕ → ℕ → Weakened
 answered c f refusal long =
-    record {
-      checked = record { fault = 0; text = Neither; line = 0; start = 0; end = 0; criterion = c; finding = f };
-      refusal = refusal;
-      length = long;
-    }
+    record { checked = found c f; refusal = refusal; length = long }
+
+-- the verdict of a finding tells the answer back
+answered-back : (c : Criterion) (f : Finding) → answered c f 0 0 ≡ weakenedOf (checked c (answerOf (findingOf f))) 0
+answered-back c Nothing = refl
+answered-back c (LacksOwn e) = refl
+answered-back c (InOwnPast e) = refl
+answered-back c (LacksPast e) = refl
+answered-back c (NotItsSet v) = refl
+answered-back c (Against v) = refl
+answered-back c (Wrong v e) = refl
 
 -- a fault is no acceptance
 found-number : (x : Option Fault) → isFound x ≡ true → answerOf x .number ≡ 0 → ⊥
@@ -71,8 +77,7 @@ module _ (v : Verdict) (c : Criterion) (o : Option (List ℕ)) (buffer : List �
   -- 17
   pub pair-refused : o ≡ none → IsPair v c o buffer (answered c Nothing 17 0) buffer
   pair-refused q = record {
-    answers = rw q refl;
-    long = rw q refl;
+    whole = rw q refl;
     bytes = rw q refl;
   }
 
@@ -82,8 +87,7 @@ module _ (v : Verdict) (c : Criterion) (o : Option (List ℕ)) (buffer : List �
   pair-found t f q e found =
       let n = ne-eqb (answerOf (findingOf f) .number) 0 (found-number (findingOf f) found) in
       record {
-        answers = rw (q, e, n) refl;
-        long = rw (q, e, n, n) refl;
+        whole = rw (q, e, n, n) (answered-back c f);
         bytes = rw (q, e, n, n) refl;
       }
 
@@ -96,13 +100,11 @@ module _ (v : Verdict) (c : Criterion) (o : Option (List ℕ)) (buffer : List �
     where
       go : (room : Bool) → leb (length t) (length buffer) ≡ room → IsPair v c o buffer (answered c Nothing (w .number) (w .length)) then
       go true r = record {
-        answers = rw (p, q, e, r) refl;
-        long = rw (p, q, e, r) refl;
+        whole = rw (p, q, e, r) refl;
         bytes = b ∙ rw (q, e, r) refl;
       }
       go false r = record {
-        answers = rw (p, q, e, r) refl;
-        long = rw (p, q, e, r) refl;
+        whole = rw (p, q, e, r) refl;
         bytes = b ∙ rw (q, e, r) refl;
       }
 

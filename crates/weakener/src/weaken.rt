@@ -11,7 +11,7 @@ ghost use Rattle.criteria.specs.Weaken.{isPair, weakened};
 ghost use Rattle.criteria.specs.Records.{historyOf, certificateOf};
 ghost use Rattle.checker.specs.CheckText.{checked};
 ghost use Rattle.checker.specs.WeakenText.{textIfSome, wantedOf, weakenAnswer, weakenLength, weakenBytes};
-ghost use Rattle.weakener.specs.Weakening.{criterionOf, weakeningOf, IsPair};
+ghost use Rattle.weakener.specs.Weakening.{criterionOf, weakenedOf, IsPair};
 use crate::records::weakened_record;
 use certificate::record::Certificate;
 use certificate::record::Criterion;
@@ -24,7 +24,8 @@ use faults::finding::Finding;
 use faults::finding::is_found;
 use history::record::History;
 
-// What a weakening answers. `refusal` is 17 or 18, or it is 0, and then the answer is that of the check. `length` is that of the text.
+// What a weakening answers. `refusal` is 17 or 18, or it is 0, and then the answer is that of the check. `length` is that of the text. Beside
+// 17 and 18 `checked` carries nothing but the criterion.
 pub struct Weakened {
     pub checked: Checked,
     pub refusal: u8,
@@ -169,7 +170,7 @@ fn weaken_record(
 
 // Weakens a certificate text for a history text to the criterion wanted, into a lent buffer.
 pub fn weaken(history: &[u8], text: &[u8], wanted: u32, buffer: &mut [u8]) -> Weakened
-    ensures { λ r. ⌜ (weakeningOf r ≡ weakenAnswer (now (history .entry)) (now (text .entry)) wanted (now (buffer .entry))) × (r .length ≡ weakenLength (now (history .entry)) (now (text .entry)) wanted (now (buffer .entry))) × (now (buffer .exit) ≡ weakenBytes (now (history .entry)) (now (text .entry)) wanted (now (buffer .entry))) ⌝ }
+    ensures { λ r. ⌜ (r ≡ weakenedOf (weakenAnswer (now (history .entry)) (now (text .entry)) wanted (now (buffer .entry))) (weakenLength (now (history .entry)) (now (text .entry)) wanted (now (buffer .entry)))) × (now (buffer .exit) ≡ weakenBytes (now (history .entry)) (now (text .entry)) wanted (now (buffer .entry))) ⌝ }
 {
     let mut rows = [[0u8; 64]; 64];
     let read = read_certificate(history, text, &mut rows);

@@ -8,6 +8,7 @@ use Rattle.check_cases.proofs.say.Reads as say-reads
 use Rattle.verdict_lines.proofs.print.print_check.Reads as print-check-reads
 use mathlib.Core.Path.{sym}
 use lib.Seq.{length-take-le}
+use Rattle.verdict_lines.proofs.PieceLaws.{printed-fits}
 
 say-requires : tie.Need-say-requires
 say-requires c κs = search needs
@@ -22,10 +23,10 @@ print-check-requires : tie.Need-print-check-requires
 print-check-requires c κs = search needs
 
 array-share-prefix-bytes : tie.Need-array-share-prefix-bytes
-array-share-prefix-bytes c = search needs
+array-share-prefix-bytes c = printed-fits _ (c .before .print-check .result) (c .before .print-check .ensures)
 
 slice-aggregate-say-2 : tie.Need-slice-aggregate-say-2
-slice-aggregate-say-2 c = let p = c .before .before .print-check in sym (length-take-le (p .result .length) (p .result .bytes) (p .ensures .1))
+slice-aggregate-say-2 c = let p = c .before .before .print-check in sym (length-take-le (p .result .length) (p .result .bytes) (printed-fits _ (p .result) (p .ensures)))
 
 say-requires-3 : tie.Need-say-requires-3
 say-requires-3 c κs = search needs

@@ -9,6 +9,7 @@ use Rattle.verdict_lines.proofs.print.print_check.Reads as print-check-reads
 use Rattle.walnutgleam.proofs.read_file.Reads as read-file-reads
 use mathlib.Core.Path.{sym}
 use lib.Seq.{length-take-le}
+use Rattle.verdict_lines.proofs.PieceLaws.{printed-fits}
 
 slice-aggregate-read-file : tie.Need-slice-aggregate-read-file
 slice-aggregate-read-file c = search needs
@@ -44,10 +45,10 @@ print-check-requires : tie.Need-print-check-requires
 print-check-requires c κs = search needs
 
 array-share-prefix-bytes : tie.Need-array-share-prefix-bytes
-array-share-prefix-bytes c = c .before .print-check .ensures .1
+array-share-prefix-bytes c = printed-fits _ (c .before .print-check .result) (c .before .print-check .ensures)
 
 slice-aggregate-write-all : tie.Need-slice-aggregate-write-all
-slice-aggregate-write-all c = let p = c .before .before .print-check in sym (length-take-le (p .result .length) (p .result .bytes) (p .ensures .1))
+slice-aggregate-write-all c = let p = c .before .before .print-check in sym (length-take-le (p .result .length) (p .result .bytes) (printed-fits _ (p .result) (p .ensures)))
 
 write-all-requires : tie.Need-write-all-requires
 write-all-requires c κs = search needs

@@ -5,6 +5,7 @@ use mathlib.Core.Path.{_≡_, subst}
 use mathlib.Core.List.{[], _∷_, _++_}
 use Rattle.layout.specs.Number.{spell}
 use Rattle.layout.specs.Steps.Stands.{Stands}
+use Rattle.layout.proofs.StandsLaws.{spaced-stands}
 use Rattle.certificate.proofs.NextLaws.{line-quick}
 use borrow.Author.Needs.{needs}
 use Rattle.certificate.proofs.next.quick_line.Statement.{statement}
@@ -27,7 +28,7 @@ returns-2 c h = absurd (omega arith)
 
 quick-list-requires : tie.Need-quick-list-requires
 quick-list-requires c κs =
-    let p = c .before .before .spaced-number .ensures (omega arith) .inside in
+    let p = spaced-stands _ _ _ (c .before .before .spaced-number .result) (c .before .before .spaced-number .ensures) (omega arith) .inside in
     search needs
 
 returns-3 : tie.Need-returns-3
@@ -37,7 +38,8 @@ returns-3 c h =
     let a = n .before .before .args in
     let same : n .spaced-number .result .value ≡ a .own = search needs in
     line-quick (a .past) (a .count) (a .own) (a .from) (a .text .now) (n .spaced-number .result .end) (search needs)
-    (subst (λ (k : ℕ). Stands (spell k ++ 32 ∷ []) (a .from) (n .spaced-number .result .end) (a .text .now)) same (n .spaced-number .ensures (omega arith)))
+    (subst (λ (k : ℕ). Stands (spell k ++ 32 ∷ []) (a .from) (n .spaced-number .result .end) (a .text .now)) same
+    (spaced-stands _ _ _ (n .spaced-number .result) (n .spaced-number .ensures) (omega arith)))
     (c .quick-list .result) (c .quick-list .ensures h)
 
 pub quick-line-spec : {M : Type 1} → statement M

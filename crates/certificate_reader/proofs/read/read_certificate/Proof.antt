@@ -1,8 +1,7 @@
 -- `read_certificate` meets its contract: the history's refusals come first. Assumes nothing.
 use Prim.Native.Nat.{_≤_}
-use mathlib.Core.Path.{_≡_, sym, ap, _∙_}
-use Rattle.history_reader.specs.declared.read.HistoryRead.{HistoryRead}
-use Rattle.history_theorems.proofs.Guarantees.{read-sound}
+use mathlib.Core.Path.{_≡_, _∙_}
+use Rattle.history_reader.proofs.ShowLaws.{few-counted}
 use Rattle.certificate_reader.proofs.TwoTextLaws.{history-answer, history-rows, lines-rows, bad-answer, good-answer}
 use borrow.Author.Needs.{needs}
 use Rattle.certificate_reader.proofs.read.read_certificate.Statement.{statement}
@@ -11,10 +10,7 @@ use Rattle.certificate_reader.proofs.read.read_certificate.Tie as tie
 few-events : (c : tie.Else1) → c .before .before .read-history .result .history .count ≤ 64
 few-events c =
     let h = c .before .before in
-    let s = h .before .before .before .args .history .now in
-    let z : h .read-history .result .fault ≡ 0 = search needs in
-    let k = read-sound s (ap (λ (x : HistoryRead). x .fault) (sym (h .read-history .ensures)) ∙ z) .count in
-    rw (h .read-history .ensures) k
+    rw (h .read-history .ensures) (few-counted (h .before .before .before .args .history .now))
 
 read-history-requires : tie.Need-read-history-requires
 read-history-requires c κs = search needs

@@ -7,7 +7,7 @@ use Rattle.checker.proofs.check.check.Lts as lts
 use Rattle.certificate_reader.proofs.read.read_certificate.Reads as read-certificate-reads
 use Rattle.faults.proofs.check.check_records.Reads as check-records-reads
 use mathlib.Core.Path.{_≡_}
-use Rattle.checker.proofs.VerdictLaws.{refused-verdict, within-read, fits-read, checked-verdict}
+use Rattle.checker.proofs.VerdictLaws.{refused-answer, within-read, fits-read, found-answer}
 
 no-fault : (c : tie.Else1) → c .before .read-certificate .result .fault ≡ 0
 no-fault c = search needs
@@ -19,7 +19,7 @@ returns : tie.Need-returns
 returns c =
     let r = c .before .read-certificate in
     let s = c .before .before .before .before .before in
-    refused-verdict (s .args .history .now) (s .args .text .now) (r .result) (r .ensures .0) (search needs)
+    refused-answer (s .args .history .now) (s .args .text .now) (r .result) (r .ensures .0) (search needs)
 
 check-records-requires : tie.Need-check-records-requires
 check-records-requires c κs =
@@ -35,7 +35,7 @@ returns-2 c =
     let r = c .before .before .before .before .before .read-certificate in
     let s = c .before .before .before .before .before .before .before .before .before in
     let z : r .result .fault ≡ 0 = no-fault (c .before .before .before .before) in
-    checked-verdict (s .args .history .now) (s .args .text .now) (r .result) (r .ensures .0) z _ (r .ensures .1) (c .check-records .result) (c .check-records .ensures)
+    found-answer (s .args .history .now) (s .args .text .now) (r .result) (r .ensures .0) z _ (r .ensures .1) (c .check-records .result) (c .check-records .ensures)
 
 pub check-spec : {M : Type 1} → statement M
 check-spec =

@@ -1,4 +1,5 @@
 -- `answer_at` meets its contract: `-` is the empty answer. Assumes nothing.
+use Rattle.layout.proofs.StandsLaws.{word-stands}
 use Rattle.event_reader.proofs.QuickLaws.{none-end}
 use borrow.Author.Needs.{needs}
 use Rattle.event_reader.proofs.next.answer_at.Statement.{statement}
@@ -19,7 +20,8 @@ add-t8 c = search needs
 returns : tie.Need-returns
 returns c h =
     let a = c .before .before .before .before .before .args in
-    none-end (a .from) (a .text .now) (c .no-answer .result) (c .no-answer .ensures) (c .before .before .stands-at .ensures (c .before .if1 .taken))
+    none-end (a .from) (a .text .now) (c .no-answer .result) (c .no-answer .ensures)
+    (word-stands (a .text .now) _ (a .from) _ (c .before .before .stands-at .ensures) (search needs) (c .before .if1 .taken))
 
 values-at-requires : tie.Need-values-at-requires
 values-at-requires c κs = search needs

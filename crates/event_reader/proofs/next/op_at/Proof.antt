@@ -1,5 +1,6 @@
 -- `op_at` meets its contract: the word that stands there is the op's. Assumes nothing.
 use mathlib.Core.Bool.{false≢true}
+use Rattle.layout.proofs.StandsLaws.{word-stands}
 use Rattle.history.specs.Kinds.{opWord}
 use borrow.Author.Needs.{needs}
 use Rattle.event_reader.proofs.next.op_at.Statement.{statement}
@@ -16,7 +17,7 @@ add-t12 c = search needs
 
 returns : tie.Need-returns
 unfolding opWord
-returns c h = c .before .stands-at .ensures (c .if1 .taken)
+returns c h = word-stands _ _ _ _ (c .before .stands-at .ensures) (search needs) (c .if1 .taken)
 
 slice-aggregate-stands-at-2 : tie.Need-slice-aggregate-stands-at-2
 slice-aggregate-stands-at-2 c = search needs
@@ -29,7 +30,7 @@ add-t17 c = search needs
 
 returns-2 : tie.Need-returns-2
 unfolding opWord
-returns-2 c h = c .before .stands-at2 .ensures (c .if2 .taken)
+returns-2 c h = word-stands _ _ _ _ (c .before .stands-at2 .ensures) (search needs) (c .if2 .taken)
 
 slice-aggregate-stands-at-3 : tie.Need-slice-aggregate-stands-at-3
 slice-aggregate-stands-at-3 c = search needs
@@ -42,7 +43,7 @@ add-t22 c = search needs
 
 returns-3 : tie.Need-returns-3
 unfolding opWord
-returns-3 c h = c .before .stands-at3 .ensures (c .if3 .taken)
+returns-3 c h = word-stands _ _ _ _ (c .before .stands-at3 .ensures) (search needs) (c .if3 .taken)
 
 slice-aggregate-stands-at-4 : tie.Need-slice-aggregate-stands-at-4
 slice-aggregate-stands-at-4 c = search needs
@@ -55,7 +56,7 @@ add-t27 c = search needs
 
 returns-4 : tie.Need-returns-4
 unfolding opWord
-returns-4 c h = c .before .stands-at4 .ensures (c .if4 .taken)
+returns-4 c h = word-stands _ _ _ _ (c .before .stands-at4 .ensures) (search needs) (c .if4 .taken)
 
 slice-aggregate-stands-at-5 : tie.Need-slice-aggregate-stands-at-5
 slice-aggregate-stands-at-5 c = search needs
@@ -68,7 +69,7 @@ add-t32 c = search needs
 
 returns-5 : tie.Need-returns-5
 unfolding opWord
-returns-5 c h = c .before .stands-at5 .ensures (c .if5 .taken)
+returns-5 c h = word-stands _ _ _ _ (c .before .stands-at5 .ensures) (search needs) (c .if5 .taken)
 
 returns-6 : tie.Need-returns-6
 returns-6 c h = absurd (false≢true h)

@@ -10,6 +10,7 @@ use lib.Dec.{eqb, ltb}
 use Rattle.layout.specs.Word.{dash}
 use Rattle.layout.specs.Number.{spell}
 use Rattle.layout.specs.Steps.Stands.{Stands}
+use Rattle.layout.proofs.StandsLaws.{spaced-stands}
 use Rattle.history.specs.Kinds.{takesValue}
 use Rattle.event_reader.proofs.QuickLaws.{fields-quick, none-told}
 use borrow.Author.Needs.{needs}
@@ -29,13 +30,21 @@ own-stands c =
     let n = c .before .before in
     let e : n .spaced-number .result .value ≡ n .before .before .args .own = search needs in
     subst (λ (k : ℕ). Stands (spell k ++ 32 ∷ []) (n .before .before .args .from) (n .spaced-number .result .end) (n .before .before .args .text .now)) e
-    (n .spaced-number .ensures (omega arith))
+    (spaced-stands _ _ _ (n .spaced-number .result) (n .spaced-number .ensures) (omega arith))
 
 process-few : (c : tie.Else3) → c .before .spaced-number2 .result .value < 8
 process-few c = omega arith
 
+process-stands : (c : tie.Else3) → let p = c .before .spaced-number2 .result in
+    Stands (spell (p .value) ++ 32 ∷ []) (c .before .before .before .before .spaced-number .result .end) (p .end) (c .before .before .before .before .before .before .args .text .now)
+process-stands c = spaced-stands _ _ _ (c .before .spaced-number2 .result) (c .before .spaced-number2 .ensures) (process-few c)
+
 object-few : (c : tie.Else4) → c .before .spaced-number3 .result .value < c .before .before .before .before .before .before .before .before .args .declared
 object-few c = omega arith
+
+object-stands : (c : tie.Else4) → let o = c .before .spaced-number3 .result in
+    Stands (spell (o .value) ++ 32 ∷ []) (c .before .before .before .spaced-number2 .result .end) (o .end) (c .before .before .before .before .before .before .before .before .args .text .now)
+object-stands c = spaced-stands _ _ _ (c .before .spaced-number3 .result) (c .before .spaced-number3 .ensures) (object-few c)
 
 -- the value
 value-told : (c : tie.Else7) → let v = c .before .before in
@@ -69,7 +78,7 @@ returns-2 c h = absurd (none-told _ _ (c .no-event2 .ensures) h)
 
 spaced-number-requires-2 : tie.Need-spaced-number-requires-2
 spaced-number-requires-2 c κs =
-    let p = c .before .before .spaced-number .ensures (omega arith) .inside in
+    let p = spaced-stands _ _ _ (c .before .before .spaced-number .result) (c .before .before .spaced-number .ensures) (omega arith) .inside in
     search needs
 
 no-event-requires-3 : tie.Need-no-event-requires-3
@@ -80,7 +89,7 @@ returns-3 c h = absurd (none-told _ _ (c .no-event3 .ensures) h)
 
 spaced-number-requires-3 : tie.Need-spaced-number-requires-3
 spaced-number-requires-3 c κs =
-    let p = c .before .spaced-number2 .ensures (omega arith) .inside in
+    let p = spaced-stands _ _ _ (c .before .spaced-number2 .result) (c .before .spaced-number2 .ensures) (omega arith) .inside in
     search needs
 
 no-event-requires-4 : tie.Need-no-event-requires-4
@@ -97,7 +106,7 @@ array-copy-out-object c = search needs
 
 op-at-requires : tie.Need-op-at-requires
 op-at-requires c κs =
-    c .before .before .spaced-number3 .ensures (omega arith) .inside
+    spaced-stands _ _ _ (c .before .before .spaced-number3 .result) (c .before .before .spaced-number3 .ensures) (omega arith) .inside
 
 no-event-requires-5 : tie.Need-no-event-requires-5
 no-event-requires-5 c κs = search needs
@@ -168,8 +177,8 @@ returns-10 c h =
     let z = n₁ .before .before in
     fields-quick (z .args .own) (z .args .t4) (z .args .declared) (third .before .spaced-number2 .result .value) (fourth .before .spaced-number3 .result .value)
     (w .op-at .result .op) (v .value-at .result .value) (a .answer-at .result) (z .args .text .now) (z .pre .0) (declared-few z)
-    (own-few second) (own-stands second) (process-few third) (third .before .spaced-number2 .ensures (process-few third))
-    (object-few fourth) (fourth .before .spaced-number3 .ensures (object-few fourth))
+    (own-few second) (own-stands second) (process-few third) (process-stands third)
+    (object-few fourth) (object-stands fourth)
     (sym (o .has-op .ensures) ∙ not-false _ (v .before .before .if6 .left)) (w .op-at .ensures (not-false _ (o .before .if5 .left)))
     (value-told (a .before) .0) (value-told (a .before) .1)
     (a .answer-at .ensures (not-false _ (c .before .before .if8 .left))) (sym (c .before .can-answer .ensures) ∙ not-false _ (c .if9 .left))

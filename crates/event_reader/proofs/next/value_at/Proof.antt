@@ -2,6 +2,7 @@
 use mathlib.Core.Path.{refl}
 use mathlib.Core.Bool.{false≢true}
 use borrow.Author.Tests.{lt-ltb}
+use Rattle.layout.proofs.StandsLaws.{word-stands, spaced-stands}
 use borrow.Author.Needs.{needs}
 use Rattle.event_reader.proofs.next.value_at.Statement.{statement}
 use Rattle.event_reader.proofs.next.value_at.Tie as tie
@@ -15,7 +16,7 @@ cast-t10 c = search needs
 returns : tie.Need-returns
 returns c h =
     let w = c .before .before in
-    rw (w .if1 .taken) (lt-ltb _ _ (c .if2 .taken), c .before .spaced-number .ensures (c .if2 .taken))
+    rw (w .if1 .taken) (lt-ltb _ _ (c .if2 .taken), spaced-stands _ _ _ (c .before .spaced-number .result) (c .before .spaced-number .ensures) (c .if2 .taken))
 
 returns-2 : tie.Need-returns-2
 returns-2 c h = absurd (false≢true h)
@@ -31,7 +32,7 @@ add-t14 c = search needs
 
 returns-3 : tie.Need-returns-3
 returns-3 c h =
-    rw (c .before .before .before .if1 .left) (refl, c .before .stands-at .ensures (c .if3 .taken))
+    rw (c .before .before .before .if1 .left) (refl, word-stands _ _ _ _ (c .before .stands-at .ensures) (search needs) (c .if3 .taken))
 
 returns-4 : tie.Need-returns-4
 returns-4 c h = absurd (false≢true h)

@@ -4,6 +4,7 @@ use Prim.Native.Nat.{_≤_, _-_}
 use mathlib.Core.Path.{_≡_, refl, sym, _∙_}
 use mathlib.Core.Bool.{false≢true}
 use lib.ListN.{length, length-set}
+use Rattle.layout.proofs.StandsLaws.{number-stands}
 use Rattle.history.proofs.ListingLaws.{Listing, listing-begins, listing-more}
 use Rattle.event_reader.proofs.QuickLaws.{values-end}
 use borrow.Author.Needs.{needs}
@@ -55,7 +56,7 @@ returns-3 : tie.Need-returns-3 Inv-loop μ-loop
 returns-3 c h =
     let q = c .before .before .before .before in
     let l = q .before .before .loop in
-    values-end (l .inv .3) (search needs) (q .number-at .result .value) (q .number-at .result .end) (q .number-at .ensures (omega arith))
+    values-end (l .inv .3) (search needs) (q .number-at .result .value) (q .number-at .result .end) (number-stands _ _ _ (q .number-at .result) (q .number-at .ensures) (omega arith))
     (search needs) (search needs) (c .if3 .taken)
 
 unknown-answer-requires-3 : tie.Need-unknown-answer-requires-3 Inv-loop μ-loop
@@ -77,7 +78,7 @@ loop-again c =
       search needs,
       search needs,
       length-set (l .values) (l .k) _ ∙ l .inv .2,
-      listing-more (l .inv .3) (search needs) (q .number-at .result .value) (q .number-at .result .end) (q .number-at .ensures (omega arith))
+      listing-more (l .inv .3) (search needs) (q .number-at .result .value) (q .number-at .result .end) (number-stands _ _ _ (q .number-at .result) (q .number-at .ensures) (omega arith))
           (search needs) (search needs) (search needs),
     )
 

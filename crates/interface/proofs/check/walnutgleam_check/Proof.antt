@@ -4,6 +4,7 @@ use Rattle.interface.proofs.check.walnutgleam_check.Statement.{statemen
 use Rattle.interface.proofs.check.walnutgleam_check.Tie as tie
 use mathlib.Core.Path.{ap, _∙_}
 use Rattle.checker.specs.CheckText.{Verdict}
+use Rattle.checker.proofs.VerdictLaws.{verdict-is}
 
 check-requires : tie.Need-check-requires
 check-requires c κs = search needs
@@ -12,7 +13,10 @@ answer-number-requires : tie.Need-answer-number-requires
 answer-number-requires c κs = search needs
 
 returns : tie.Need-returns
-returns c = c .answer-number .ensures ∙ ap (λ (x : Verdict). x .number) (c .before .check .ensures)
+returns c =
+    let k = c .before in
+    let a = k .before .before .before .args in
+    c .answer-number .ensures ∙ ap (λ (x : Verdict). x .number) (verdict-is (a .history .now) (a .certificate .now) (k .check .result) (k .check .ensures))
 
 pub walnutgleam-check-spec : {M : Type 1} → statement M
 walnutgleam-check-spec = tie.close (tie.spec check-requires answer-number-requires returns)

@@ -3,12 +3,18 @@ use borrow.Author.Needs.{needs}
 use Rattle.interface.proofs.check.walnutgleam_verdict.Statement.{statement}
 use Rattle.interface.proofs.check.walnutgleam_verdict.Tie as tie
 use Prim.Native.Nat.{ℕ, _≤_, _<_}
-use mathlib.Core.Path.{sym, ap, _∙_, subst}
+use mathlib.Core.Path.{_≡_, sym, ap, _∙_, subst}
 use mathlib.Core.List.{List}
-use Rattle.checker.specs.CheckText.{Verdict}
-use Rattle.checker.proofs.VerdictLaws.{line-fits, places-fit}
+use Rattle.checker.specs.CheckText.{Verdict, checkText}
+use Rattle.checker.specs.Verdict.{verdictOf}
+use Rattle.checker.proofs.VerdictLaws.{verdict-is, line-fits, places-fit}
 use Rattle.faults.specs.Finding.{orNone}
 use Rattle.interface.specs.Places.{placesOf, placed}
+
+-- the answer is that of the two texts
+checked : (c : tie.After-check) → let a = c .before .before .before .before .args in
+    verdictOf (c .check .result) ≡ checkText (a .history .now) (a .certificate .now)
+checked c = let a = c .before .before .before .before .args in verdict-is (a .history .now) (a .certificate .now) (c .check .result) (c .check .ensures)
 
 check-requires : tie.Need-check-requires
 check-requires c κs = search needs
@@ -17,7 +23,7 @@ places-of-requires : tie.Need-places-of-requires
 places-of-requires c κs =
     let a = c .before .before .before .before .args in
     let q = places-fit (a .history .now) (a .certificate .now) in
-    subst (λ (v : Verdict). (orNone (v .line) < 4294967296) × (v .start ≤ v .end) × (v .end ≤ 32768)) (sym (c .check .ensures))
+    subst (λ (v : Verdict). (orNone (v .line) < 4294967296) × (v .start ≤ v .end) × (v .end ≤ 32768)) (sym (checked c))
     (line-fits (a .history .now) (a .certificate .now), q .0, q .1)
 
 put-places-requires : tie.Need-put-places-requires
@@ -33,10 +39,10 @@ returns : tie.Need-returns
 returns c =
     let k = c .before .before .before .before .before .before in
     let a = k .before .before .before .before .args in (
-      c .answer-number .ensures ∙ ap (λ (v : Verdict). v .number) (k .check .ensures),
+      c .answer-number .ensures ∙ ap (λ (v : Verdict). v .number) (checked k),
       c .before .before .before .put-places .ensures
           ∙ ap (λ (l : List ℕ). placed l (a .places .now)) (c .before .before .before .before .before .places-of .ensures)
-          ∙ ap (λ (v : Verdict). placed (placesOf v) (a .places .now)) (k .check .ensures),
+          ∙ ap (λ (v : Verdict). placed (placesOf v) (a .places .now)) (checked k),
     )
 
 pub walnutgleam-verdict-spec : {M : Type 1} → statement M

@@ -8,6 +8,10 @@ use Rattle.interface.proofs.weaken.weakened_number.Reads as weakened-nu
 use Rattle.weakener.proofs.weaken.weaken.Reads as weaken-reads
 use mathlib.Core.Path.{_∙_, ap}
 use Rattle.checker.specs.CheckText.{Verdict}
+use Rattle.checker.specs.WeakenText.{weakenLength}
+use Rattle.weakener.specs.declared.weaken.Weakened.{Weakened}
+use Rattle.weakener.specs.Weakening.{weakeningOf}
+use Rattle.weakener.proofs.TextLaws.{weakening-is}
 
 weaken-requires : tie.Need-weaken-requires
 weaken-requires c κs = search needs
@@ -20,8 +24,15 @@ same-length c = search needs
 
 returns : tie.Need-returns
 returns c =
-    let w = c .before .before .before .weaken in
-    (c .weakened-number .ensures ∙ ap (λ (v : Verdict). v .number) (w .ensures .0), w .ensures .2, w .ensures .1)
+    let k = c .before .before .before in
+    let a = k .before .before .before .before .before .args in
+    let w = k .weaken in (
+      c .weakened-number .ensures ∙ ap (λ (x : Weakened). weakeningOf x .number) (w .ensures .0)
+          ∙ ap (λ (v : Verdict). v .number)
+          (weakening-is (a .history .now) (a .certificate .now) (weakenLength (a .history .now) (a .certificate .now) (a .wanted) (a .buffer .now)) (a .wanted) (a .buffer .now)),
+      w .ensures .1,
+      ap (λ (x : Weakened). x .length) (w .ensures .0),
+    )
 
 pub walnutgleam-weaken-spec : {M : Type 1} → statement M
 walnutgleam-weaken-spec =

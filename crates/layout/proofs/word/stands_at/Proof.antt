@@ -1,10 +1,6 @@
 -- `stands_at` meets its contract: the part from the place on, as long as the word, is the word. Assumes nothing.
-use native.Mathlib.Omega.{arith}
-use Prim.Native.Nat.{_+_}
 use mathlib.Core.Path.{sym, _∙_}
-use mathlib.Core.Bool.{false≢true}
-use lib.ListN.{length}
-use Rattle.layout.proofs.StandsLaws.{word-stands}
+use Rattle.layout.proofs.StandsLaws.{word-short, word-compared}
 use borrow.Author.Needs.{needs}
 use Rattle.layout.proofs.word.stands_at.Statement.{statement}
 use Rattle.layout.proofs.word.stands_at.Tie as tie
@@ -13,7 +9,9 @@ sub-if1 : tie.Need-sub-if1
 sub-if1 c = search needs
 
 returns : tie.Need-returns
-returns c h = absurd (false≢true h)
+returns c =
+    let a = c .before .before .before .args in
+    sym (word-short (a .s .now) (a .word .now) (a .from) (c .if1 .taken))
 
 add-is-word : tie.Need-add-is-word
 add-is-word c = search needs
@@ -31,9 +29,9 @@ is-word-requires : tie.Need-is-word-requires
 is-word-requires c κs = search needs
 
 returns-2 : tie.Need-returns-2
-returns-2 c h =
+returns-2 c =
     let a = c .before .before .before .before .before .args in
-    word-stands (a .s .now) (a .word .now) (a .from) (a .from + length (a .word .now)) (omega arith) (search needs) (sym (c .is-word .ensures) ∙ h)
+    c .is-word .ensures ∙ word-compared (a .s .now) (a .word .now) (a .from)
 
 pub stands-at-spec : {M : Type 1} → statement M
 stands-at-spec =
