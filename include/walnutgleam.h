@@ -1,7 +1,7 @@
 /* Walnutgleam: the checker of causal history certificates, from C.
  *
  * Link target/staticlib/libinterface.a (make archive). Every function takes any bytes of any length, refuses what is not a
- * readable text, and never writes past the lengths that it is given. A pointer whose length is 0 may point to any one byte.
+ * readable text, and never writes past the lengths that it is given. A pointer whose length is 0 may be NULL, and no other may.
  * The answers are those of docs/FORMAT.md: 0 is acceptance or success, and only then. */
 #ifndef WALNUTGLEAM_H
 #define WALNUTGLEAM_H

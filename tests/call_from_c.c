@@ -1,5 +1,6 @@
-/* Calls the archive as the fleet console does, on the sample dispenser Q: the check, its places, an event's line, and both texts
- * read and written back. Prints a line each; make test compares them with tests/call_from_c.out. */
+/* Calls the archive as the fleet console does, on the sample dispenser Q: the check, its places, an event's line, both texts read and
+ * written back, and a certificate weakened. Then gives each function NULL with length 0 for each of its slices. Prints a line each;
+ * make test compares them with tests/call_from_c.out. */
 #include <inttypes.h>
 #include <stdio.h>
 #include <string.h>
@@ -18,7 +19,83 @@ static const char certificate[] =
     "view order\n"
     "0 1,0\n";
 
+static const char accepted[] =
+    "criterion sequential\n"
+    "view order\n"
+    "0 0,1\n";
+
 static const uint8_t *bytes(const char *text) { return (const uint8_t *)text; }
+
+/* Weakens a certificate into the first `room` bytes of a buffer of 128. Prints the answer, the length, how many of the buffer's last
+ * bytes are as they were, and the text. */
+static void weaken(const char *given, uint32_t wanted, size_t room) {
+    uint8_t buffer[128];
+    uint64_t length = 99;
+    memset(buffer, '.', sizeof buffer);
+    const uint32_t answer =
+        walnutgleam_weaken(bytes(history), strlen(history), bytes(given), strlen(given), wanted, buffer, room, &length);
+    size_t unchanged = 0;
+    while (unchanged < sizeof buffer && buffer[sizeof buffer - 1 - unchanged] == '.') unchanged++;
+    printf("weaken to %" PRIu32 " into %zu: %" PRIu32 ", length %" PRIu64 ", unchanged %zu\n", wanted, room, answer, length, unchanged);
+    printf("%.*s", (int)length, (const char *)buffer);
+}
+
+/* What the last call gave besides its answer. */
+static uint64_t given_length = 99;
+static uint32_t given_places[7];
+
+static void say_length(const char *call, uint32_t answer) {
+    printf("%s: %" PRIu32 ", length %" PRIu64 "\n", call, answer, given_length);
+    given_length = 99;
+}
+
+static void say_places(const char *call, uint32_t answer) {
+    printf("%s: %" PRIu32 ", places", call, answer);
+    for (size_t i = 0; i < 7; i++) printf(" %" PRIu32, given_places[i]);
+    printf("\n");
+    memset(given_places, 0, sizeof given_places);
+}
+
+/* NULL with length 0 for each slice of each function, alone and for all at once. An empty text lacks its first line, an empty buffer
+ * is too short, and an empty slice of places gets none. */
+static void give_null(void) {
+    const uint8_t *const h = bytes(history);
+    const uint8_t *const a = bytes(accepted);
+    const uint8_t *const r = bytes(certificate);
+    const size_t hn = strlen(history);
+    const size_t an = strlen(accepted);
+    const size_t rn = strlen(certificate);
+    uint8_t buffer[128];
+    uint64_t start = 99;
+
+    printf("check, NULL history: %" PRIu32 "\n", walnutgleam_check(NULL, 0, a, an));
+    printf("check, NULL certificate: %" PRIu32 "\n", walnutgleam_check(h, hn, NULL, 0));
+    printf("check, all NULL: %" PRIu32 "\n", walnutgleam_check(NULL, 0, NULL, 0));
+
+    say_places("verdict, NULL history", walnutgleam_verdict(NULL, 0, a, an, given_places, 7));
+    say_places("verdict, NULL certificate", walnutgleam_verdict(h, hn, NULL, 0, given_places, 7));
+    say_places("verdict, NULL places", walnutgleam_verdict(h, hn, r, rn, NULL, 0));
+    say_places("verdict, all NULL", walnutgleam_verdict(NULL, 0, NULL, 0, NULL, 0));
+
+    say_length("weaken, NULL history", walnutgleam_weaken(NULL, 0, a, an, 2, buffer, sizeof buffer, &given_length));
+    say_length("weaken, NULL certificate", walnutgleam_weaken(h, hn, NULL, 0, 2, buffer, sizeof buffer, &given_length));
+    say_length("weaken, NULL buffer", walnutgleam_weaken(h, hn, a, an, 2, NULL, 0, &given_length));
+    say_length("weaken to 5, NULL buffer", walnutgleam_weaken(h, hn, a, an, 5, NULL, 0, &given_length));
+    say_length("weaken what is refused, NULL buffer", walnutgleam_weaken(h, hn, r, rn, 2, NULL, 0, &given_length));
+    say_length("weaken, all NULL", walnutgleam_weaken(NULL, 0, NULL, 0, 2, NULL, 0, &given_length));
+
+    say_length("show, NULL history", walnutgleam_show(NULL, 0, 0, &start, &given_length));
+    printf("its start: %" PRIu64 "\n", start);
+
+    say_length("history, NULL history", walnutgleam_rewrite_history(NULL, 0, buffer, sizeof buffer, &given_length));
+    say_length("history, NULL buffer", walnutgleam_rewrite_history(h, hn, NULL, 0, &given_length));
+    say_length("history, all NULL", walnutgleam_rewrite_history(NULL, 0, NULL, 0, &given_length));
+
+    say_length("certificate, NULL history", walnutgleam_rewrite_certificate(NULL, 0, a, an, buffer, sizeof buffer, &given_length));
+    say_length("certificate, NULL certificate", walnutgleam_rewrite_certificate(h, hn, NULL, 0, buffer, sizeof buffer, &given_length));
+    say_length("certificate, NULL buffer", walnutgleam_rewrite_certificate(h, hn, a, an, NULL, 0, &given_length));
+    say_length("certificate, all NULL", walnutgleam_rewrite_certificate(NULL, 0, NULL, 0, NULL, 0, &given_length));
+}
 
 int main(void) {
     const size_t h = strlen(history);
@@ -53,5 +130,16 @@ int main(void) {
     printf("certificate %" PRIu32 " %" PRIu64 " %s\n", answer, length, memcmp(buffer, history, h) == 0 ? "unchanged" : "changed");
     answer = walnutgleam_rewrite_certificate(bytes(history), h, bytes(certificate), c, buffer, c, &length);
     printf("certificate %" PRIu32 " %" PRIu64 " %s\n", answer, length, memcmp(buffer, certificate, c) == 0 ? "same" : "other");
+
+    /* to causal, which takes 57 bytes; a buffer one byte shorter; no such criterion; a certificate that the check refuses, by an
+     * answer of the replay and by its layout */
+    weaken(accepted, 2, 128);
+    weaken(accepted, 2, 57);
+    weaken(accepted, 2, 56);
+    weaken(accepted, 5, 128);
+    weaken(certificate, 2, 128);
+    weaken("criterion sequential\nview ordre\n", 2, 128);
+
+    give_null();
     return 0;
 }

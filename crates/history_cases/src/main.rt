@@ -1,5 +1,14 @@
 // Reads histories, good and damaged, and writes a line for each: what was read, and whether it is written back as the same
-// bytes; or the refusal with its line. Then shows events, and writes a record into buffers of several lengths.
+// bytes; or the refusal with its line. Then shows events, and writes a record into buffers of several lengths, and records that no
+// readable text stands for.
+ghost use Prim.Native.Nat.{_<_};
+use history::record::Answer;
+use history::record::Event;
+use history::record::History;
+use history::record::Kind;
+use history::record::Object;
+use history::record::Op;
+use history::record::ProcessNo;
 use history_reader::read::faulty_line;
 use history_reader::read::read_history;
 use history_reader::show::show;
@@ -20,16 +29,21 @@ fn say_buffer(buffer: &[u8; 64]) {
     say(all);
 }
 
-// Writes the record of a text back into a buffer with room for 512 bytes, and compares.
+fn say_larger_buffer(buffer: &[u8; 96]) {
+    let all: &[u8] = buffer;
+    say(all);
+}
+
+// Writes the record of a text back into a buffer with room for 2,048 bytes, and compares.
 fn say_back(text: &[u8]) {
     let r = read_history(text);
     let h = r.history;
-    let mut buffer = [46u8; 512];
+    let mut buffer = [46u8; 2048];
     let w = write_history(&mut buffer, h);
     let n = w.length;
     say(b", written back ");
     say_number(w.number as u64);
-    if n <= 512 {
+    if n <= 2048 {
         if is_word(&buffer[0..n], text) {
             say(b" as the same bytes\n");
         } else {
@@ -93,6 +107,135 @@ fn say_written(text: &[u8], n: usize) {
         say_buffer(&buffer);
         say(b"]\n");
     }
+}
+
+// The record of one queue and one event: a pop that answers 7, by this process and of this object. `second` stands in the second
+// place of the answer, which is not used.
+fn pop_record(process: u8, object: u8, second: u16) -> History {
+    let no_object = Object {
+        kind: Kind::Register,
+        width: 0,
+    };
+    let queue = Object {
+        kind: Kind::Queue,
+        width: 0,
+    };
+    let mut objects = [no_object; 16];
+    objects[0] = queue;
+    let no_answer = Answer {
+        count: 0,
+        values: [0u16; 8],
+    };
+    let no_event = Event {
+        process: ProcessNo(0),
+        object: 0,
+        op: Op::Write,
+        value: 0,
+        answer: no_answer,
+    };
+    let answer = Answer {
+        count: 1,
+        values: [7, second, 0, 0, 0, 0, 0, 0],
+    };
+    let pop = Event {
+        process: ProcessNo(process),
+        object,
+        op: Op::Pop,
+        value: 0,
+        answer,
+    };
+    let mut events = [no_event; 64];
+    events[0] = pop;
+    History {
+        objects,
+        declared: 1,
+        events,
+        count: 1,
+    }
+}
+
+// Writes a record into a buffer of 96, and shows the whole buffer.
+fn say_record(name: &[u8], h: History) {
+    let mut buffer = [46u8; 96];
+    let w = write_history(&mut buffer, h);
+    say(b"write ");
+    say(name);
+    say(b": ");
+    say_number(w.number as u64);
+    say(b", length ");
+    say_number(w.length as u64);
+    say(b": [");
+    say_larger_buffer(&buffer);
+    say(b"]\n");
+}
+
+// A record that a text stands for, and three that differ from it in one number and that none stands for.
+fn records() {
+    say_record(b"process 7", pop_record(7, 0, 0));
+    say_record(b"process 8", pop_record(8, 0, 0));
+    say_record(b"an undeclared object", pop_record(7, 1, 0));
+    say_record(b"a value in a place that is not used", pop_record(7, 0, 1));
+}
+
+// Texts of line feeds alone: as many as a history may have bytes, and one more.
+fn long_texts() {
+    let longest = [10u8; 16384];
+    case(b"16384 bytes", &longest);
+    let longer = [10u8; 16385];
+    case(b"16385 bytes", &longer);
+    say_shown(&longer, 0);
+}
+
+// As many objects as a history may have, and one more.
+fn objects_to_the_limit() {
+    case(
+        b"16 objects",
+        b"object kind width\n0 queue -\n1 queue -\n2 queue -\n3 queue -\n4 queue -\n5 queue -\n6 queue -\n7 queue -\n8 queue -\n9 queue -\n10 queue -\n11 queue -\n12 queue -\n13 queue -\n14 queue -\n15 queue -\nevent process object op value answer\n",
+    );
+    case(
+        b"17 objects",
+        b"object kind width\n0 queue -\n1 queue -\n2 queue -\n3 queue -\n4 queue -\n5 queue -\n6 queue -\n7 queue -\n8 queue -\n9 queue -\n10 queue -\n11 queue -\n12 queue -\n13 queue -\n14 queue -\n15 queue -\n16 queue -\nevent process object op value answer\n",
+    );
+}
+
+// The byte at a place of the text of one queue and 65 events, each a push of 7. The line of event 10 begins at 215, and from there on
+// each line has 16 bytes.
+fn push_byte(i: usize) -> u8
+    requires { ⌜ i < 1095 ⌝ }
+{
+    let first =
+        b"object kind width\n0 queue -\nevent process object op value answer\n0 0 0 push 7 -\n1 0 0 push 7 -\n2 0 0 push 7 -\n3 0 0 push 7 -\n4 0 0 push 7 -\n5 0 0 push 7 -\n6 0 0 push 7 -\n7 0 0 push 7 -\n8 0 0 push 7 -\n9 0 0 push 7 -\n";
+    let line = b"10 0 0 push 7 -\n";
+    if i < 215 {
+        return first[i];
+    }
+    let e = (i - 55) / 16;
+    let k = (i - 55) % 16;
+    if k == 0 {
+        return 48 + (e / 10) as u8;
+    }
+    if k == 1 {
+        return 48 + (e % 10) as u8;
+    }
+    line[k]
+}
+
+// The text of one queue and 65 events.
+fn push_text() -> [u8; 1095] {
+    let mut text = [0u8; 1095];
+    let mut i = 0;
+    while i < 1095 {
+        text[i] = push_byte(i);
+        i += 1;
+    }
+    text
+}
+
+// As many events as a history may have, and one more: the text of 65 events without its last line, and all of it.
+fn events_to_the_limit() {
+    let text = push_text();
+    case(b"64 events", &text[0..1079]);
+    case(b"65 events", &text);
 }
 
 fn main() {
@@ -181,6 +324,9 @@ fn main() {
         b"object kind width\n0 queue -\n",
     );
     case(b"empty text", b"");
+    objects_to_the_limit();
+    events_to_the_limit();
+    long_texts();
     say_shown(
         b"object kind width\n0 queue -\nevent process object op value answer\n0 0 0 push 7 -\n1 1 0 pop - 7\n",
         0,
@@ -206,4 +352,5 @@ fn main() {
         b"object kind width\nevent process object op value answer\n",
         64,
     );
+    records();
 }

@@ -82,50 +82,67 @@ extern "C" {
 /// The archive that the build linked.
 pub struct Archive;
 
-// SAFETY of the calls below: every pointer comes from a slice or a reference and goes with its length. A part of a lent buffer
-// lies within its guards, so that even a small overrun is seen and does no harm.
-impl Checker for Archive {
+/// The same archive, given NULL for every slice that is empty.
+pub struct ArchiveGivenNull;
+
+/// The pointers that the archive is given.
+pub trait Pointers {
+    /// Is NULL given for a slice that is empty? Else the slice's own pointer is.
+    const NULL: bool;
+
+    fn of_text(text: &[u8]) -> *const u8 {
+        if Self::NULL && text.is_empty() { std::ptr::null() } else { text.as_ptr() }
+    }
+
+    fn of_lent<T>(lent: &mut Lent<T>) -> *mut T {
+        if Self::NULL && lent.length == 0 { std::ptr::null_mut() } else { lent.all.as_mut_ptr().wrapping_add(lent.start) }
+    }
+}
+
+impl Pointers for Archive {
+    const NULL: bool = false;
+}
+
+impl Pointers for ArchiveGivenNull {
+    const NULL: bool = true;
+}
+
+// SAFETY of the calls below: every pointer comes from a slice or a reference and goes with its length, or is NULL and goes with the
+// length 0, as the header allows. A part of a lent buffer lies within its guards, so that even a small overrun is seen and does no harm.
+impl<P: Pointers> Checker for P {
     fn check(&self, history: &[u8], certificate: &[u8]) -> u32 {
-        unsafe { walnutgleam_check(history.as_ptr(), history.len(), certificate.as_ptr(), certificate.len()) }
+        unsafe { walnutgleam_check(P::of_text(history), history.len(), P::of_text(certificate), certificate.len()) }
     }
 
     fn verdict(&self, history: &[u8], certificate: &[u8], places: &mut Lent<u32>) -> u32 {
         unsafe {
             walnutgleam_verdict(
-                history.as_ptr(),
+                P::of_text(history),
                 history.len(),
-                certificate.as_ptr(),
+                P::of_text(certificate),
                 certificate.len(),
-                places.all.as_mut_ptr().add(places.start),
+                P::of_lent(places),
                 places.length,
             )
         }
     }
 
     fn show(&self, history: &[u8], event: u32, shown: &mut Shown) -> u32 {
-        unsafe { walnutgleam_show(history.as_ptr(), history.len(), event, &mut shown.start, &mut shown.length) }
+        unsafe { walnutgleam_show(P::of_text(history), history.len(), event, &mut shown.start, &mut shown.length) }
     }
 
     fn rewrite_history(&self, history: &[u8], buffer: &mut Lent<u8>, length: &mut u64) -> u32 {
-        unsafe {
-            walnutgleam_rewrite_history(
-                history.as_ptr(),
-                history.len(),
-                buffer.all.as_mut_ptr().add(buffer.start),
-                buffer.length,
-                length,
-            )
-        }
+        unsafe { walnutgleam_rewrite_history(P::of_text(history), history.len(), P::of_lent(buffer), buffer.length, length) }
     }
 
     fn rewrite_certificate(&self, history: &[u8], certificate: &[u8], buffer: &mut Lent<u8>, length: &mut u64) -> u32 {
         unsafe {
             walnutgleam_rewrite_certificate(
-                history.as_ptr(),
+                P::of_text(history),
                 history.len(),
-                certificate.as_ptr(),
+                P::of_text(certificate),
                 certificate.len(),
-                buffer.all.as_mut_ptr().add(buffer.start),
+                P::of_lent(buffer),
                 buffer.length,
                 length,
             )
@@ -135,18 +152,17 @@ impl Checker for Archive {
     fn weaken(&self, history: &[u8], certificate: &[u8], wanted: u32, buffer: &mut Lent<u8>, length: &mut u64) -> u32 {
         unsafe {
             walnutgleam_weaken(
-                history.as_ptr(),
+                P::of_text(history),
                 history.len(),
-                certificate.as_ptr(),
+                P::of_text(certificate),
                 certificate.len(),
                 wanted,
-                buffer.all.as_mut_ptr().add(buffer.start),
+                P::of_lent(buffer),
                 buffer.length,
                 length,
             )
         }
     }
-
 }
 
 /// A model: rules, and what the functions of the header make of them. With document 01's rules it is what the archive is

@@ -27,7 +27,7 @@ pub fn longest_certificate(history: &History) -> Certificate {
 }
 
 /// A text made as long as wanted by what stands at its end.
-fn padded(text: &[u8], length: usize, pad: &[u8], last: &[u8]) -> Vec<u8> {
+pub fn padded(text: &[u8], length: usize, pad: &[u8], last: &[u8]) -> Vec<u8> {
     let mut padded = text.to_vec();
     while padded.len() + last.len() < length {
         padded.push(pad[(padded.len() - text.len()) % pad.len()]);

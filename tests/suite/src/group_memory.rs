@@ -1,10 +1,13 @@
-//! Lent memory of every size: the shown line, the buffers of writing, the slices of places; and texts with neighbours in memory.
+//! Lent memory of every size: the shown line, the buffers of writing, the slices of places; texts with neighbours in memory; and
+//! slices that are NULL.
 
+use crate::checker::ArchiveGivenNull;
 use crate::compare::{Call, Comparer};
 use crate::damage::{damage_certificate, damage_either, damage_text};
 use crate::group_random::pair;
 use crate::make::register_history;
 use crate::random::Random;
+use crate::samples::q;
 
 /// Shows every event and beyond.
 pub fn show(comparer: &mut Comparer, random: &mut Random, rounds: usize) {
@@ -110,4 +113,42 @@ pub fn neighbours(comparer: &mut Comparer, random: &mut Random, rounds: usize) {
     let byte = b"object kind width\n";
     comparer.check(&byte[..0], &byte[..0]);
     comparer.check(&byte[3..3], byte);
+}
+
+/// Every function with NULL for each slice that is empty, one or several of them: the answers are those of the empty text, the empty
+/// buffer and the empty slice of places.
+pub fn nulls(comparer: &mut Comparer, random: &mut Random, rounds: usize) {
+    let checker = comparer.checker;
+    // Only the archive itself is given NULL; a wrong checker is compared as it is.
+    if !comparer.until_first {
+        comparer.checker = &ArchiveGivenNull;
+    }
+    let q = q().text();
+    let sequential = |order: &str| format!("criterion sequential\nview order\n0 {order}\n").into_bytes();
+    let mut histories = vec![vec![], q, b"object kind width\nevent process object op value answer\n".to_vec(), b"\n".to_vec()];
+    let mut certificates = vec![vec![], sequential("0,1"), sequential("1,0"), sequential("-"), b"\n".to_vec()];
+    for _ in 0..rounds.div_ceil(400) {
+        let (history, certificate) = pair(random);
+        histories.push(history.text());
+        certificates.push(certificate.text());
+    }
+    for history in &histories {
+        for certificate in &certificates {
+            comparer.compare(Call::Check, history, certificate);
+            for places in [0, 7] {
+                comparer.compare(Call::Verdict { places }, history, certificate);
+            }
+            for event in [0, 64] {
+                comparer.compare(Call::Show { event }, history, certificate);
+            }
+            for buffer in [0, 1, 25_000] {
+                comparer.compare(Call::RewriteHistory { buffer }, history, certificate);
+                comparer.compare(Call::RewriteCertificate { buffer }, history, certificate);
+                for wanted in 0..=5 {
+                    comparer.compare(Call::Weaken { wanted, buffer }, history, certificate);
+                }
+            }
+        }
+    }
+    comparer.checker = checker;
 }

@@ -319,6 +319,11 @@ fn weakening_cases() -> Vec<(History, String, u32, Result<String, u32>)> {
         }
     }
     add(&w(), &weak, Weak.number(), Ok(&weak));
+    // 1: too long, whatever is wanted.
+    for wanted in [0, 4, 5, NONE] {
+        add(&q(), &"x".repeat(32_769), wanted, Err(1));
+        add(&q(), &"x".repeat(32_768), wanted, Err(2));
+    }
     // 17 comes before 11 to 16, and these before 18; readings come first.
     let turned = "criterion sequential\nview order\n0 1,0\n";
     for wanted in 0..5 {

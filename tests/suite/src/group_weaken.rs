@@ -1,12 +1,14 @@
 //! Weakening. What the model makes is held to the checker's check: an accepted certificate and a pair give an accepted text.
 //! The archive's own weakening is compared with the model's.
 
-use crate::certificate::CRITERIA;
+use crate::certificate::{CERTIFICATE_LIMIT, CRITERIA};
 use crate::check::{CheckRules, Document01};
 use crate::compare::{Call, Comparer};
 use crate::damage::{damage_certificate, damage_either, damage_history};
+use crate::group_limits::padded;
 use crate::group_memory::lengths_around;
 use crate::group_random::pair;
+use crate::history::HISTORY_LIMIT;
 use crate::random::Random;
 use crate::weaken::{is_pair, weakened};
 
@@ -83,6 +85,34 @@ pub fn damaged(comparer: &mut Comparer, random: &mut Random, rounds: usize) {
         }
         if comparer.done() {
             return;
+        }
+    }
+}
+
+/// A history or a certificate that is longer than its limit, or both, weakened to each wanted number: 1, whatever is wanted and however
+/// short the buffer is. Only a fault of the history comes before a certificate that is too long.
+pub fn too_long(comparer: &mut Comparer, random: &mut Random, rounds: usize) {
+    for _ in 0..rounds.div_ceil(100) {
+        let (history, certificate) = pair(random);
+        let (history, certificate) = (history.text(), certificate.text());
+        for more in 0..3 {
+            let long_history = padded(&history, HISTORY_LIMIT + more, b"\n", b"");
+            let long_certificate = padded(&certificate, CERTIFICATE_LIMIT + more, b"\n", b"");
+            let pairs = [(&long_history, &certificate), (&history, &long_certificate), (&long_history, &long_certificate)];
+            for wanted in WANTED {
+                for buffer in [0, 40_000] {
+                    for (history, certificate) in pairs {
+                        let answer = comparer.compare(Call::Weaken { wanted, buffer }, history, certificate);
+                        if comparer.done() {
+                            return;
+                        }
+                        // At the limit itself the text ends in empty lines.
+                        let stated = if more == 0 { 2 } else { 1 };
+                        comparer.note(answer == stated, || format!("weakening too long texts: given {answer}, stated {stated}"));
+                    }
+                    comparer.compare(Call::Weaken { wanted, buffer }, b"object\n", &long_certificate);
+                }
+            }
         }
     }
 }
