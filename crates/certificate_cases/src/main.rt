@@ -177,7 +177,8 @@ fn records() {
     say_record(b"an entry that is no event", h, c, &rows);
 }
 
-fn main() {
+// Certificates of Q that are read.
+fn of_criteria() {
     of_queue(b"sequential", b"criterion sequential\nview order\n0 0,1\n");
     of_queue(b"pram", b"criterion pram\nview order\n0 0,1\n1 0,1\n");
     of_queue(
@@ -192,6 +193,10 @@ fn main() {
         b"repeats in a view",
         b"criterion sequential\nview order\n0 1,1\n",
     );
+}
+
+// The criterion, and the lists of a certificate.
+fn of_lists() {
     of_queue(
         b"unknown criterion",
         b"criterion strict\nview order\n0 0,1\n",
@@ -208,6 +213,10 @@ fn main() {
         b"too many entries",
         b"criterion weak\nevent past\n0 1,1,1\n1 0\nview order\n0 0\n1 0,1\n",
     );
+}
+
+// The lines of a certificate.
+fn of_lines() {
     of_queue(
         b"wrong own number",
         b"criterion pram\nview order\n0 0,1\n2 0,1\n",
@@ -230,6 +239,10 @@ fn main() {
         b"criterion sequential\nview order\n0 0,1",
     );
     of_queue(b"empty text", b"");
+}
+
+// Certificates of a history without events, and one of a history that is refused.
+fn of_other_histories() {
     of_nothing(
         b"nothing, sequential",
         b"criterion sequential\nview order\n0 -\n",
@@ -252,6 +265,13 @@ fn main() {
         b"object kind width\n0 queue 3\n",
         b"criterion strict\n",
     );
+}
+
+fn main() {
+    of_criteria();
+    of_lists();
+    of_lines();
+    of_other_histories();
     long_texts();
     records();
 }

@@ -238,7 +238,8 @@ fn events_to_the_limit() {
     case(b"65 events", &text);
 }
 
-fn main() {
+// Histories that are read, and the widths of objects.
+fn of_objects() {
     case(
         b"Q",
         b"object kind width\n0 queue -\nevent process object op value answer\n0 0 0 push 7 -\n1 1 0 pop - 7\n",
@@ -271,6 +272,10 @@ fn main() {
         b"window without a width",
         b"object kind width\n0 window -\nevent process object op value answer\n",
     );
+}
+
+// Processes, values, objects and ops of events.
+fn of_events() {
     case(
         b"process 7",
         b"object kind width\n0 stack -\nevent process object op value answer\n0 7 0 pop - -\n",
@@ -299,6 +304,10 @@ fn main() {
         b"value where none belongs",
         b"object kind width\n0 register -\nevent process object op value answer\n0 0 0 read 1 1\n",
     );
+}
+
+// Answers, and the layout of a text.
+fn of_answers_and_layout() {
     case(
         b"answer of two values",
         b"object kind width\n0 register -\nevent process object op value answer\n0 0 0 read - 1,2\n",
@@ -324,6 +333,33 @@ fn main() {
         b"object kind width\n0 queue -\n",
     );
     case(b"empty text", b"");
+}
+
+// Events shown, one that there is not, and one of a text that is refused.
+fn of_showing() {
+    say_shown(b"object kind width\n0 queue 2\n", 0);
+    say_written(
+        b"object kind width\nevent process object op value answer\n",
+        54,
+    );
+    say_written(
+        b"object kind width\nevent process object op value answer\n",
+        55,
+    );
+}
+
+// One record into buffers of several lengths.
+fn of_writing() {
+    say_written(
+        b"object kind width\nevent process object op value answer\n",
+        64,
+    );
+}
+
+fn main() {
+    of_objects();
+    of_events();
+    of_answers_and_layout();
     objects_to_the_limit();
     events_to_the_limit();
     long_texts();
@@ -339,18 +375,7 @@ fn main() {
         b"object kind width\n0 queue -\nevent process object op value answer\n0 0 0 push 7 -\n1 1 0 pop - 7\n",
         2,
     );
-    say_shown(b"object kind width\n0 queue 2\n", 0);
-    say_written(
-        b"object kind width\nevent process object op value answer\n",
-        54,
-    );
-    say_written(
-        b"object kind width\nevent process object op value answer\n",
-        55,
-    );
-    say_written(
-        b"object kind width\nevent process object op value answer\n",
-        64,
-    );
+    of_showing();
+    of_writing();
     records();
 }
