@@ -2,8 +2,9 @@
 # make run [DIR=..]    proves and builds the program and runs it on the two texts of a folder (samples/Q if none is named)
 # make test            the whole gate: formatting, every proof, must-fail edit and program, then the archive called from C, the console, the
 #                      test suite and the programs on the compiler's back ends; its last line is 'N passed, 0 failed'
-# make archive         proves and writes target/staticlib/libinterface.a, which include/walnutgleam.h declares
-# make bench           the time and the stack of a check beside a plain one in C (bench/plain.c)
+# make archive         proves and writes target/libwalnutgleam.a, which include/walnutgleam.h declares
+# make install         puts header, archive and a pkg-config file under PREFIX (/usr/local)
+# make bench           the time of a check beside a plain one in C (bench/plain.c), and the stack that each function takes
 # make suite           the archive against an independent model and a brute force (tests/suite)
 # make fuzz            a longer run of the test suite, with a new seed
 # make setup           installs what the tests need beside the Rattle kit and a C compiler: valgrind and cargo
@@ -12,12 +13,14 @@ SHELL = /bin/bash
 .SHELLFLAGS = -e -o pipefail -c
 
 DIR = samples/Q
-ARCHIVE = target/staticlib/libinterface.a
+PREFIX = /usr/local
+VERSION = 1.0
+ARCHIVE = target/libwalnutgleam.a
 PROGRAMS = $(patsubst crates/%/src/main.rt,%,$(wildcard crates/*/src/main.rt))
 # Accepted certificates of each criterion, and one that the check refuses.
 WEAKENED = samples/Q-sequential samples/Q-pram samples/R samples/W samples/C samples/Q samples/width-9
 
-.PHONY: help run test outside archive calls console suite fuzz bench agree back_ends setup rt
+.PHONY: help run test outside archive install calls console suite fuzz bench agree back_ends setup rt
 
 help:
 	@sed -n '/^# make/,/^$$/s/^# //p' Makefile
@@ -41,14 +44,30 @@ archive: rt
 	@tools/prove weakener
 	@echo "Proving interface and writing $(ARCHIVE)"
 	@rt staticlib interface > target/archive.log 2>&1 || { cat target/archive.log; exit 1; }
+	@cp target/staticlib/libinterface.a $(ARCHIVE)
+
+# Header, archive and pkg-config file below the folder $(1), for programs that look for them below $(2).
+define put_below
+	mkdir -p $(1)/include $(1)/lib/pkgconfig
+	cp include/walnutgleam.h $(1)/include/walnutgleam.h
+	cp $(ARCHIVE) $(1)/lib/libwalnutgleam.a
+	sed 's|@PREFIX@|$(2)|; s|@VERSION@|$(VERSION)|' include/walnutgleam.pc.in > $(1)/lib/pkgconfig/walnutgleam.pc
+endef
+
+install: archive
+	$(call put_below,$(DESTDIR)$(PREFIX),$(PREFIX))
 
 CC_FLAGS = -std=c11 -Wall -Wextra -Werror -Iinclude
 
-# C programs that link the archive, and what they must print.
+# C programs that link the archive, and what they must print; the first one finds what `make install` puts down.
+INSTALLED = $(CURDIR)/target/tests/installed
 calls: archive
 	mkdir -p target/tests
-	cc $(CC_FLAGS) -O2 tests/call_from_c.c $(ARCHIVE) -o target/tests/call_from_c
+	$(call put_below,$(INSTALLED),$(INSTALLED))
+	cc -std=c11 -Wall -Wextra -Werror -O2 -I$(INSTALLED)/include tests/call_from_c.c -L$(INSTALLED)/lib -lwalnutgleam -o target/tests/call_from_c
 	target/tests/call_from_c | diff tests/call_from_c.out -
+	cc $(CC_FLAGS) -g -fsanitize=address,undefined -fno-sanitize-recover=all tests/call_from_c.c $(ARCHIVE) -o target/tests/call_from_c_sanitized
+	target/tests/call_from_c_sanitized | diff tests/call_from_c.out -
 	cc $(CC_FLAGS) -O2 tests/weaken_pairs.c $(ARCHIVE) -o target/tests/weaken_pairs
 	target/tests/weaken_pairs $(WEAKENED) | diff tests/weaken_pairs.out -
 

@@ -1,4 +1,4 @@
-/* Times the check of the archive and the plain one on the same accepted pairs, in alternation, and measures their stack.
+/* Times the check of the archive and the plain one on the same accepted pairs, in alternation, and measures the stack of each function.
  *
  * With no argument it prints the tables. `bench show NAME FOLDER` writes the two texts of a pair into a folder. `bench archive
  * NAME N` and `bench plain NAME N` only make the pairs and call one of the checks N times, for a profile. */
@@ -110,15 +110,60 @@ static size_t stack_of(check_function *check, const struct pair *p) {
     return depth;
 }
 
+/* The other functions of the header on a pair, each as a check is called. Weakening goes to each criterion. */
+static uint32_t places[7];
+static uint8_t buffer[32768];
+static uint64_t start, length;
+
+static uint32_t verdict(const uint8_t *history, size_t n, const uint8_t *certificate, size_t m) {
+    return walnutgleam_verdict(history, n, certificate, m, places, 7);
+}
+
+static uint32_t weaken(const uint8_t *history, size_t n, const uint8_t *certificate, size_t m) {
+    uint32_t answers = 0;
+    for (uint32_t wanted = 0; wanted < 5; wanted++)
+        answers += walnutgleam_weaken(history, n, certificate, m, wanted, buffer, sizeof buffer, &length);
+    return answers;
+}
+
+static uint32_t show(const uint8_t *history, size_t n, const uint8_t *certificate, size_t m) {
+    (void)certificate;
+    (void)m;
+    return walnutgleam_show(history, n, 63, &start, &length);
+}
+
+static uint32_t rewrite_history(const uint8_t *history, size_t n, const uint8_t *certificate, size_t m) {
+    (void)certificate;
+    (void)m;
+    return walnutgleam_rewrite_history(history, n, buffer, sizeof buffer, &length);
+}
+
+static uint32_t rewrite_certificate(const uint8_t *history, size_t n, const uint8_t *certificate, size_t m) {
+    return walnutgleam_rewrite_certificate(history, n, certificate, m, buffer, sizeof buffer, &length);
+}
+
 static void print_stacks(void) {
-    size_t most = 0;
-    printf("\nstack of one call, in bytes\n%-12s %15s %10s\n", "pair", "walnutgleam", "plain");
-    for (unsigned i = 0; i < PAIRS; i++) {
-        const size_t archive = stack_of(walnutgleam_check, &pairs[i]);
-        if (archive > most) most = archive;
-        printf("%-12s %15zu %10zu\n", pairs[i].name, archive, stack_of(plain_check, &pairs[i]));
+    static const struct {
+        const char *name;
+        check_function *function;
+    } functions[] = {
+        {"walnutgleam_check", walnutgleam_check},
+        {"walnutgleam_verdict", verdict},
+        {"walnutgleam_weaken", weaken},
+        {"walnutgleam_show", show},
+        {"walnutgleam_rewrite_history", rewrite_history},
+        {"walnutgleam_rewrite_certificate", rewrite_certificate},
+        {"plain_check", plain_check},
+    };
+    printf("\n%-34s %s\n", "function", "most stack of one call, bytes");
+    for (size_t f = 0; f < sizeof functions / sizeof functions[0]; f++) {
+        size_t most = 0;
+        for (unsigned i = 0; i < PAIRS; i++) {
+            const size_t depth = stack_of(functions[f].function, &pairs[i]);
+            if (depth > most) most = depth;
+        }
+        printf("%-34s %zu\n", functions[f].name, most);
     }
-    printf("peak stack of walnutgleam_check: %zu bytes\n", most);
 }
 
 static bool save(const char *folder, const char *file, const struct text *t) {

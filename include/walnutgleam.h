@@ -1,8 +1,17 @@
-/* Walnutgleam: the checker of causal history certificates, from C.
+/* Walnutgleam: the checker of causal history certificates, from C. docs/FORMAT.md has the two texts and all answer numbers,
+ * docs/CRITERIA.md what the criteria mean. Link libwalnutgleam.a (make archive, make install).
  *
- * Link target/staticlib/libinterface.a (make archive). Every function takes any bytes of any length, refuses what is not a
- * readable text, and never writes past the lengths that it is given. A pointer whose length is 0 may be NULL, and no other may.
- * The answers are those of docs/FORMAT.md: 0 is acceptance or success, and only then. */
+ * Every function takes any bytes of any length, refuses what is not a readable text, never writes past the lengths that it is
+ * given, allocates nothing and keeps nothing between calls, so calls from several threads need no lock. 0 is acceptance or
+ * success, and only then. For every input the answer, its places and every byte of a buffer are what the definitions say; that
+ * is proved (docs/PROOFS.md), and the proof assumes of the caller:
+ *
+ * - Each pointer is valid for the length given beside it, and aligned for its type. It is NULL only where that length is 0. The
+ *   pointers without a length (length, start) point to one number each and are not NULL.
+ * - A buffer, slice or number that is lent to be written overlaps nothing else that is lent in the same call. The two texts may
+ *   overlap each other.
+ * - There is stack for the call: 72,000 bytes for check, verdict and rewrite_certificate, 106,000 for weaken, 12,000 for show and
+ *   rewrite_history, as measured by `make bench`. */
 #ifndef WALNUTGLEAM_H
 #define WALNUTGLEAM_H
 
@@ -13,34 +22,42 @@
 extern "C" {
 #endif
 
-/* A number for none. */
+/* What stands in a place that an answer does not carry. */
 #define WALNUTGLEAM_NONE UINT32_C(0xFFFFFFFF)
 
 /* Checks a certificate text for a history text: the answer's number. */
 uint32_t walnutgleam_check(const uint8_t *history, size_t history_length,
                            const uint8_t *certificate, size_t certificate_length);
 
-/* The same answer. places gets, in this order: the criterion (pram 0, weak 1, causal 2, converge 3, sequential 4), the text of a
- * reading refusal (0 none, 1 history, 2 certificate), its line from 1, the view, the event, and the faulty line as start and length
- * within that text. A slice of another length than 7 is filled as far as it goes and left alone past that. */
+/* The same answer. places gets, in this order:
+ *   0  the criterion that the certificate names (pram 0, weak 1, causal 2, converge 3, sequential 4)
+ *   1  the text of a reading refusal (0 none, 1 history, 2 certificate)
+ *   2  its line, from 1; 0 for a text that is too long
+ *   3  the view
+ *   4  the event
+ *   5  where the faulty line starts within that text, and 6 its length; 0 and 0 where there is none or it is empty
+ * Places 0, 2, 3 and 4 are WALNUTGLEAM_NONE where the answer does not carry them. A slice of another length than 7 is filled as
+ * far as it goes and left alone past that. */
 uint32_t walnutgleam_verdict(const uint8_t *history, size_t history_length,
                              const uint8_t *certificate, size_t certificate_length,
                              uint32_t *places, size_t places_length);
 
-/* Weakens an accepted certificate text to the criterion wanted (numbers as above): the weakened text goes into the buffer's first bytes,
- * and length gets their number. 17 if the two criteria are not a pair of docs/FORMAT.md's list, 18 if the buffer is too short; a text that
- * the check refuses is refused with the same number. On a refusal no byte changes and length gets 0. */
+/* Weakens an accepted certificate text to the criterion wanted (numbers as above): the weakened text goes into the buffer's first
+ * bytes, the rest stays as it was, and length gets their number. 17 if the two criteria are not a pair of docs/FORMAT.md's list,
+ * 18 if the buffer has fewer bytes than the text; what the check refuses is refused with the same number, and walnutgleam_verdict
+ * gives its places. On a refusal no byte changes and length gets 0. */
 uint32_t walnutgleam_weaken(const uint8_t *history, size_t history_length,
                             const uint8_t *certificate, size_t certificate_length,
                             uint32_t wanted, uint8_t *buffer, size_t buffer_length, uint64_t *length);
 
 /* Shows an event of a history text: its line, without its line feed, as start and length within that text. 19 if there is no such
- * event; a reading refusal gives the faulty line. */
+ * event, with 0 and 0; a reading refusal gives the faulty line. */
 uint32_t walnutgleam_show(const uint8_t *history, size_t history_length, uint32_t event,
                           uint64_t *start, uint64_t *length);
 
-/* Reads a text and writes it back from its record, the bytes that were read, into the buffer's first bytes; length gets their
- * number. 18 if the buffer is too short. On a refusal no byte changes and length gets 0. */
+/* Reads a text and writes it back from its record, the bytes that were read, into the buffer's first bytes; the rest stays as it
+ * was, and length gets their number. 18 if the buffer has fewer bytes than the text. A reading refusal is that of the check, and
+ * walnutgleam_verdict gives its places (for a history with any certificate). On a refusal no byte changes and length gets 0. */
 uint32_t walnutgleam_rewrite_history(const uint8_t *history, size_t history_length,
                                      uint8_t *buffer, size_t buffer_length, uint64_t *length);
 uint32_t walnutgleam_rewrite_certificate(const uint8_t *history, size_t history_length,

@@ -4,7 +4,7 @@ use std::{env, fs, path::PathBuf};
 
 fn main() {
     println!("cargo:rerun-if-env-changed=WALNUTGLEAM_ARCHIVE");
-    let given = env::var("WALNUTGLEAM_ARCHIVE").unwrap_or_else(|_| "../../target/staticlib/libinterface.a".to_string());
+    let given = env::var("WALNUTGLEAM_ARCHIVE").unwrap_or_else(|_| "../../target/libwalnutgleam.a".to_string());
     let archive = PathBuf::from(&given);
     println!("cargo:rerun-if-changed={given}");
     // The archive is copied under a name of our own, so that any file name may be given.

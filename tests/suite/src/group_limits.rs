@@ -90,7 +90,7 @@ pub fn limits(comparer: &mut Comparer, random: &mut Random, _: usize) {
     let longest = longest_history();
     let (h, c) = (longest.text(), longest_certificate(&longest).text());
     if !comparer.until_first {
-        // Counted by hand in readings 23: the longest texts that read.
+        // The lengths of the longest texts that are readable, counted by hand.
         assert_eq!((h.len(), c.len()), (4_289, 24_339), "the longest readable texts");
     }
     comparer.check(&h, &c);

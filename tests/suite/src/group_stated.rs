@@ -324,7 +324,7 @@ fn weakening_cases() -> Vec<(History, String, u32, Result<String, u32>)> {
         add(&q(), &"x".repeat(32_769), wanted, Err(1));
         add(&q(), &"x".repeat(32_768), wanted, Err(2));
     }
-    // 17 comes before 11 to 16, and these before 18; readings come first.
+    // 17 comes before 11 to 16, and these before 18; reading refusals come first.
     let turned = "criterion sequential\nview order\n0 1,0\n";
     for wanted in 0..5 {
         add(&q(), turned, wanted, Err(16));

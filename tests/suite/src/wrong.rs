@@ -213,7 +213,7 @@ wrong_rules!(RejectsAll CheckRules {
     }
 });
 
-// Other readings.
+// Wrong ways to read a text.
 
 wrong_rules!(Wraps16 NumberRules {
     fn number(&self, field: &[u8]) -> Option<u64> {
