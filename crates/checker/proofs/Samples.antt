@@ -130,7 +130,7 @@ pub record Samples : Type 0 where
   pub m-reads : readHistory M .fault ≡ 0
   pub m-replays : Replays (historyRead M) (own (historyRead M) 2) (start (historyRead M)) (1 ∷ 2 ∷ 3 ∷ 4 ∷ 0 ∷ [])
 
--- the check of a certificate by its criterion, its pasts and its views
+-- a certificate is its criterion, its pasts and its views
 certificate-is : (c : Certificate) (w : Criterion) (ps : List (List ℕ)) → c .criterion ≡ w → c .pasts ≡ ps → c ≡ lists.claim w ps (c .views)
 certificate-is c w ps e q = ap₂ (λ (w : Criterion) (ps : List (List ℕ)). lists.claim w ps (c .views)) e q
 

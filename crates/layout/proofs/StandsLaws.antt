@@ -7,14 +7,12 @@ use mathlib.Core.Bool.{Bool, true, false, false≢true}
 use mathlib.Core.List.{List, [], _∷_, _++_, append-assoc}
 use lib.ListN.{length, getD, take, drop, length-append, length-drop, take-append-drop}
 use lib.Seq.{drop-cons, drop-drop, take-all}
-use lib.Dec.{ltb}
-use borrow.Author.Tests.{lt-ltb, le-ltb}
 use Rattle.layout.specs.declared.number.NumberAt.{NumberAt}
 use Rattle.layout.specs.Word.{same}
 use Rattle.layout.specs.Number.{startsWell, isNumber, value, below, spell}
 use Rattle.layout.specs.Steps.Number.{digits}
 use Rattle.layout.specs.Steps.Stands.{Stands, standsAt, numberAt, spacedNumber}
-use Rattle.layout.proofs.Cases.{by-bool, by-lt, by-eq, and-false}
+use Rattle.layout.proofs.Cases.{by-bool, by-lt, by-eq}
 use Rattle.layout.proofs.WordLaws.{same-true, same-false}
 use Rattle.layout.proofs.NumberLaws.{digits-all, digits-prefix, digits-few, starts-none, starts-not, number-starts, number-is, number-not, number-below, number-value, number-over, told-value, told-over}
 use Rattle.layout.proofs.SpellLaws.{spell-value}
@@ -132,35 +130,43 @@ module _ (s : List ℕ) (from bound : ℕ) where
       (λ l. let k : bound < bound = rw (number-over bound (digits (drop from s)) is l) at h in absurd (omega arith)))
       (λ not. let k : bound < bound = rw (number-not bound (digits (drop from s)) not) at h in absurd (omega arith))
 
+  -- where it ends
+  number-ends : from ≤ length s → numberAt bound from s .end ≤ length s
+  unfolding numberAt
+  number-ends start =
+      by-bool (isNumber (digits (drop from s)))
+      (λ is.
+      by-lt (value (digits (drop from s))) bound
+      (λ l. rw (number-value bound (digits (drop from s)) is l) (digits-stand is .inside))
+      (λ l. rw (number-over bound (digits (drop from s)) is l) start))
+      (λ not. rw (number-not bound (digits (drop from s)) not) start)
+
+  pub number-inside : (r : NumberAt) → r ≡ numberAt bound from s → from ≤ length s → r .end ≤ length s
+  number-inside r q start = rw q (number-ends start)
+
   pub number-stands : (r : NumberAt) → r ≡ numberAt bound from s → r .value < bound → Stands (spell (r .value)) from (r .end) s
   number-stands r q h = rw q (number-spelt (rw q at h))
 
   -- ---- with a space behind it, where r is the number that stands there
   module _ (r : NumberAt) (q : r ≡ numberAt bound from s) where
-    pub spaced-too-large : bound ≤ r .value → _≡_ {A = NumberAt} (record { value = bound; end = from }) (spacedNumber bound from s)
-    unfolding spacedNumber
-    spaced-too-large h = rw (← q, le-ltb (r .value) bound h)
-
     pub spaced-none : standsAt (32 ∷ []) (r .end) s ≡ false → _≡_ {A = NumberAt} (record { value = bound; end = from }) (spacedNumber bound from s)
     unfolding spacedNumber
-    spaced-none e = rw (← q, e, and-false (ltb (r .value) bound))
+    spaced-none e = rw (← q, e)
 
-    pub spaced-read : r .value < bound → standsAt (32 ∷ []) (r .end) s ≡ true
+    pub spaced-read : standsAt (32 ∷ []) (r .end) s ≡ true
         → _≡_ {A = NumberAt} (record { value = r .value; end = r .end + 1 }) (spacedNumber bound from s)
     unfolding spacedNumber
-    spaced-read h e = rw (← q, lt-ltb (r .value) bound h, e)
+    spaced-read e = rw (← q, e)
 
   spaced-spelt : spacedNumber bound from s .value < bound
       → Stands (spell (spacedNumber bound from s .value) ++ 32 ∷ []) from (spacedNumber bound from s .end) s
   spaced-spelt h =
       let n = numberAt bound from s in
-      by-lt (n .value) bound
-      (λ l.
-      let p = number-stands n refl l in
       by-bool (standsAt (32 ∷ []) (n .end) s)
-      (λ e. rw (← spaced-read n refl l e) (stands-then p (word-stands s (32 ∷ []) (n .end) true (sym e) (p .inside) refl)))
-      (λ e. let k : bound < bound = rw (← spaced-none n refl e) at h in absurd (omega arith)))
-      (λ l. let k : bound < bound = rw (← spaced-too-large n refl l) at h in absurd (omega arith))
+      (λ e.
+      let p = number-stands n refl (rw (← spaced-read n refl e) at h) in
+      rw (← spaced-read n refl e) (stands-then p (word-stands s (32 ∷ []) (n .end) true (sym e) (p .inside) refl)))
+      (λ e. let k : bound < bound = rw (← spaced-none n refl e) at h in absurd (omega arith))
 
   pub spaced-stands : (r : NumberAt) → r ≡ spacedNumber bound from s → r .value < bound → Stands (spell (r .value) ++ 32 ∷ []) from (r .end) s
   spaced-stands r q h = rw q (spaced-spelt (rw q at h))

@@ -16,7 +16,7 @@ pub enum Number {
     Over,
 }
 
-// A number below a bound that stands at a place, and where it ends; the bound and the place itself where there is none.
+// A number below a bound that stands at a place, and where it ends; the bound where there is none.
 pub struct NumberAt {
     pub value: u64,
     pub end: usize,
@@ -126,12 +126,6 @@ pub fn spaced_number(s: &[u8], from: usize, bound: u64) -> NumberAt
     let n = number_at(s, from, bound);
     let end = n.end;
     let value = n.value;
-    if value >= bound {
-        return NumberAt {
-            value: bound,
-            end: from,
-        };
-    }
     if stands_at(s, end, b" ") {
         return NumberAt {
             value,

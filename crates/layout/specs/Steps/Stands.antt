@@ -1,10 +1,9 @@
 -- What stands at a place of a text.
 use Prim.Native.Nat.{ℕ, _+_, _≤_}
 use mathlib.Core.Path.{_≡_}
-use mathlib.Core.Bool.{Bool, cond, _&&_}
+use mathlib.Core.Bool.{Bool, cond}
 use mathlib.Core.List.{List, [], _∷_, _++_}
 use lib.ListN.{length, take, drop}
-use lib.Dec.{ltb}
 use Rattle.layout.specs.Word.{same}
 use Rattle.layout.specs.Number.{numberOf}
 use Rattle.layout.specs.Steps.Number.{digits}
@@ -32,9 +31,9 @@ toldAt bound from n Over = record { value = bound; end = from }
 unfoldable pub numberAt : ℕ → ℕ → List ℕ → NumberAt
 numberAt bound from s = toldAt bound from (length (digits (drop from s))) (numberOf bound (digits (drop from s)))
 
--- The same with a space behind it, and the place behind the space.
+-- The same with a space behind it, and the place behind the space. Where there is no such number the value is the bound.
 unfoldable pub spacedNumber : ℕ → ℕ → List ℕ → NumberAt
 spacedNumber bound from s =
-    cond (ltb (numberAt bound from s .value) bound && standsAt (32 ∷ []) (numberAt bound from s .end) s)
+    cond (standsAt (32 ∷ []) (numberAt bound from s .end) s)
     (record { value = numberAt bound from s .value; end = numberAt bound from s .end + 1 })
     (record { value = bound; end = from })
