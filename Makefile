@@ -112,7 +112,7 @@ back_ends: rt
 setup: rt
 	@missing=$$(for tool in valgrind cargo; do command -v $$tool > /dev/null || echo $$tool; done); \
 	if [ -z "$$missing" ]; then exit 0; fi; \
-	if ! command -v apt-get > /dev/null; then echo "The tests need" $$missing "and there is no apt-get here to install it." >&2; exit 1; fi; \
+	if ! command -v apt-get > /dev/null; then echo "The tests need what is missing here:" $$missing"; there is no apt-get to install it." >&2; exit 1; fi; \
 	apt-get install -y $$missing || { apt-get update && apt-get install -y $$missing; }
 
 rt:
