@@ -1,7 +1,8 @@
 # make help            these lines
 # make run [DIR=..]    proves and builds the program and runs it on the two texts of a folder (samples/Q if none is named)
-# make test            the whole gate: formatting, every proof, must-fail edit and program, then the archive called from C, the console, the
-#                      test suite and the programs on the compiler's back ends; its last line is 'N passed, 0 failed'
+# make test            the whole gate: formatting, every proof, must-fail edit and program, then the archive called from C and beside a
+#                      plain check, the console, the test suite and the programs on the compiler's back ends; its last line is
+#                      'N passed, 0 failed'
 # make archive         proves and writes target/libwalnutgleam.a, which include/walnutgleam.h declares
 # make install         puts header, archive and a pkg-config file under PREFIX (/usr/local)
 # make bench           the time of a check beside a plain one in C (bench/plain.c), and the stack that each function takes

@@ -1,4 +1,5 @@
-/* Times the check of the archive and the plain one on the same accepted pairs, in alternation, and measures the stack of each function.
+/* Times the check of the archive and the plain one on the same accepted pairs, in alternation, and measures the stack of each
+ * function, with these and with damaged texts.
  *
  * With no argument it prints the tables. `bench show NAME FOLDER` writes the two texts of a pair into a folder. `bench archive
  * NAME N` and `bench plain NAME N` only make the pairs and call one of the checks N times, for a profile. */
@@ -142,6 +143,25 @@ static uint32_t rewrite_certificate(const uint8_t *history, size_t n, const uint
     return walnutgleam_rewrite_certificate(history, n, certificate, m, buffer, sizeof buffer, &length);
 }
 
+/* The most stack that a function takes on a pair as it is and with one byte of a text changed, in turn at some places of each. */
+static size_t most_stack(check_function *function, const struct pair *p) {
+    static struct pair damaged;
+    size_t most = stack_of(function, p);
+    damaged = *p;
+    for (unsigned which = 0; which < 2; which++) {
+        struct text *t = which == 0 ? &damaged.history : &damaged.certificate;
+        for (size_t k = 0; k < 16; k++) {
+            const size_t place = t->length - 1 - k * t->length / 16;
+            const uint8_t byte = t->bytes[place];
+            t->bytes[place] = byte == '9' ? '8' : '9';
+            const size_t depth = stack_of(function, &damaged);
+            t->bytes[place] = byte;
+            if (depth > most) most = depth;
+        }
+    }
+    return most;
+}
+
 static void print_stacks(void) {
     static const struct {
         const char *name;
@@ -159,7 +179,7 @@ static void print_stacks(void) {
     for (size_t f = 0; f < sizeof functions / sizeof functions[0]; f++) {
         size_t most = 0;
         for (unsigned i = 0; i < PAIRS; i++) {
-            const size_t depth = stack_of(functions[f].function, &pairs[i]);
+            const size_t depth = most_stack(functions[f].function, &pairs[i]);
             if (depth > most) most = depth;
         }
         printf("%-34s %zu\n", functions[f].name, most);

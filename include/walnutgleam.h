@@ -10,8 +10,8 @@
  *   pointers without a length (length, start) point to one number each and are not NULL.
  * - A buffer, slice or number that is lent to be written overlaps nothing else that is lent in the same call. The two texts may
  *   overlap each other.
- * - There is stack for the call: 72,000 bytes for check, verdict and rewrite_certificate, 106,000 for weaken, 12,000 for show and
- *   rewrite_history, as measured by `make bench`. */
+ * - There is stack for the call: 73,000 bytes for check, verdict and rewrite_certificate, 107,000 for weaken, 12,000 for show and
+ *   rewrite_history. `make bench` measures it on x86-64, with accepted and damaged texts; it is not proved. */
 #ifndef WALNUTGLEAM_H
 #define WALNUTGLEAM_H
 
@@ -43,9 +43,9 @@ uint32_t walnutgleam_verdict(const uint8_t *history, size_t history_length,
                              uint32_t *places, size_t places_length);
 
 /* Weakens an accepted certificate text to the criterion wanted (numbers as above): the weakened text goes into the buffer's first
- * bytes, the rest stays as it was, and length gets their number. 17 if the two criteria are not a pair of docs/FORMAT.md's list,
- * 18 if the buffer has fewer bytes than the text; what the check refuses is refused with the same number, and walnutgleam_verdict
- * gives its places. On a refusal no byte changes and length gets 0. */
+ * bytes, the rest stays as it was, and length gets their number. Refusals, in this order: the reading refusals of the check; 17 if
+ * the two criteria are not a pair of docs/FORMAT.md's list; 11 to 16 of the check; 18 if the buffer has fewer bytes than the text.
+ * walnutgleam_verdict gives the places of 1 to 6 and of 11 to 16. On a refusal no byte changes and length gets 0. */
 uint32_t walnutgleam_weaken(const uint8_t *history, size_t history_length,
                             const uint8_t *certificate, size_t certificate_length,
                             uint32_t wanted, uint8_t *buffer, size_t buffer_length, uint64_t *length);
