@@ -1,4 +1,4 @@
--- Document 01's (p) cases on the texts, one list, by computation. Assumes nothing.
+-- Document 01's (p) cases on the texts, and document 02's, one list, by computation. Assumes nothing.
 use Prim.Native.Nat.{ℕ}
 use mathlib.Core.Path.{_≡_, refl, ap₂, _∙_}
 use mathlib.Core.List.{List, [], _∷_}
@@ -63,6 +63,26 @@ M = 111 ∷ 98 ∷ 106 ∷ 101 ∷ 99 ∷ 116 ∷ 32 ∷ 107 ∷ 105 ∷ 110 ∷
 abbrev pub Nothing : List ℕ
 Nothing = 111 ∷ 98 ∷ 106 ∷ 101 ∷ 99 ∷ 116 ∷ 32 ∷ 107 ∷ 105 ∷ 110 ∷ 100 ∷ 32 ∷ 119 ∷ 105 ∷ 100 ∷ 116 ∷ 104 ∷ 10 ∷ 101 ∷ 118 ∷ 101 ∷ 110 ∷ 116 ∷ 32 ∷ 112 ∷ 114 ∷ 111 ∷ 99 ∷ 101 ∷ 115 ∷ 115 ∷ 32 ∷ 111 ∷ 98 ∷ 106 ∷ 101 ∷ 99 ∷ 116 ∷ 32 ∷ 111 ∷ 112 ∷ 32 ∷ 118 ∷ 97 ∷ 108 ∷ 117 ∷ 101 ∷ 32 ∷ 97 ∷ 110 ∷ 115 ∷ 119 ∷ 101 ∷ 114 ∷ 10 ∷ []
 
+-- Q with the answer of event 1 lost: `1 1 0 pop - ?`.
+abbrev pub Lost : List ℕ
+Lost = 111 ∷ 98 ∷ 106 ∷ 101 ∷ 99 ∷ 116 ∷ 32 ∷ 107 ∷ 105 ∷ 110 ∷ 100 ∷ 32 ∷ 119 ∷ 105 ∷ 100 ∷ 116 ∷ 104 ∷ 10 ∷ 48 ∷ 32 ∷ 113 ∷ 117 ∷ 101 ∷ 117 ∷ 101 ∷ 32 ∷ 45 ∷ 10 ∷ 101 ∷ 118 ∷ 101 ∷ 110 ∷ 116 ∷ 32 ∷ 112 ∷ 114 ∷ 111 ∷ 99 ∷ 101 ∷ 115 ∷ 115 ∷ 32 ∷ 111 ∷ 98 ∷ 106 ∷ 101 ∷ 99 ∷ 116 ∷ 32 ∷ 111 ∷ 112 ∷ 32 ∷ 118 ∷ 97 ∷ 108 ∷ 117 ∷ 101 ∷ 32 ∷ 97 ∷ 110 ∷ 115 ∷ 119 ∷ 101 ∷ 114 ∷ 10 ∷ 48 ∷ 32 ∷ 48 ∷ 32 ∷ 48 ∷ 32 ∷ 112 ∷ 117 ∷ 115 ∷ 104 ∷ 32 ∷ 55 ∷ 32 ∷ 45 ∷ 10 ∷ 49 ∷ 32 ∷ 49 ∷ 32 ∷ 48 ∷ 32 ∷ 112 ∷ 111 ∷ 112 ∷ 32 ∷ 45 ∷ 32 ∷ 63 ∷ 10 ∷ []
+
+-- That, and process 1 pops once more: 7, where nothing is left to pop.
+abbrev pub LostTwice : List ℕ
+LostTwice = 111 ∷ 98 ∷ 106 ∷ 101 ∷ 99 ∷ 116 ∷ 32 ∷ 107 ∷ 105 ∷ 110 ∷ 100 ∷ 32 ∷ 119 ∷ 105 ∷ 100 ∷ 116 ∷ 104 ∷ 10 ∷ 48 ∷ 32 ∷ 113 ∷ 117 ∷ 101 ∷ 117 ∷ 101 ∷ 32 ∷ 45 ∷ 10 ∷ 101 ∷ 118 ∷ 101 ∷ 110 ∷ 116 ∷ 32 ∷ 112 ∷ 114 ∷ 111 ∷ 99 ∷ 101 ∷ 115 ∷ 115 ∷ 32 ∷ 111 ∷ 98 ∷ 106 ∷ 101 ∷ 99 ∷ 116 ∷ 32 ∷ 111 ∷ 112 ∷ 32 ∷ 118 ∷ 97 ∷ 108 ∷ 117 ∷ 101 ∷ 32 ∷ 97 ∷ 110 ∷ 115 ∷ 119 ∷ 101 ∷ 114 ∷ 10 ∷ 48 ∷ 32 ∷ 48 ∷ 32 ∷ 48 ∷ 32 ∷ 112 ∷ 117 ∷ 115 ∷ 104 ∷ 32 ∷ 55 ∷ 32 ∷ 45 ∷ 10 ∷ 49 ∷ 32 ∷ 49 ∷ 32 ∷ 48 ∷ 32 ∷ 112 ∷ 111 ∷ 112 ∷ 32 ∷ 45 ∷ 32 ∷ 63 ∷ 10 ∷ 50 ∷ 32 ∷ 49 ∷ 32 ∷ 48 ∷ 32 ∷ 112 ∷ 111 ∷ 112 ∷ 32 ∷ 45 ∷ 32 ∷ 55 ∷ 10 ∷ []
+
+-- That, and the second pop finds nothing.
+abbrev pub LostThenNone : List ℕ
+LostThenNone = 111 ∷ 98 ∷ 106 ∷ 101 ∷ 99 ∷ 116 ∷ 32 ∷ 107 ∷ 105 ∷ 110 ∷ 100 ∷ 32 ∷ 119 ∷ 105 ∷ 100 ∷ 116 ∷ 104 ∷ 10 ∷ 48 ∷ 32 ∷ 113 ∷ 117 ∷ 101 ∷ 117 ∷ 101 ∷ 32 ∷ 45 ∷ 10 ∷ 101 ∷ 118 ∷ 101 ∷ 110 ∷ 116 ∷ 32 ∷ 112 ∷ 114 ∷ 111 ∷ 99 ∷ 101 ∷ 115 ∷ 115 ∷ 32 ∷ 111 ∷ 98 ∷ 106 ∷ 101 ∷ 99 ∷ 116 ∷ 32 ∷ 111 ∷ 112 ∷ 32 ∷ 118 ∷ 97 ∷ 108 ∷ 117 ∷ 101 ∷ 32 ∷ 97 ∷ 110 ∷ 115 ∷ 119 ∷ 101 ∷ 114 ∷ 10 ∷ 48 ∷ 32 ∷ 48 ∷ 32 ∷ 48 ∷ 32 ∷ 112 ∷ 117 ∷ 115 ∷ 104 ∷ 32 ∷ 55 ∷ 32 ∷ 45 ∷ 10 ∷ 49 ∷ 32 ∷ 49 ∷ 32 ∷ 48 ∷ 32 ∷ 112 ∷ 111 ∷ 112 ∷ 32 ∷ 45 ∷ 32 ∷ 63 ∷ 10 ∷ 50 ∷ 32 ∷ 49 ∷ 32 ∷ 48 ∷ 32 ∷ 112 ∷ 111 ∷ 112 ∷ 32 ∷ 45 ∷ 32 ∷ 45 ∷ 10 ∷ []
+
+-- `?` is the answer of an op that a register does not have.
+abbrev pub LostOfRegister : List ℕ
+LostOfRegister = 111 ∷ 98 ∷ 106 ∷ 101 ∷ 99 ∷ 116 ∷ 32 ∷ 107 ∷ 105 ∷ 110 ∷ 100 ∷ 32 ∷ 119 ∷ 105 ∷ 100 ∷ 116 ∷ 104 ∷ 10 ∷ 48 ∷ 32 ∷ 114 ∷ 101 ∷ 103 ∷ 105 ∷ 115 ∷ 116 ∷ 101 ∷ 114 ∷ 32 ∷ 45 ∷ 10 ∷ 101 ∷ 118 ∷ 101 ∷ 110 ∷ 116 ∷ 32 ∷ 112 ∷ 114 ∷ 111 ∷ 99 ∷ 101 ∷ 115 ∷ 115 ∷ 32 ∷ 111 ∷ 98 ∷ 106 ∷ 101 ∷ 99 ∷ 116 ∷ 32 ∷ 111 ∷ 112 ∷ 32 ∷ 118 ∷ 97 ∷ 108 ∷ 117 ∷ 101 ∷ 32 ∷ 97 ∷ 110 ∷ 115 ∷ 119 ∷ 101 ∷ 114 ∷ 10 ∷ 48 ∷ 32 ∷ 48 ∷ 32 ∷ 48 ∷ 32 ∷ 119 ∷ 114 ∷ 105 ∷ 116 ∷ 101 ∷ 32 ∷ 55 ∷ 32 ∷ 45 ∷ 10 ∷ 49 ∷ 32 ∷ 49 ∷ 32 ∷ 48 ∷ 32 ∷ 112 ∷ 111 ∷ 112 ∷ 32 ∷ 45 ∷ 32 ∷ 63 ∷ 10 ∷ []
+
+-- `?` stands in a list: `1 1 0 pop - ?,7`.
+abbrev pub LostInList : List ℕ
+LostInList = 111 ∷ 98 ∷ 106 ∷ 101 ∷ 99 ∷ 116 ∷ 32 ∷ 107 ∷ 105 ∷ 110 ∷ 100 ∷ 32 ∷ 119 ∷ 105 ∷ 100 ∷ 116 ∷ 104 ∷ 10 ∷ 48 ∷ 32 ∷ 113 ∷ 117 ∷ 101 ∷ 117 ∷ 101 ∷ 32 ∷ 45 ∷ 10 ∷ 101 ∷ 118 ∷ 101 ∷ 110 ∷ 116 ∷ 32 ∷ 112 ∷ 114 ∷ 111 ∷ 99 ∷ 101 ∷ 115 ∷ 115 ∷ 32 ∷ 111 ∷ 98 ∷ 106 ∷ 101 ∷ 99 ∷ 116 ∷ 32 ∷ 111 ∷ 112 ∷ 32 ∷ 118 ∷ 97 ∷ 108 ∷ 117 ∷ 101 ∷ 32 ∷ 97 ∷ 110 ∷ 115 ∷ 119 ∷ 101 ∷ 114 ∷ 10 ∷ 48 ∷ 32 ∷ 48 ∷ 32 ∷ 48 ∷ 32 ∷ 112 ∷ 117 ∷ 115 ∷ 104 ∷ 32 ∷ 55 ∷ 32 ∷ 45 ∷ 10 ∷ 49 ∷ 32 ∷ 49 ∷ 32 ∷ 48 ∷ 32 ∷ 112 ∷ 111 ∷ 112 ∷ 32 ∷ 45 ∷ 32 ∷ 63 ∷ 44 ∷ 55 ∷ 10 ∷ []
+
 -- ---- the certificates
 -- Of Q: `criterion sequential`, `view order`, `0 0,1`.
 abbrev pub q-sequential-text : List ℕ
@@ -104,6 +124,10 @@ r-pasts = [] ∷ [] ∷ [] ∷ (0 ∷ 1 ∷ 2 ∷ 3 ∷ []) ∷ (0 ∷ 1 ∷ 2 �
 abbrev pub nothing-sequential-text : List ℕ
 nothing-sequential-text = 99 ∷ 114 ∷ 105 ∷ 116 ∷ 101 ∷ 114 ∷ 105 ∷ 111 ∷ 110 ∷ 32 ∷ 115 ∷ 101 ∷ 113 ∷ 117 ∷ 101 ∷ 110 ∷ 116 ∷ 105 ∷ 97 ∷ 108 ∷ 10 ∷ 118 ∷ 105 ∷ 101 ∷ 119 ∷ 32 ∷ 111 ∷ 114 ∷ 100 ∷ 101 ∷ 114 ∷ 10 ∷ 48 ∷ 32 ∷ 45 ∷ 10 ∷ []
 
+-- Of LostTwice and LostThenNone: `criterion sequential`, `view order`, `0 0,1,2`.
+abbrev pub lost-order-text : List ℕ
+lost-order-text = 99 ∷ 114 ∷ 105 ∷ 116 ∷ 101 ∷ 114 ∷ 105 ∷ 111 ∷ 110 ∷ 32 ∷ 115 ∷ 101 ∷ 113 ∷ 117 ∷ 101 ∷ 110 ∷ 116 ∷ 105 ∷ 97 ∷ 108 ∷ 10 ∷ 118 ∷ 105 ∷ 101 ∷ 119 ∷ 32 ∷ 111 ∷ 114 ∷ 100 ∷ 101 ∷ 114 ∷ 10 ∷ 48 ∷ 32 ∷ 48 ∷ 44 ∷ 49 ∷ 44 ∷ 50 ∷ 10 ∷ []
+
 pub record Samples : Type 0 where
   -- "(p) sequential view 0,1 accepted."
   pub q-sequential : checkText Q q-sequential-text ≡ answer Sequential 0 none none
@@ -129,6 +153,15 @@ pub record Samples : Type 0 where
   -- "(p) p2's view 1,2,3,4,0 replays." M is read.
   pub m-reads : readHistory M .fault ≡ 0
   pub m-replays : Replays (historyRead M) (own (historyRead M) 2) (start (historyRead M)) (1 ∷ 2 ∷ 3 ∷ 4 ∷ 0 ∷ [])
+  -- Document 02, T-01: a lost answer "is visible in no view, under any criterion", so Q's other order is accepted too;
+  pub lost-sequential : checkText Lost q-sequential-text ≡ answer Sequential 0 none none
+  pub lost-turned : checkText Lost q-turned-text ≡ answer Sequential 0 none none
+  -- "the operation itself still takes effect": the pack was taken, and the next pop finds none;
+  pub lost-takes : checkText LostTwice lost-order-text ≡ answer Sequential 16 (some 0) (some 2)
+  pub lost-then-none : checkText LostThenNone lost-order-text ≡ answer Sequential 0 none none
+  -- "Fault 5 doesn't apply to `?`", and the others do. In a list `?` is no number.
+  pub lost-of-register : readHistory LostOfRegister .fault ≡ 4
+  pub lost-in-list : readHistory LostInList .fault ≡ 2
 
 -- a certificate is its criterion, its pasts and its views
 certificate-is : (c : Certificate) (w : Criterion) (ps : List (List ℕ)) → c .criterion ≡ w → c .pasts ≡ ps → c ≡ lists.claim w ps (c .views)
@@ -143,7 +176,7 @@ r-any h text z w p =
     (ap₂ check h (certificate-is (certificateRead R text) Weak r-pasts w p) ∙ lists.R-inside (certificateRead R text .views))
 
 pub samples : Samples
-unfolding layout-split.find layout-split.onFirst layout-split.split layout-split.join layout-split.partStart layout-word.same layout-number.isDigit layout-number.allDigits layout-number.startsWell layout-number.isNumber layout-number.valueFrom layout-number.below layout-number.numberOf layout-number.spellWithin layout-number.spellBefore layout-list.itemsOf layout-list.allNumbers layout-list.allBelow layout-list.judged layout-list.listOf layout-list.numbersOf layout-list.leading layout-list.listText history-record.pad history-record.answerOf history-record.historyOf history-kinds.kindWord history-kinds.opWord history-kinds.isKind history-kinds.kindOf history-kinds.isOp history-kinds.opOf history-faults.firstFault history-faults.isOptional history-faults.optional history-faults.objectLayout history-faults.objectLimits history-faults.objectFits history-faults.objectFault history-faults.objectThree history-faults.objectFields history-faults.objectLine history-faults.eventLayout history-faults.eventLimits history-faults.eventFits history-faults.eventLong history-faults.eventFault history-faults.eventSaid history-faults.eventSix history-faults.eventFields history-faults.eventLine history-reader-readhistory.eventsFrom history-reader-readhistory.objectsFrom history-reader-readhistory.linesFrom history-reader-readhistory.readHistory history-reader-readhistory.faultyLine certificate-record.eventListOf certificate-record.rowOf certificate-record.certificateOf certificate-record.rowsOf certificate-record.beginnings certificate-criteria.wordOf certificate-criteria.isCriterion certificate-criteria.criterionOf certificate-criteria.countFrom certificate-criteria.hasEvents certificate-criteria.processesFrom certificate-criteria.viewNumbers certificate-faults.rising certificate-faults.criterionLine certificate-faults.listLayout certificate-faults.listLimits certificate-faults.pairFault certificate-faults.listFault certificate-faults.listSaid certificate-reader-readcertificate.endFrom certificate-reader-readcertificate.headingFrom certificate-reader-readcertificate.listsFrom certificate-reader-readcertificate.viewsFrom certificate-reader-readcertificate.pastsFrom certificate-reader-readcertificate.bodyFrom certificate-reader-readcertificate.linesFrom certificate-reader-readcertificate.readLines certificate-reader-readcertificate.readCertificate certificate-reader-readcertificate.rowsRead certificate-reader-readcertificate.faultyLine criteria-history.programOrder criteria-certificate.processes criteria-check.lacksOwn criteria-check.lacksPast criteria-check.notItsSet criteria-check.against criteria-check.right criteria-check.check criteria-records.eventOf criteria-records.historyOf criteria-records.certificateOf checker-checktext.historyRead checker-checktext.certificateRead checker-checktext.checkText
+unfolding layout-split.find layout-split.onFirst layout-split.split layout-split.join layout-split.partStart layout-word.same layout-number.isDigit layout-number.allDigits layout-number.startsWell layout-number.isNumber layout-number.valueFrom layout-number.below layout-number.numberOf layout-number.spellWithin layout-number.spellBefore layout-list.itemsOf layout-list.allNumbers layout-list.allBelow layout-list.judged layout-list.listOf layout-list.numbersOf layout-list.leading layout-list.listText history-record.pad history-record.answerOf history-record.historyOf history-kinds.kindWord history-kinds.opWord history-kinds.isKind history-kinds.kindOf history-kinds.isOp history-kinds.opOf history-faults.firstFault history-faults.isOptional history-faults.optional history-faults.objectLayout history-faults.objectLimits history-faults.objectFits history-faults.objectFault history-faults.objectThree history-faults.objectFields history-faults.objectLine history-faults.isLost history-faults.answerItems history-faults.answerSaid history-faults.eventLayout history-faults.eventLimits history-faults.eventFits history-faults.eventLong history-faults.eventFault history-faults.eventSaid history-faults.eventSix history-faults.eventFields history-faults.eventLine history-reader-readhistory.eventsFrom history-reader-readhistory.objectsFrom history-reader-readhistory.linesFrom history-reader-readhistory.readHistory history-reader-readhistory.faultyLine certificate-record.eventListOf certificate-record.rowOf certificate-record.certificateOf certificate-record.rowsOf certificate-record.beginnings certificate-criteria.wordOf certificate-criteria.isCriterion certificate-criteria.criterionOf certificate-criteria.countFrom certificate-criteria.hasEvents certificate-criteria.processesFrom certificate-criteria.viewNumbers certificate-faults.rising certificate-faults.criterionLine certificate-faults.listLayout certificate-faults.listLimits certificate-faults.pairFault certificate-faults.listFault certificate-faults.listSaid certificate-reader-readcertificate.endFrom certificate-reader-readcertificate.headingFrom certificate-reader-readcertificate.listsFrom certificate-reader-readcertificate.viewsFrom certificate-reader-readcertificate.pastsFrom certificate-reader-readcertificate.bodyFrom certificate-reader-readcertificate.linesFrom certificate-reader-readcertificate.readLines certificate-reader-readcertificate.readCertificate certificate-reader-readcertificate.rowsRead certificate-reader-readcertificate.faultyLine criteria-history.programOrder criteria-certificate.processes criteria-check.lacksOwn criteria-check.lacksPast criteria-check.notItsSet criteria-check.against criteria-check.right criteria-check.check criteria-records.eventOf criteria-records.historyOf criteria-records.certificateOf checker-checktext.historyRead checker-checktext.certificateRead checker-checktext.checkText
 samples =
     record {
       q-sequential = refl;
@@ -159,4 +192,10 @@ samples =
       nothing-sequential = refl;
       m-reads = refl;
       m-replays = none-wrong (historyRead M) (own (historyRead M) 2) (start (historyRead M)) (1 ∷ 2 ∷ 3 ∷ 4 ∷ 0 ∷ []) refl;
+      lost-sequential = refl;
+      lost-turned = refl;
+      lost-takes = refl;
+      lost-then-none = refl;
+      lost-of-register = refl;
+      lost-in-list = refl;
     }

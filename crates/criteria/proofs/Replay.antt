@@ -3,24 +3,32 @@
 use mathlib.Core.Path.{_≡_, refl, subst}
 use mathlib.Core.Bool.{Bool, true, false, not, _&&_}
 use mathlib.Core.List.{List, [], _∷_, _++_}
-use mathlib.Core.Option.{none}
+use mathlib.Core.Option.{Option, none, some}
 use Prim.Native.Nat.{ℕ, zero, suc}
 use lib.Dec.{eqb}
 use lib.ListN.{take}
 use borrow.Author.Tests.{eq-eqb, not-false}
 use Rattle.criteria.specs.Tests.{foundIf, mem}
 use Rattle.criteria.specs.History.{History, event}
-use Rattle.criteria.specs.Replay.{Contents, answered, changed, Right, Replays}
-use Rattle.criteria.specs.Check.{right, firstWrong}
+use Rattle.criteria.specs.Replay.{Contents, answered, changed, Fits, Right, Replays}
+use Rattle.criteria.specs.Check.{fits, right, firstWrong}
 use Rattle.criteria.proofs.Lists.{by-test, clash, or-none, flag-none, same-list, list-same, true-or-left, true-or-right}
 
 pub right-sound : (h : History) (s : Contents) (e : ℕ) → right h s e ≡ true → Right h s e
 unfolding right Right
-right-sound h s e t = same-list (event h e .answer) (answered h s e) t
+right-sound h s e t = go (event h e .answer) (answered h s e) t
+  where
+    go : (r : Option (List ℕ)) (a : List ℕ) → fits r a ≡ true → Fits r a
+    go none a t = tt
+    go (some r) a t = same-list r a t
 
 pub right-complete : (h : History) (s : Contents) (e : ℕ) → Right h s e → right h s e ≡ true
 unfolding right Right
-right-complete h s e q = rw q (list-same (answered h s e))
+right-complete h s e q = go (event h e .answer) (answered h s e) q
+  where
+    go : (r : Option (List ℕ)) (a : List ℕ) → Fits r a → fits r a ≡ true
+    go none a q = refl
+    go (some r) a q = rw q (list-same a)
 
 module _ (h : History) where
   pub none-wrong : (vis : ℕ → Bool) (s : Contents) (v : List ℕ) → firstWrong h vis s v ≡ none → Replays h vis s v

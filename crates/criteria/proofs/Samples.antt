@@ -16,7 +16,7 @@ use Rattle.criteria.proofs.Replay.{none-wrong}
 
 -- process, object, operation, answer
 abbrev pub ev : ℕ → ℕ → Op → ℕ → List ℕ → Event
-ev p o op v a = record { process = p; object = o; op = op; value = v; answer = a }
+ev p o op v a = record { process = p; object = o; op = op; value = v; answer = some a }
 
 abbrev pub claim : Criterion → List (List ℕ) → List (List ℕ) → Certificate
 claim w ps vs = record { criterion = w; pasts = ps; views = vs }
@@ -42,6 +42,21 @@ Q-short = refl
 pub Q-pram : check Q (claim Pram [] ((0 ∷ 1 ∷ []) ∷ (0 ∷ 1 ∷ []) ∷ [])) ≡ none
 unfolding lacksOwn lacksPast notItsSet against right check programOrder processes
 Q-pram = refl
+
+-- Q with the answer of event 1 lost: each of its two orders is accepted
+abbrev pub Lost : History
+Lost = record {
+  objects = record { kind = Queue; width = 0 } ∷ [];
+  events = ev 0 0 Push 7 [] ∷ record { process = 1; object = 0; op = Pop; value = 0; answer = none } ∷ [];
+}
+
+pub Lost-sequential : check Lost (claim Sequential [] ((0 ∷ 1 ∷ []) ∷ [])) ≡ none
+unfolding lacksOwn lacksPast notItsSet against right check programOrder processes
+Lost-sequential = refl
+
+pub Lost-turned : check Lost (claim Sequential [] ((1 ∷ 0 ∷ []) ∷ [])) ≡ none
+unfolding lacksOwn lacksPast notItsSet against right check programOrder processes
+Lost-turned = refl
 
 -- pram numbers its views by process: here processes 1 and 3
 abbrev pub P : History

@@ -1,6 +1,6 @@
 -- The check of a certificate (document 01, "Check"): faults 11 to 16 in order, "each over all events or views before the next, lowest
 -- number first".
-use mathlib.Core.Bool.{Bool, not, _&&_}
+use mathlib.Core.Bool.{Bool, true, not, _&&_}
 use mathlib.Core.List.{List, [], _∷_}
 use mathlib.Core.Option.{Option, none, some}
 use Prim.Native.Nat.{ℕ}
@@ -49,9 +49,14 @@ notItsSet n P v = any n (λ e. not (eqb (count e v) (one (P e))))
 unfoldable pub against : (ℕ → ℕ → Bool) → List ℕ → Bool
 against R v = any (length v) (λ i. any (length v) (λ j. R (getD v i 0) (getD v j 0) && not (ltb i j)))
 
+-- `Fits` as a test: nothing is asked of an answer that was lost.
+abbrev pub fits : Option (List ℕ) → List ℕ → Bool
+fits none a = true
+fits (some r) a = sameList r a
+
 -- "16 a visible answer that the replay doesn't give, at the first such event in the view".
 unfoldable pub right : History → Contents → ℕ → Bool
-right h s e = sameList (event h e .answer) (answered h s e)
+right h s e = fits (event h e .answer) (answered h s e)
 
 abbrev pub firstWrong : History → (ℕ → Bool) → Contents → List ℕ → Option ℕ
 firstWrong h vis s [] = none

@@ -3,6 +3,7 @@
 use mathlib.Core.Path.{_≡_}
 use mathlib.Core.Bool.{Bool, true, false, _&&_, _||_}
 use mathlib.Core.List.{List, []}
+use mathlib.Core.Option.{Option, some}
 use Prim.Native.Nat.{ℕ, _<_}
 use lib.Dec.{eqb, ltb}
 use lib.ListN.{length, getD}
@@ -12,13 +13,13 @@ use Rattle.history.specs.declared.record.Op.the-variants.{Read}
 use Rattle.history.specs.declared.record.Object.{Object}
 use Rattle.criteria.specs.Tests.{count, one}
 
--- The process that did it, the object that it was done to, the op and its value, and the recorded answer.
+-- The process that did it, the object that it was done to, the op and its value, and the recorded answer: none where it was lost.
 pub record Event : Type 0 where
   pub process : ℕ
   pub object : ℕ
   pub op : Op
   pub value : ℕ
-  pub answer : List ℕ
+  pub answer : Option (List ℕ)
 
 pub record History : Type 0 where
   pub objects : List Object
@@ -29,7 +30,7 @@ size h = length (h .events)
 
 -- The event and the object of a number (any one, past the last).
 abbrev pub event : History → ℕ → Event
-event h e = getD (h .events) e record { process = 0; object = 0; op = Read; value = 0; answer = [] }
+event h e = getD (h .events) e record { process = 0; object = 0; op = Read; value = 0; answer = some [] }
 
 abbrev pub object : History → ℕ → Object
 object h o = getD (h .objects) o record { kind = Register; width = 0 }

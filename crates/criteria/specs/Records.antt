@@ -4,7 +4,7 @@ use mathlib.Core.List.{List, map}
 use lib.ListN.{length}
 use Rattle.history.specs.declared.record.Event as written-event
 use Rattle.history.specs.declared.record.History as written-history
-use Rattle.history.specs.Record.{valuesIn, objectsIn, eventsIn}
+use Rattle.history.specs.Record.{recordedIn, objectsIn, eventsIn}
 use Rattle.certificate.specs.declared.record.Certificate as written-certificate
 use Rattle.certificate.specs.Record.{pastsIn, viewsIn}
 use Rattle.certificate.specs.Criteria as text
@@ -13,7 +13,7 @@ use Rattle.criteria.specs.Certificate.{Certificate}
 
 unfoldable pub eventOf : written-event.Event → Event
 eventOf e =
-    record { process = e .process .0; object = e .object; op = e .op; value = e .value; answer = valuesIn (e .answer) }
+    record { process = e .process .0; object = e .object; op = e .op; value = e .value; answer = recordedIn (e .answer) }
 
 unfoldable pub historyOf : written-history.History → History
 historyOf h = record { objects = objectsIn h; events = map eventOf (eventsIn h) }

@@ -4,6 +4,7 @@
 use mathlib.Core.Path.{_≡_}
 use mathlib.Core.Bool.{Bool, true}
 use mathlib.Core.List.{List, [], _∷_, map}
+use mathlib.Core.Option.{Option, none, some}
 use Prim.Native.Nat.{ℕ}
 use lib.ListN.{getD, set}
 use Rattle.criteria.specs.Object.{fresh, after, gives}
@@ -25,9 +26,14 @@ changed h s e =
     set s (event h e .object)
     (after (object h (event h e .object)) (event h e .op) (event h e .value) (getD s (event h e .object) []))
 
--- The recorded answer is what the object gives.
+-- The recorded answer is what the object gives. One that was lost "is visible in no view, under any criterion" (document 02, T-01):
+-- nothing is asked of it.
+abbrev pub Fits : Option (List ℕ) → List ℕ → Type 0
+Fits none a = Unit {0}
+Fits (some r) a = r ≡ a
+
 unfoldable pub Right : History → Contents → ℕ → Type 0
-Right h s e = event h e .answer ≡ answered h s e
+Right h s e = Fits (event h e .answer) (answered h s e)
 
 -- Every event of the view changes its object; a visible one has the right answer.
 abbrev pub Replays : History → (ℕ → Bool) → Contents → List ℕ → Type 0

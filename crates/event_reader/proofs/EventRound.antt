@@ -2,15 +2,15 @@
 use Prim.Native.Nat.{ℕ, zero, suc, _-_, _≤_, _<_}
 use native.Mathlib.Omega.{arith}
 use mathlib.Core.Path.{_≡_, refl, sym, ap, _∙_}
-use mathlib.Core.Bool.{Bool, true, false, cond, not, _&&_, _||_}
+use mathlib.Core.Bool.{Bool, true, false, cond, not, _&&_, _||_, false≢true}
 use mathlib.Core.List.{List, [], _∷_, map}
 use lib.ListN.{length, getD, drop, replicate, length-drop, length-map, take-append-drop}
 use lib.Seq.{length-take-le, drop-append-seam}
 use lib.Dec.{eqb, leb, ltb}
-use borrow.Author.Tests.{lt-ltb, ltb-true, le-leb, leb-true, eq-eqb, eqb-true, not-true}
+use borrow.Author.Tests.{ne-eqb, lt-ltb, ltb-true, le-leb, leb-true, eq-eqb, eqb-true, not-true}
 use Rattle.layout.specs.declared.list.ListRead.the-variants.{Listed}
 use Rattle.layout.specs.Split.{split, join}
-use Rattle.layout.specs.Word.{same, dash, writeWord, readWord, pushWord, popWord, peekWord}
+use Rattle.layout.specs.Word.{same, dash, question, writeWord, readWord, pushWord, popWord, peekWord}
 use Rattle.layout.specs.Number.{isDigit, value, spell}
 use Rattle.layout.specs.List.{itemsOf, allNumbers, allBelow, judged, listOf, numbersOf, listText}
 use Rattle.layout.proofs.Cases.{by-bool, by-eq, and-left, and-right}
@@ -26,10 +26,10 @@ use Rattle.history.specs.declared.record.Object.{Object}
 use Rattle.history.specs.declared.record.Answer.{Answer}
 use Rattle.history.specs.declared.record.Event.{Event}
 use Rattle.history.specs.declared.event.EventRead.{EventRead}
-use Rattle.history.specs.Record.{pad, noObject, answerOf, valuesIn}
-use Rattle.history.specs.Kinds.{opWord, isOp, opOf, hasOp, takesValue, canAnswer}
-use Rattle.history.specs.Faults.{optional, eventLayout, eventLimits, eventFits, eventLong, objectNamed, eventFault, eventSaid, eventSix, eventLine}
-use Rattle.history.specs.HistoryText.{eventText}
+use Rattle.history.specs.Record.{valueBound, pad, noObject, lostAnswer, answerOf, valuesIn}
+use Rattle.history.specs.Kinds.{opWord, isOp, opOf, hasOp, takesValue, canAnswer, mayAnswer}
+use Rattle.history.specs.Faults.{optional, isLost, answerItems, answerSaid, eventLayout, eventLimits, eventFits, eventLong, objectNamed, eventFault, eventSaid, eventSix, eventLine}
+use Rattle.history.specs.HistoryText.{answerText, eventText}
 use Rattle.history.specs.Readable.{allLess, allZero, goodAnswer, goodValue, goodEvent}
 use Rattle.history.proofs.PadLaws.{pad-length, take-pad}
 use Rattle.history.proofs.FaultLaws.{InOrder, fault-none, fault-zero}
@@ -80,33 +80,46 @@ abbrev fieldsOf : ℕ → Event → List (List ℕ)
 fieldsOf own e =
     spell own ∷ spell (e .process .0) ∷ spell (e .object) ∷ opWord (e .op)
     ∷ cond (takesValue (e .op)) (spell (e .value)) dash
-    ∷ listText (valuesIn (e .answer)) ∷ []
+    ∷ answerText (e .answer) ∷ []
 
-fields-without : (b : ℕ) → isDigit b ≡ false → (b ≡ 44 → ⊥) → (b ≡ 45 → ⊥) → (own : ℕ) (e : Event) → without b (opWord (e .op)) ≡ true
+question-without : (b : ℕ) → (b ≡ 63 → ⊥) → without b question ≡ true
+unfolding without
+question-without b h = rw (ne-eqb 63 b (λ q. h (sym q)))
+
+question-holds : without 63 question ≡ true → ⊥
+unfolding without
+question-holds e = false≢true e
+
+answer-without : (b : ℕ) → isDigit b ≡ false → (b ≡ 44 → ⊥) → (b ≡ 45 → ⊥) → (b ≡ 63 → ⊥) → (a : Answer) → without b (answerText a) ≡ true
+unfolding answerText
+answer-without b d c m q a =
+    by-bool (a .lost) (λ l. rw l (question-without b q)) (λ l. rw l (list-without b d c m (valuesIn a)))
+
+fields-without : (b : ℕ) → isDigit b ≡ false → (b ≡ 44 → ⊥) → (b ≡ 45 → ⊥) → (b ≡ 63 → ⊥) → (own : ℕ) (e : Event) → without b (opWord (e .op)) ≡ true
     → allWithout b (fieldsOf own e) ≡ true
 unfolding allWithout
-fields-without b d c m own e w =
+fields-without b d c m q own e w =
     rw (
       spell-without b own d,
       spell-without b (e .process .0) d,
       spell-without b (e .object) d,
       w,
       option-without b d m (takesValue (e .op)) (e .value),
-      list-without b d c m (valuesIn (e .answer)),
+      answer-without b d c m q (e .answer),
     )
 
 text-fields : (own : ℕ) (e : Event) → split 32 (eventText own e) ≡ fieldsOf own e
 unfolding eventText
 text-fields own e =
     split-join 32 (spell own) _
-    (fields-without 32 (digit-low 32 (omega arith)) (λ q. omega arith) (λ q. omega arith) own e (op-without (e .op) .0))
+    (fields-without 32 (digit-low 32 (omega arith)) (λ q. omega arith) (λ q. omega arith) (λ q. omega arith) own e (op-without (e .op) .0))
 
 -- the line holds no line feed
 pub event-clean : (own : ℕ) (e : Event) → without 10 (eventText own e) ≡ true
 unfolding eventText
 event-clean own e =
     join-without 10 32 (λ q. omega arith) (fieldsOf own e)
-    (fields-without 10 (digit-low 10 (omega arith)) (λ q. omega arith) (λ q. omega arith) own e (op-without (e .op) .1))
+    (fields-without 10 (digit-low 10 (omega arith)) (λ q. omega arith) (λ q. omega arith) (λ q. omega arith) own e (op-without (e .op) .1))
 
 -- ---- the places of an answer
 zeros-all : (n : ℕ) → allZero (replicate n 0) ≡ true
@@ -117,8 +130,8 @@ zeros-all (suc n) = zeros-all n
 -- what a good answer says
 record GoodAnswer (object : Object) (op : Op) (a : Answer) : Type 0 where
   few : a .count ≤ 8
-  can : canAnswer object op (a .count) ≡ true
-  small : allLess 65536 (valuesIn a) ≡ true
+  can : mayAnswer object op a ≡ true
+  small : allLess valueBound (valuesIn a) ≡ true
   long : length (a .values) ≡ 8
   rest : allZero (drop (a .count) (a .values)) ≡ true
 
@@ -126,32 +139,77 @@ good-answer : (object : Object) (op : Op) (a : Answer) → goodAnswer object op 
 unfolding goodAnswer
 good-answer object op a e =
     let b₁ : Bool = leb (a .count) 8 in
-    let b₂ : Bool = b₁ && canAnswer object op (a .count) in
-    let b₃ : Bool = b₂ && allLess 65536 (valuesIn a) in
+    let b₂ : Bool = b₁ && mayAnswer object op a in
+    let b₃ : Bool = b₂ && allLess valueBound (valuesIn a) in
     let b₄ : Bool = b₃ && eqb (length (a .values)) 8 in
     let e₄ = and-left b₄ (allZero (drop (a .count) (a .values))) e in
     let e₃ = and-left b₃ (eqb (length (a .values)) 8) e₄ in
-    let e₂ = and-left b₂ (allLess 65536 (valuesIn a)) e₃ in
+    let e₂ = and-left b₂ (allLess valueBound (valuesIn a)) e₃ in
     record {
-      few = leb-true (a .count) 8 (and-left b₁ (canAnswer object op (a .count)) e₂);
-      can = and-right b₁ (canAnswer object op (a .count)) e₂;
-      small = and-right b₂ (allLess 65536 (valuesIn a)) e₃;
+      few = leb-true (a .count) 8 (and-left b₁ (mayAnswer object op a) e₂);
+      can = and-right b₁ (mayAnswer object op a) e₂;
+      small = and-right b₂ (allLess valueBound (valuesIn a)) e₃;
       long = eqb-true (length (a .values)) 8 (and-right b₃ (eqb (length (a .values)) 8) e₄);
       rest = and-right b₄ (allZero (drop (a .count) (a .values))) e;
     }
+
+-- a list is not `?`
+list-not-question : (xs : List ℕ) → same (listText xs) question ≡ false
+unfolding isDigit
+list-not-question xs =
+    by-bool (same (listText xs) question)
+    (λ q. absurd (question-holds (ap (without 63) (sym (same-true (listText xs) question q))
+    ∙ list-without 63 refl (λ k. omega arith) (λ k. omega arith) xs)))
+    (λ q. q)
+
+answer-parts : (l : Bool) (c : ℕ) (vs : List ℕ) (a : Answer) → l ≡ a .lost → c ≡ a .count → vs ≡ a .values
+    → _≡_ {A = Answer} (record { lost = l; count = c; values = vs }) a
+answer-parts l c vs a p q r = rw (p, q, r)
 
 module _ {object : Object} {op : Op} {a : Answer} (g : GoodAnswer object op a) where
   answer-count : length (valuesIn a) ≡ a .count
   answer-count = length-take-le (a .count) (a .values) (omega arith)
 
-  -- it is the answer of its values
-  answer-whole : answerOf (valuesIn a) ≡ a
-  unfolding answerOf pad
-  answer-whole =
+  -- its places are those of its values
+  answer-places : pad 8 0 (valuesIn a) ≡ a .values
+  unfolding pad
+  answer-places =
       let n : length (drop (a .count) (a .values)) ≡ 8 - a .count = omega (arith, length-drop (a .count) (a .values)) in
       let r : replicate (8 - a .count) 0 ≡ drop (a .count) (a .values) =
       sym (zero-is (drop (a .count) (a .values)) (g .rest) ∙ ap (λ (k : ℕ). replicate k 0) n) in
       rw (answer-count, r, take-append-drop (a .count) (a .values))
+
+  -- one that was lost has no value
+  lost-none : a .lost ≡ true → a .count ≡ 0
+  lost-none l = eqb-true (a .count) 0 (rw l at (g .can))
+
+  lost-values : a .lost ≡ true → valuesIn a ≡ []
+  lost-values l = rw (lost-none l)
+
+  -- as it is written: its items, and what they say
+  answer-items : answerItems (answerText a) ≡ map spell (valuesIn a)
+  unfolding answerItems answerText isLost
+  answer-items =
+      by-bool (a .lost)
+      (λ l. rw (l, same-refl question, lost-values l))
+      (λ l. rw (l, list-not-question (valuesIn a)) (items-text (valuesIn a)))
+
+  said-by : (b : Bool) → b ≡ a .lost → answerSaid (cond b question (listText (valuesIn a))) ≡ a
+  unfolding answerSaid answerOf isLost pad
+  said-by true l =
+      rw (same-refl question)
+      (answer-parts true 0 (replicate 8 0) a l (sym (lost-none (sym l))) (ap (pad 8 0) (sym (lost-values (sym l))) ∙ answer-places))
+  said-by false l =
+      rw (list-not-question (valuesIn a), numbers-written (valuesIn a))
+      (answer-parts false (length (valuesIn a)) (pad 8 0 (valuesIn a)) a l answer-count answer-places)
+
+  answer-said : answerSaid (answerText a) ≡ a
+  unfolding answerText
+  answer-said = said-by (a .lost) refl
+
+  answer-can : leb (length (answerItems (answerText a))) 8 && mayAnswer object op (answerSaid (answerText a)) ≡ true
+  answer-can =
+      rw (answer-items, length-map (valuesIn a) spell, answer-count, le-leb (a .count) 8 (g .few), answer-said) (g .can)
 
 drop-pad : (xs : List ℕ) → drop (length xs) (pad 8 0 xs) ≡ replicate (8 - length xs) 0
 unfolding pad
@@ -159,11 +217,15 @@ drop-pad xs = drop-append-seam xs (replicate (8 - length xs) 0)
 
 -- the answer of a few small values is good
 pub made-good : (object : Object) (op : Op) (xs : List ℕ) → length xs ≤ 8 → canAnswer object op (length xs) ≡ true
-    → allLess 65536 xs ≡ true → goodAnswer object op (answerOf xs) ≡ true
+    → allLess valueBound xs ≡ true → goodAnswer object op (answerOf xs) ≡ true
 unfolding goodAnswer answerOf
 made-good object op xs h c s =
     let z : drop (length xs) (pad 8 0 xs) ≡ replicate (8 - length xs) 0 = drop-pad xs in
     rw (le-leb (length xs) 8 h, c, take-pad 8 0 xs, s, pad-length 8 0 xs h, z) (zeros-all (8 - length xs))
+
+pub made-lost : (object : Object) (op : Op) → goodAnswer object op lostAnswer ≡ true
+unfolding goodAnswer allLess allZero
+made-lost object op = refl
 
 -- ---- the values of an answer, as they are spelt
 spells-numbers : (xs : List ℕ) → allNumbers (map spell xs) ≡ true
@@ -186,17 +248,17 @@ values-less bound (p ∷ ps) e =
     (values-less bound ps (and-right (ltb (value p) bound) (allBelow bound ps) e))
 
 -- ---- the value of an event
-given-limits : (t : Bool) (n : ℕ) → cond t (ltb n 65536) (eqb n 0) ≡ true
-    → same (cond t (spell n) dash) dash || ltb (value (cond t (spell n) dash)) 65536 ≡ true
+given-limits : (t : Bool) (n : ℕ) → cond t (ltb n valueBound) (eqb n 0) ≡ true
+    → same (cond t (spell n) dash) dash || ltb (value (cond t (spell n) dash)) valueBound ≡ true
 given-limits true n g = rw (spell-not-dash n, value-spell n) g
 given-limits false n g = rw (same-refl dash)
 
-given-value : (t : Bool) (n : ℕ) → cond t (ltb n 65536) (eqb n 0) ≡ true → optional (cond t (spell n) dash) ≡ n
+given-value : (t : Bool) (n : ℕ) → cond t (ltb n valueBound) (eqb n 0) ≡ true → optional (cond t (spell n) dash) ≡ n
 given-value true n g = option-value true n
 given-value false n g = option-value false n ∙ sym (eqb-true n 0 g)
 
-given-good : (t : Bool) (v : List ℕ) → same v dash || ltb (value v) 65536 ≡ true
-    → cond t (not (same v dash)) (same v dash) ≡ true → cond t (ltb (optional v) 65536) (eqb (optional v) 0) ≡ true
+given-good : (t : Bool) (v : List ℕ) → same v dash || ltb (value v) valueBound ≡ true
+    → cond t (not (same v dash)) (same v dash) ≡ true → cond t (ltb (optional v) valueBound) (eqb (optional v) 0) ≡ true
 unfolding optional
 given-good true v l f = let d = not-true (same v dash) f in rw d (rw d at l)
 given-good false v l f = rw f
@@ -207,7 +269,7 @@ record GoodEvent (os : List Object) (e : Event) : Type 0 where
   process : ltb (e .process .0) 8 ≡ true
   object : ltb (e .object) (length os) ≡ true
   has : hasOp (getD os (e .object) noObject .kind) (e .op) ≡ true
-  given : cond (takesValue (e .op)) (ltb (e .value) 65536) (eqb (e .value) 0) ≡ true
+  given : cond (takesValue (e .op)) (ltb (e .value) valueBound) (eqb (e .value) 0) ≡ true
   answer : GoodAnswer (getD os (e .object) noObject) (e .op) (e .answer)
 
 good-event : (os : List Object) (e : Event) → goodEvent os e ≡ true → GoodEvent os e
@@ -243,7 +305,7 @@ module _ (own : ℕ) (os : List Object) (e : Event) (h : own < 64) (g : GoodEven
   vText = cond (takesValue (e .op)) (spell (e .value)) dash
 
   abbrev sText : List ℕ
-  sText = listText (valuesIn (e .answer))
+  sText = answerText (e .answer)
 
   layout-text : eventLayout own (spell own) pText oText wText vText sText ≡ true
   unfolding eventLayout
@@ -254,7 +316,7 @@ module _ (own : ℕ) (os : List Object) (e : Event) (h : own < 64) (g : GoodEven
         number-spell (e .object),
         op-known (e .op),
         option-layout (takesValue (e .op)) (e .value),
-        items-text (valuesIn (e .answer)),
+        answer-items (g .answer),
       )
       (spells-numbers (valuesIn (e .answer)))
 
@@ -268,9 +330,9 @@ module _ (own : ℕ) (os : List Object) (e : Event) (h : own < 64) (g : GoodEven
         value-spell (e .object),
         g .object,
         given-limits (takesValue (e .op)) (e .value) (g .given),
-        items-text (valuesIn (e .answer)),
+        answer-items (g .answer),
       )
-      (spells-below 65536 (valuesIn (e .answer)) (g .answer .small))
+      (spells-below valueBound (valuesIn (e .answer)) (g .answer .small))
 
   fits-text : eventFits (objectNamed os oText) wText vText ≡ true
   unfolding eventFits
@@ -278,16 +340,7 @@ module _ (own : ℕ) (os : List Object) (e : Event) (h : own < 64) (g : GoodEven
 
   long-text : eventLong (objectNamed os oText) wText sText ≡ true
   unfolding eventLong
-  long-text =
-      rw (
-        value-spell (e .object),
-        op-word (e .op),
-        items-text (valuesIn (e .answer)),
-        length-map (valuesIn (e .answer)) spell,
-        answer-count (g .answer),
-        le-leb (e .answer .count) 8 (g .answer .few),
-      )
-      (g .answer .can)
+  long-text = rw (value-spell (e .object), op-word (e .op)) (answer-can (g .answer))
 
   fault-text : eventFault own os (spell own) pText oText wText vText sText ≡ 0
   unfolding eventFault
@@ -301,8 +354,7 @@ module _ (own : ℕ) (os : List Object) (e : Event) (h : own < 64) (g : GoodEven
         value-spell (e .object),
         op-word (e .op),
         given-value (takesValue (e .op)) (e .value) (g .given),
-        numbers-written (valuesIn (e .answer)),
-        answer-whole (g .answer),
+        answer-said (g .answer),
       )
 
   six-text : eventSix own os (spell own) pText oText wText vText sText ≡ record { fault = 0; event = e }
@@ -355,26 +407,59 @@ module _ (own : ℕ) (os : List Object) (a p o w v s : List ℕ)
   unfolding eventFits
   read-given = and-right (hasOp (objectNamed os o .kind) (opOf w)) _ (i .fits)
 
-  read-few : leb (length (itemsOf s)) 8 ≡ true
+  read-eight : leb (length (answerItems s)) 8 ≡ true
   unfolding eventLong
-  read-few = and-left (leb (length (itemsOf s)) 8) (canAnswer (objectNamed os o) (opOf w) (length (itemsOf s))) (i .long)
+  read-eight = and-left (leb (length (answerItems s)) 8) (mayAnswer (objectNamed os o) (opOf w) (answerSaid s)) (i .long)
 
-  read-can : canAnswer (objectNamed os o) (opOf w) (length (itemsOf s)) ≡ true
+  read-may : mayAnswer (objectNamed os o) (opOf w) (answerSaid s) ≡ true
   unfolding eventLong
-  read-can = and-right (leb (length (itemsOf s)) 8) (canAnswer (objectNamed os o) (opOf w) (length (itemsOf s))) (i .long)
+  read-may = and-right (leb (length (answerItems s)) 8) (mayAnswer (objectNamed os o) (opOf w) (answerSaid s)) (i .long)
 
-  read-count : length (numbersOf s) ≡ length (itemsOf s)
-  unfolding numbersOf
-  read-count = length-map (itemsOf s) value
+  -- an answer that was not lost
+  module _ (kept : isLost s ≡ false) where
+    read-few : leb (length (itemsOf s)) 8 ≡ true
+    unfolding answerItems
+    read-few = rw kept at read-eight
 
-  read-small : allLess 65536 (numbersOf s) ≡ true
-  unfolding numbersOf
-  read-small = values-less 65536 (itemsOf s) (fields-limited .answer)
+    read-can : canAnswer (objectNamed os o) (opOf w) (length (numbersOf s)) ≡ true
+    unfolding answerSaid answerOf
+    read-can = rw kept at read-may
 
-  read-answer : goodAnswer (objectNamed os o) (opOf w) (answerOf (numbersOf s)) ≡ true
-  read-answer =
-      made-good (objectNamed os o) (opOf w) (numbersOf s) (omega (arith, leb-true (length (itemsOf s)) 8 read-few, read-count))
-      (ap (canAnswer (objectNamed os o) (opOf w)) read-count ∙ read-can) read-small
+    read-count : length (numbersOf s) ≡ length (itemsOf s)
+    unfolding numbersOf
+    read-count = length-map (itemsOf s) value
+
+    read-numbers : allNumbers (itemsOf s) ≡ true
+    unfolding answerItems
+    read-numbers = rw kept at (fields-laid .answer)
+
+    read-below : allBelow valueBound (itemsOf s) ≡ true
+    unfolding answerItems
+    read-below = rw kept at (fields-limited .answer)
+
+    read-small : allLess valueBound (numbersOf s) ≡ true
+    unfolding numbersOf
+    read-small = values-less valueBound (itemsOf s) read-below
+
+    read-listed : listOf valueBound 8 s ≡ Listed (length (itemsOf s))
+    unfolding listOf judged
+    read-listed = rw (read-numbers, read-below, read-few)
+
+    kept-good : goodAnswer (objectNamed os o) (opOf w) (answerOf (numbersOf s)) ≡ true
+    kept-good =
+        made-good (objectNamed os o) (opOf w) (numbersOf s) (omega (arith, leb-true (length (itemsOf s)) 8 read-few, read-count))
+        read-can read-small
+
+  read-answer : goodAnswer (objectNamed os o) (opOf w) (answerSaid s) ≡ true
+  unfolding answerSaid
+  read-answer = by-bool (isLost s) (λ l. rw l (made-lost (objectNamed os o) (opOf w))) (λ l. rw l (kept-good l))
+
+  read-said : answerText (answerSaid s) ≡ s
+  unfolding answerText answerSaid isLost answerOf
+  read-said =
+      by-bool (isLost s)
+      (λ l. rw l (sym (same-true s question l)))
+      (λ l. rw (l, take-pad 8 0 (numbersOf s)) (written-read valueBound 8 (length (itemsOf s)) s (read-listed l)))
 
   read-value : goodValue (opOf w) (optional v) ≡ true
   unfolding goodValue
@@ -383,10 +468,6 @@ module _ (own : ℕ) (os : List Object) (a p o w v s : List ℕ)
   read-good : goodEvent os (eventSaid p o w v s) ≡ true
   unfolding goodEvent eventSaid
   read-good = rw (fields-limited .process, fields-limited .object, read-has, read-value) read-answer
-
-  read-listed : listOf 65536 8 s ≡ Listed (length (itemsOf s))
-  unfolding listOf judged
-  read-listed = rw (fields-laid .answer, fields-limited .answer, read-few)
 
   read-fields : fieldsOf own (eventSaid p o w v s) ≡ a ∷ p ∷ o ∷ w ∷ v ∷ s ∷ []
   unfolding eventSaid
@@ -397,8 +478,7 @@ module _ (own : ℕ) (os : List Object) (a p o w v s : List ℕ)
         spell-value o (fields-laid .object),
         word-op w (fields-laid .op),
         option-says (takesValue (opOf w)) v (fields-laid .given) read-given,
-        values-of (numbersOf s),
-        written-read 65536 8 (length (itemsOf s)) s read-listed,
+        read-said,
       )
 
 -- a line without a fault has six fields without a fault, and says what they say

@@ -9,9 +9,10 @@ ghost use Rattle.layout.specs.Split.{find};
 ghost use Rattle.layout.specs.Word.{dash};
 ghost use Rattle.layout.specs.Number.{spell};
 ghost use Rattle.layout.specs.Steps.Stands.{Stands};
-ghost use Rattle.history.specs.Record.{noEvent};
+ghost use Rattle.history.specs.Record.{valueBound, noEvent};
 ghost use Rattle.history.specs.Kinds.{opWord};
 ghost use Rattle.event_reader.specs.Steps.Next.{nextRead, AnswerFrom};
+use history::answer::lost_answer;
 use history::answer::no_answer;
 use history::event::read_event;
 use history::record::Answer;
@@ -19,8 +20,10 @@ use history::record::Event;
 use history::record::Object;
 use history::record::Op;
 use history::record::ProcessNo;
-use history::word::can_answer;
+use history::record::VALUES;
+use history::record::Value;
 use history::word::has_op;
+use history::word::may_answer;
 use history::word::takes_value;
 use layout::number::number_at;
 use layout::number::spaced_number;
@@ -47,7 +50,7 @@ struct OpAt {
 // A value, or `-`, and a space, with the place behind them.
 struct ValueAt {
     pub known: bool,
-    pub value: u16,
+    pub value: Value,
     pub end: usize,
 }
 
@@ -108,16 +111,16 @@ fn op_at(text: &[u8], from: usize) -> OpAt
 // The value that stands at a place with a space behind it: a number where one is wanted, and else `-`.
 fn value_at(text: &[u8], from: usize, wanted: bool) -> ValueAt
     requires { ⌜ from ≤ length (now text) ⌝ }
-    ensures { λ r. ⌜ (r .known ≡ true → (cond wanted (ltb (r .value) 65536) (eqb (r .value) 0) ≡ true) × Stands (cond wanted (spell (r .value)) dash ++ 32 ∷ []) from (r .end) (now (text .entry))) ⌝ }
+    ensures { λ r. ⌜ (r .known ≡ true → (cond wanted (ltb (r .value) valueBound) (eqb (r .value) 0) ≡ true) × Stands (cond wanted (spell (r .value)) dash ++ 32 ∷ []) from (r .end) (now (text .entry))) ⌝ }
 {
     if wanted {
-        let n = spaced_number(text, from, 65536);
+        let n = spaced_number(text, from, VALUES);
         let end = n.end;
         let v = n.value;
-        if v < 65536 {
+        if v < VALUES {
             return ValueAt {
                 known: true,
-                value: v as u16,
+                value: v as Value,
                 end,
             };
         }
@@ -153,29 +156,50 @@ fn unknown_answer(from: usize) -> AnswerAt
     }
 }
 
-// The answer that stands at a place as values with commas between them, and its line feed.
+// The answer that stands at a place as `?`, and its line feed.
+fn lost_at(text: &[u8], from: usize) -> AnswerAt
+    requires { ⌜ from ≤ length (now text) ⌝ }
+    ensures { λ r. ⌜ (r .known ≡ true → AnswerFrom from (now (text .entry)) r) ⌝ }
+{
+    if stands_at(text, from, b"?\n") {
+        let answer = lost_answer();
+        return AnswerAt {
+            known: true,
+            answer,
+            end: from + 1,
+        };
+    }
+    unknown_answer(from)
+}
+
+// The answer that stands at a place as values with commas between them, or as `?`, and its line feed. Few answers are lost, so `?` is
+// looked for where no number stands.
 fn values_at(text: &[u8], from: usize) -> AnswerAt
     requires { ⌜ from ≤ length (now text) ⌝ }
     ensures { λ r. ⌜ (r .known ≡ true → AnswerFrom from (now (text .entry)) r) ⌝ }
 {
-    let mut values = [0u16; 8];
+    let mut values = [0 as Value; 8];
     let mut k: usize = 0;
     let mut a = from;
     while k < 8 {
-        let n = number_at(text, a, 65536);
+        let n = number_at(text, a, VALUES);
         let v = n.value;
         let e = n.end;
-        if v >= 65536 {
-            return unknown_answer(from);
+        if v >= VALUES {
+            return lost_at(text, from);
         }
         if e >= text.len() {
             return unknown_answer(from);
         }
         let c = text[e];
-        values[k] = v as u16;
+        values[k] = v as Value;
         k += 1;
         if c == 10 {
-            let answer = Answer { count: k, values };
+            let answer = Answer {
+                lost: false,
+                count: k as u8,
+                values,
+            };
             return AnswerAt {
                 known: true,
                 answer,
@@ -279,7 +303,7 @@ fn quick_event(
     if !s.known {
         return no_event(from);
     }
-    if !can_answer(object, op, answer.count) {
+    if !may_answer(object, op, answer.lost, answer.count) {
         return no_event(from);
     }
     NextEvent {

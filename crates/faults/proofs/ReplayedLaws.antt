@@ -32,7 +32,7 @@ use Rattle.replays.specs.declared.replay.Visible.{Visible}
 use Rattle.replays.specs.declared.replay.Visible.the-variants.{Only}
 use Rattle.replayed_views.specs.declared.search.Place.{Place}
 use Rattle.replays.specs.Replay.{noLight, lightHistory, contentsIn, isVisible, foundEvent, Ready}
-use Rattle.replays.specs.Light.{lightOf}
+use Rattle.replays.specs.Light.{lightOf, countOf}
 use Rattle.replayed_views.specs.Search.{atView, placeOf, wrongIn}
 use Rattle.replays.specs.Visible.{noVisible, visibleAt}
 use Rattle.replayed_views.specs.Cut.{wrongCut}
@@ -42,7 +42,7 @@ use Rattle.replays.proofs.VisibleLaws.{visible-is}
 use Rattle.replayed_views.proofs.CutLaws.{first-below, kept-below}
 use Rattle.faults.specs.Steps.{isConverge}
 use Rattle.faults.proofs.FoundLaws.{lowest-same}
-use Rattle.faults.proofs.RecordFacts.{objects-agree, events-long, object-declared}
+use Rattle.faults.proofs.RecordFacts.{objects-agree, events-long, object-declared, answers-small}
 
 -- ---- the lowest that is found
 module _ {A : Type 0} where
@@ -133,7 +133,7 @@ pub record Taken (h : written-history.History) (ls : List Light) (vs : List ℕ)
   pub lights : Made lightOf noEvent noLight (h .events) ls 64
   pub values : (getD vs 64 0 ≡ 0) × Made (λ (x : written-event.Event). x .value) noEvent 0 (h .events) vs 64
   pub answered-as : Made (λ (x : written-event.Event). x .answer .values) noEvent [] (h .events) answers 64
-  pub counts : Made (λ (x : written-event.Event). x .answer .count) noEvent 0 (h .events) cs 64
+  pub counts : Made (λ (x : written-event.Event). countOf (x .answer)) noEvent 0 (h .events) cs 64
   pub fresh-as : (o : ℕ) → o < 16 → Fresh (getD (h .objects) o noObject) (getD states o noState)
   pub values-long : length vs ≡ 65
   pub states-long : length states ≡ 16
@@ -158,7 +158,7 @@ module _ {h : written-history.History} {ls : List Light} {vs : List ℕ} {answer
       ≡ firstWrong (historyOf h) (isVisible (historyOf h) who) (start (historyOf h)) view
   replayed-is who view inside =
       let s = within-sound h (asked .0) in
-      replay-is h ls vs answers cs states (t .lights) (t .values .1) (t .answered-as) (t .counts) (t .values .0) (s .count) (events-long h (asked .0))
+      replay-is h ls vs answers cs states (t .lights) (t .values .1) (t .answered-as) (t .counts) (answers-small h (asked .0)) (t .values .0) (s .count) (events-long h (asked .0))
       (omega (arith, s .objects, s .declared, t .states-long)) (objects-agree h (asked .0)) (λ o l. t .fresh-as o (omega (arith, l, s .objects, s .declared)))
       who view (λ e q. object-declared h (asked .0) e (inside e q))
 

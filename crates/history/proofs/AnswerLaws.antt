@@ -9,38 +9,43 @@ use lib.Seq.{getD-take}
 use borrow.Author.Tests.{le-leb}
 use Rattle.layout.specs.declared.list.ListRead.the-variants.{NotList, Over, Many, Listed}
 use Rattle.layout.specs.Fill.{fill}
-use Rattle.layout.specs.List.{itemsOf, listOf, numbersOf, leading}
+use Rattle.layout.specs.List.{itemsOf, allNumbers, allBelow, listOf, numbersOf, leading}
 use Rattle.layout.proofs.ListLaws.{is-list, list-not, list-over, list-many, numbers-below, numbers-kept}
-use Rattle.history.specs.Record.{answerOf, noAnswer}
+use Rattle.history.specs.Record.{valueBound, answerOf, noAnswer, lostAnswer}
+use Rattle.history.specs.Faults.{isLost, answerItems, answerSaid}
 use Rattle.history.specs.Steps.Fields.{isAnswer, answerField}
 
-module _ (f : List ℕ) where
-  pub answer-not : listOf 65536 8 f ≡ NotList → answerField f ≡ record { spelt = false; below = false; few = false; answer = noAnswer }
-  unfolding answerField isAnswer
-  answer-not q = rw (list-not 65536 8 f q)
+pub answer-lost : (f : List ℕ) → isLost f ≡ true → answerField f ≡ record { spelt = true; below = true; few = true; answer = lostAnswer }
+unfolding answerField isAnswer answerItems answerSaid allNumbers allBelow
+answer-lost f d = rw d
 
-  pub answer-over : listOf 65536 8 f ≡ Over → answerField f ≡ record { spelt = true; below = false; few = false; answer = noAnswer }
-  unfolding answerField isAnswer
-  answer-over q = let t = list-over 65536 8 f q in rw (t .0, t .1)
+module _ (f : List ℕ) (d : isLost f ≡ false) where
+  pub answer-not : listOf valueBound 8 f ≡ NotList → answerField f ≡ record { spelt = false; below = false; few = false; answer = noAnswer }
+  unfolding answerField isAnswer answerItems answerSaid
+  answer-not q = rw (d, list-not valueBound 8 f q)
 
-  pub answer-many : listOf 65536 8 f ≡ Many → answerField f ≡ record { spelt = true; below = true; few = false; answer = noAnswer }
-  unfolding answerField isAnswer
-  answer-many q = let t = list-many 65536 8 f q in rw (t .0, t .1, t .2)
+  pub answer-over : listOf valueBound 8 f ≡ Over → answerField f ≡ record { spelt = true; below = false; few = false; answer = noAnswer }
+  unfolding answerField isAnswer answerItems answerSaid
+  answer-over q = let t = list-over valueBound 8 f q in rw (d, t .0, t .1)
 
-  module _ (n : ℕ) (q : listOf 65536 8 f ≡ Listed n) (xs ys : List ℕ) (e : xs ≡ fill (leading 65536 8 (itemsOf f)) ys) where
+  pub answer-many : listOf valueBound 8 f ≡ Many → answerField f ≡ record { spelt = true; below = true; few = false; answer = noAnswer }
+  unfolding answerField isAnswer answerItems answerSaid
+  answer-many q = let t = list-many valueBound 8 f q in rw (d, t .0, t .1, t .2)
+
+  module _ (n : ℕ) (q : listOf valueBound 8 f ≡ Listed n) (xs ys : List ℕ) (e : xs ≡ fill (leading valueBound 8 (itemsOf f)) ys) where
     pub answer-few : n ≤ 8
-    answer-few = is-list 65536 8 n f q .few
+    answer-few = is-list valueBound 8 n f q .few
 
-    pub answer-small : (i : ℕ) → i < n → getD xs i 0 < 65536
+    pub answer-small : (i : ℕ) → i < n → getD xs i 0 < valueBound
     answer-small i h =
-        let l = is-list 65536 8 n f q in
+        let l = is-list valueBound 8 n f q in
         let k : getD xs i 0 ≡ getD (numbersOf f) i 0 =
         sym (getD-take n xs i 0 h) ∙ ap (λ (t : List ℕ). getD t i 0) (numbers-kept l xs ys e) in
         omega (arith, numbers-below l i h)
 
     pub answer-listed : answerField f ≡ record { spelt = true; below = true; few = true; answer = answerOf (take n xs) }
-    unfolding answerField isAnswer
+    unfolding answerField isAnswer answerItems answerSaid
     answer-listed =
-        let l = is-list 65536 8 n f q in
+        let l = is-list valueBound 8 n f q in
         let k : length (itemsOf f) ≤ 8 = omega (arith, l .count, l .few) in
-        rw (l .numbers, l .small, le-leb (length (itemsOf f)) 8 k, numbers-kept l xs ys e)
+        rw (d, l .numbers, l .small, le-leb (length (itemsOf f)) 8 k, numbers-kept l xs ys e)

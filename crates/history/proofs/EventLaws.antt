@@ -3,14 +3,14 @@ use Prim.Native.Nat.{ℕ, _-_, _≤_, _<_}
 use mathlib.Core.Path.{_≡_, refl, sym, ap, _∙_}
 use mathlib.Core.Bool.{Bool, true, cond, not, _&&_, _||_}
 use mathlib.Core.List.{List, []}
-use lib.ListN.{length, getD, take, length-map}
+use lib.ListN.{length, getD, take}
 use lib.Dec.{leb, ltb}
 use lib.Seq.{length-take-le, getD-take}
 use borrow.Author.Tests.{eq-eqb, ne-eqb, ltb-true}
 use Rattle.layout.specs.Split.{split}
 use Rattle.layout.specs.Word.{same, dash}
 use Rattle.layout.specs.Number.{isNumber, value, spell}
-use Rattle.layout.specs.List.{itemsOf, allNumbers, allBelow, numbersOf}
+use Rattle.layout.specs.List.{allNumbers, allBelow}
 use Rattle.layout.proofs.Cases.{by-bool, by-eq, and-left, and-right}
 use Rattle.history.specs.declared.record.Op.{Op}
 use Rattle.history.specs.declared.record.Object.{Object}
@@ -18,9 +18,9 @@ use Rattle.history.specs.declared.record.Event.{Event}
 use Rattle.history.specs.declared.field.NumberField.{NumberField}
 use Rattle.history.specs.declared.field.OptionalField.{OptionalField}
 use Rattle.history.specs.declared.answer.AnswerField.{AnswerField}
-use Rattle.history.specs.Record.{noObject, answerOf}
-use Rattle.history.specs.Kinds.{isOp, opOf, hasOp, takesValue, canAnswer}
-use Rattle.history.specs.Faults.{firstFault, isOptional, optional, eventLayout, eventLimits, eventFits, eventLong, objectNamed, eventFault, faultyEvent, eventWith, eventSaid, eventSix, eventFields, eventLine}
+use Rattle.history.specs.Record.{valueBound, noObject}
+use Rattle.history.specs.Kinds.{isOp, opOf, hasOp, takesValue, mayAnswer}
+use Rattle.history.specs.Faults.{firstFault, isOptional, optional, answerItems, answerSaid, eventLayout, eventLimits, eventFits, eventLong, objectNamed, eventFault, faultyEvent, eventWith, eventSaid, eventSix, eventFields, eventLine}
 use Rattle.history.specs.Steps.Fields.{isBelow, numberField, optionalField, isAnswer, answerField, judgedFault, eventJudged}
 use Rattle.history.proofs.FaultLaws.{fault-same, fault-none, below-is, number-is, optional-is}
 
@@ -36,7 +36,7 @@ module _ (fault : ℕ) (e : Event) where
 pub judged-is : (numbered : Bool) (own : ℕ) (process number : NumberField) (known : Bool) (op : Op) (value : OptionalField)
     (list : AnswerField) (object : Object) (has takes fits can : Bool)
     → has ≡ hasOp (object .kind) op → takes ≡ takesValue op → fits ≡ cond takes (not (value .dash)) (value .dash)
-    → can ≡ canAnswer object op (list .answer .count)
+    → can ≡ mayAnswer object op (list .answer)
     → firstFault (numbered && process .spelt && number .spelt && known && value .spelt && list .spelt)
     (ltb own 64 && process .below && number .below && value .below && list .below) (has && fits) (list .few && can)
     ≡ judgedFault numbered own process number known op value list object
@@ -51,19 +51,17 @@ unfolding isOptional optionalField
 optional-below bound v o =
     by-bool (same v dash) (λ d. rw d) (λ d. rw d (below-is bound v (rw d at o)))
 
-answer-below : (s : List ℕ) → allNumbers (itemsOf s) ≡ true → answerField s .below ≡ allBelow 65536 (itemsOf s)
+answer-below : (s : List ℕ) → allNumbers (answerItems s) ≡ true → answerField s .below ≡ allBelow valueBound (answerItems s)
 unfolding answerField
 answer-below s e = rw e
 
--- an answer of at most eight values has the length of its list
-answer-long : (object : Object) (op : Op) (s : List ℕ) → allNumbers (itemsOf s) ≡ true → allBelow 65536 (itemsOf s) ≡ true
-    → answerField s .few && canAnswer object op (answerField s .answer .count)
-    ≡ leb (length (itemsOf s)) 8 && canAnswer object op (length (itemsOf s))
-unfolding answerField isAnswer answerOf numbersOf
+-- an answer of at most eight values is the one that its field says
+answer-long : (object : Object) (op : Op) (s : List ℕ) → allNumbers (answerItems s) ≡ true → allBelow valueBound (answerItems s) ≡ true
+    → answerField s .few && mayAnswer object op (answerField s .answer)
+    ≡ leb (length (answerItems s)) 8 && mayAnswer object op (answerSaid s)
+unfolding answerField isAnswer
 answer-long object op s a b =
-    by-bool (leb (length (itemsOf s)) 8)
-    (λ l. rw (a, b, l) (ap (canAnswer object op) (length-map (itemsOf s) value)))
-    (λ l. rw (a, b, l))
+    by-bool (leb (length (answerItems s)) 8) (λ l. rw (a, b, l)) (λ l. rw (a, b, l))
 
 -- what the layout of six fields says of each
 pub record Laid (own : ℕ) (a p o w v s : List ℕ) : Type 0 where
@@ -72,7 +70,7 @@ pub record Laid (own : ℕ) (a p o w v s : List ℕ) : Type 0 where
   pub object : isNumber o ≡ true
   pub op : isOp w ≡ true
   pub given : isOptional v ≡ true
-  pub answer : allNumbers (itemsOf s) ≡ true
+  pub answer : allNumbers (answerItems s) ≡ true
 
 pub laid : (own : ℕ) (a p o w v s : List ℕ) → eventLayout own a p o w v s ≡ true → Laid own a p o w v s
 unfolding eventLayout
@@ -81,7 +79,7 @@ laid own a p o w v s e =
     let b₃ : Bool = b₂ && isNumber o in
     let b₄ : Bool = b₃ && isOp w in
     let b₅ : Bool = b₄ && isOptional v in
-    let e₅ = and-left b₅ (allNumbers (itemsOf s)) e in
+    let e₅ = and-left b₅ (allNumbers (answerItems s)) e in
     let e₄ = and-left b₄ (isOptional v) e₅ in
     let e₃ = and-left b₃ (isOp w) e₄ in
     let e₂ = and-left b₂ (isNumber o) e₃ in
@@ -91,7 +89,7 @@ laid own a p o w v s e =
       object = and-right b₂ (isNumber o) e₃;
       op = and-right b₃ (isOp w) e₄;
       given = and-right b₄ (isOptional v) e₅;
-      answer = and-right b₅ (allNumbers (itemsOf s)) e;
+      answer = and-right b₅ (allNumbers (answerItems s)) e;
     }
 
 -- what their limits say of each
@@ -99,30 +97,30 @@ pub record Limited (own declared : ℕ) (p o v s : List ℕ) : Type 0 where
   pub numbered : ltb own 64 ≡ true
   pub process : ltb (value p) 8 ≡ true
   pub object : ltb (value o) declared ≡ true
-  pub given : same v dash || ltb (value v) 65536 ≡ true
-  pub answer : allBelow 65536 (itemsOf s) ≡ true
+  pub given : same v dash || ltb (value v) valueBound ≡ true
+  pub answer : allBelow valueBound (answerItems s) ≡ true
 
 pub limited : (own declared : ℕ) (p o v s : List ℕ) → eventLimits own declared p o v s ≡ true → Limited own declared p o v s
 unfolding eventLimits
 limited own declared p o v s e =
     let b₂ : Bool = ltb own 64 && ltb (value p) 8 in
     let b₃ : Bool = b₂ && ltb (value o) declared in
-    let b₄ : Bool = b₃ && (same v dash || ltb (value v) 65536) in
-    let e₄ = and-left b₄ (allBelow 65536 (itemsOf s)) e in
-    let e₃ = and-left b₃ (same v dash || ltb (value v) 65536) e₄ in
+    let b₄ : Bool = b₃ && (same v dash || ltb (value v) valueBound) in
+    let e₄ = and-left b₄ (allBelow valueBound (answerItems s)) e in
+    let e₃ = and-left b₃ (same v dash || ltb (value v) valueBound) e₄ in
     let e₂ = and-left b₂ (ltb (value o) declared) e₃ in
     record {
       numbered = and-left (ltb own 64) (ltb (value p) 8) e₂;
       process = and-right (ltb own 64) (ltb (value p) 8) e₂;
       object = and-right b₂ (ltb (value o) declared) e₃;
-      given = and-right b₃ (same v dash || ltb (value v) 65536) e₄;
-      answer = and-right b₄ (allBelow 65536 (itemsOf s)) e;
+      given = and-right b₃ (same v dash || ltb (value v) valueBound) e₄;
+      answer = and-right b₄ (allBelow valueBound (answerItems s)) e;
     }
 
 -- ---- what the reader judges is what six fields are
 module _ (own : ℕ) (os : List Object) (a p o w v s : List ℕ) (object : Object)
     (named : isBelow (length os) o ≡ true → object ≡ objectNamed os o) where
-  layout-is : same a (spell own) && numberField 8 p .spelt && numberField (length os) o .spelt && isOp w && optionalField 65536 v .spelt && answerField s .spelt
+  layout-is : same a (spell own) && numberField 8 p .spelt && numberField (length os) o .spelt && isOp w && optionalField valueBound v .spelt && answerField s .spelt
       ≡ eventLayout own a p o w v s
   unfolding eventLayout numberField optionalField answerField
   layout-is = refl
@@ -132,27 +130,27 @@ module _ (own : ℕ) (os : List Object) (a p o w v s : List ℕ) (object : Objec
   number-below bound f e = below-is bound f e
 
   limits-is : Laid own a p o w v s
-      → ltb own 64 && numberField 8 p .below && numberField (length os) o .below && optionalField 65536 v .below && answerField s .below
+      → ltb own 64 && numberField 8 p .below && numberField (length os) o .below && optionalField valueBound v .below && answerField s .below
       ≡ eventLimits own (length os) p o v s
   unfolding eventLimits
   limits-is l =
-      rw (number-below 8 p (l .process), number-below (length os) o (l .object), optional-below 65536 v (l .given), answer-below s (l .answer))
+      rw (number-below 8 p (l .process), number-below (length os) o (l .object), optional-below valueBound v (l .given), answer-below s (l .answer))
 
   object-is : Laid own a p o w v s → Limited own (length os) p o v s → object ≡ objectNamed os o
   object-is l m = named (below-is (length os) o (l .object) ∙ m .object)
 
   fits-is : Laid own a p o w v s → Limited own (length os) p o v s
-      → hasOp (object .kind) (opOf w) && cond (takesValue (opOf w)) (not (optionalField 65536 v .dash)) (optionalField 65536 v .dash)
+      → hasOp (object .kind) (opOf w) && cond (takesValue (opOf w)) (not (optionalField valueBound v .dash)) (optionalField valueBound v .dash)
       ≡ eventFits (objectNamed os o) w v
   unfolding eventFits optionalField
   fits-is l m = rw (object-is l m)
 
   long-is : Laid own a p o w v s → Limited own (length os) p o v s
-      → answerField s .few && canAnswer object (opOf w) (answerField s .answer .count) ≡ eventLong (objectNamed os o) w s
+      → answerField s .few && mayAnswer object (opOf w) (answerField s .answer) ≡ eventLong (objectNamed os o) w s
   unfolding eventLong
   long-is l m = answer-long object (opOf w) s (l .answer) (m .answer) ∙ rw (object-is l m)
 
-  fault-is : judgedFault (same a (spell own)) own (numberField 8 p) (numberField (length os) o) (isOp w) (opOf w) (optionalField 65536 v) (answerField s) object
+  fault-is : judgedFault (same a (spell own)) own (numberField 8 p) (numberField (length os) o) (isOp w) (opOf w) (optionalField valueBound v) (answerField s) object
       ≡ eventFault own os a p o w v s
   unfolding judgedFault eventFault
   fault-is =
@@ -164,23 +162,23 @@ module _ (own : ℕ) (os : List Object) (a p o w v s : List ℕ) (object : Objec
         long-is (laid own a p o w v s e) (limited own (length os) p o v s m),
       )))
 
-  or-below : isOptional v ≡ true → same v dash || ltb (value v) 65536 ≡ true → same v dash || isBelow 65536 v ≡ true
+  or-below : isOptional v ≡ true → same v dash || ltb (value v) valueBound ≡ true → same v dash || isBelow valueBound v ≡ true
   unfolding isOptional
-  or-below i m = by-bool (same v dash) (λ d. rw d) (λ d. rw d (below-is 65536 v (rw d at i) ∙ rw d at m))
+  or-below i m = by-bool (same v dash) (λ d. rw d) (λ d. rw d (below-is valueBound v (rw d at i) ∙ rw d at m))
 
-  given-is : Laid own a p o w v s → Limited own (length os) p o v s → optionalField 65536 v .value ≡ optional v
-  given-is l m = optional-is 65536 v (or-below (l .given) (m .given))
+  given-is : Laid own a p o w v s → Limited own (length os) p o v s → optionalField valueBound v .value ≡ optional v
+  given-is l m = optional-is valueBound v (or-below (l .given) (m .given))
 
   answer-is : Laid own a p o w v s → Limited own (length os) p o v s → eventLong (objectNamed os o) w s ≡ true
-      → answerField s .answer ≡ answerOf (numbersOf s)
+      → answerField s .answer ≡ answerSaid s
   unfolding answerField isAnswer eventLong
   answer-is l m g =
-      let few = and-left (leb (length (itemsOf s)) 8) _ g in rw (l .answer, m .answer, few)
+      let few = and-left (leb (length (answerItems s)) 8) _ g in rw (l .answer, m .answer, few)
 
   -- no fault: the event is the one that the fields say
   said-is : eventFault own os a p o w v s ≡ 0
       → _≡_ {A = Event}
-      (record { process = record { 0 = numberField 8 p .value }; object = numberField (length os) o .value; op = opOf w; value = optionalField 65536 v .value; answer = answerField s .answer })
+      (record { process = record { 0 = numberField 8 p .value }; object = numberField (length os) o .value; op = opOf w; value = optionalField valueBound v .value; answer = answerField s .answer })
       (eventSaid p o w v s)
   unfolding eventFault eventSaid
   said-is e =
@@ -194,7 +192,7 @@ module _ (own : ℕ) (os : List Object) (a p o w v s : List ℕ) (object : Objec
         answer-is l m (i .long),
       )
 
-  pub six-judged : eventJudged (same a (spell own)) own (numberField 8 p) (numberField (length os) o) (isOp w) (opOf w) (optionalField 65536 v) (answerField s) object
+  pub six-judged : eventJudged (same a (spell own)) own (numberField 8 p) (numberField (length os) o) (isOp w) (opOf w) (optionalField valueBound v) (answerField s) object
       ≡ eventSix own os a p o w v s
   unfolding eventJudged eventSix
   six-judged =
@@ -211,7 +209,7 @@ below-less bound f e = ltb-true (value f) bound (and-right (isNumber f) (ltb (va
 pub six-read : (own : ℕ) (objects : List Object) (declared : ℕ) → declared ≤ length objects → (a p o w v s : List ℕ)
     (numbered : Bool) (process number : NumberField) (known : Bool) (op : Op) (given : OptionalField) (list : AnswerField) (object : Object)
     → numbered ≡ same a (spell own) → process ≡ numberField 8 p → number ≡ numberField declared o → known ≡ isOp w → op ≡ opOf w
-    → given ≡ optionalField 65536 v → list ≡ answerField s → object ≡ getD objects (number .value) noObject
+    → given ≡ optionalField valueBound v → list ≡ answerField s → object ≡ getD objects (number .value) noObject
     → eventJudged numbered own process number known op given list object ≡ eventSix own (take declared objects) a p o w v s
 six-read own objects declared few a p o w v s numbered process number known op given list object n₁ n₂ n₃ n₄ n₅ n₆ n₇ n₈ =
     let d : length (take declared objects) ≡ declared = length-take-le declared objects few in

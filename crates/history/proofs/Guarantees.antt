@@ -12,21 +12,21 @@ use Rattle.layout.proofs.Cases.{and-left, and-right}
 use Rattle.history.specs.declared.record.Object.{Object}
 use Rattle.history.specs.declared.record.Event.{Event}
 use Rattle.history.specs.declared.record.History.{History}
-use Rattle.history.specs.Record.{noObject, noEvent, valuesIn, objectsIn, eventsIn}
-use Rattle.history.specs.Kinds.{hasOp, canAnswer}
+use Rattle.history.specs.Record.{valueBound, noObject, noEvent, valuesIn, objectsIn, eventsIn}
+use Rattle.history.specs.Kinds.{hasOp, mayAnswer}
 use Rattle.history.specs.Readable.{goodObject, goodObjects, allLess, allZero, goodValue, goodAnswer, goodEvent, goodEvents, within}
 use Rattle.history.proofs.WithinLaws.{within-limits}
 
 -- an event of a history with the objects os: a process below 8, a declared object, an op that the kind has, its value, and an
--- answer of at most eight values and of a length that the op can give
+-- answer of at most eight values that the op can give
 pub record SoundEvent (os : List Object) (e : Event) : Type 0 where
   pub process : e .process .0 < 8
   pub declared : e .object < length os
   pub op : hasOp (getD os (e .object) noObject .kind) (e .op) ≡ true
   pub value : goodValue (e .op) (e .value) ≡ true
   pub few : e .answer .count ≤ 8
-  pub answer : canAnswer (getD os (e .object) noObject) (e .op) (e .answer .count) ≡ true
-  pub values : allLess 65536 (valuesIn (e .answer)) ≡ true
+  pub answer : mayAnswer (getD os (e .object) noObject) (e .op) (e .answer) ≡ true
+  pub values : allLess valueBound (valuesIn (e .answer)) ≡ true
   pub places : length (e .answer .values) ≡ 8
 
 -- a history: the counts, and what each object and each event is
@@ -48,8 +48,8 @@ sound-event os e g =
     let p₃ : Bool = hasOp (o .kind) (e .op) in
     let p₄ : Bool = goodValue (e .op) (e .value) in
     let b₁ : Bool = leb (a .count) 8 in
-    let b₂ : Bool = canAnswer o (e .op) (a .count) in
-    let b₃ : Bool = allLess 65536 (valuesIn a) in
+    let b₂ : Bool = mayAnswer o (e .op) a in
+    let b₃ : Bool = allLess valueBound (valuesIn a) in
     let b₄ : Bool = eqb (length (a .values)) 8 in
     let g₄ = and-left (p₁ && p₂ && p₃ && p₄) (goodAnswer o (e .op) a) g in
     let g₃ = and-left (p₁ && p₂ && p₃) p₄ g₄ in

@@ -2,12 +2,12 @@
 use Prim.Native.Nat.{ℕ, zero, suc, _-_, _≤_}
 use native.Mathlib.Omega.{arith}
 use mathlib.Core.Path.{_≡_, refl, sym, ap, ap₂, _∙_}
-use mathlib.Core.Bool.{Bool, true, _&&_, false≢true}
+use mathlib.Core.Bool.{Bool, true, false, not, _&&_, false≢true}
 use mathlib.Core.List.{List, [], _∷_, _++_}
 use lib.ListN.{length, take, drop, replicate, length-drop, take-append-drop}
 use lib.Seq.{length-take-le, drop-append-seam}
 use lib.Dec.{eqb, leb}
-use borrow.Author.Tests.{eqb-true, leb-true, le-leb}
+use borrow.Author.Tests.{eqb-true, leb-true, le-leb, not-true}
 use Rattle.layout.proofs.Cases.{and-left, and-right}
 use Rattle.history.specs.declared.record.Kind.{Kind}
 use Rattle.history.specs.declared.record.Kind.the-variants.{Register, Queue, Stack, Window}
@@ -47,12 +47,12 @@ object-is o e =
     (register-is (o .kind) (and-left (isRegister (o .kind)) (eqb (o .width) 0) e))
     (eqb-true (o .width) 0 (and-right (isRegister (o .kind)) (eqb (o .width) 0) e))
 
-event-parts : (p o : ℕ) (op : Op) (v c : ℕ) (vs : List ℕ)
-    → p ≡ 0 → o ≡ 0 → op ≡ Write → v ≡ 0 → c ≡ 0 → vs ≡ replicate 8 0
+event-parts : (p o : ℕ) (op : Op) (v : ℕ) (l : Bool) (c : ℕ) (vs : List ℕ)
+    → p ≡ 0 → o ≡ 0 → op ≡ Write → v ≡ 0 → l ≡ false → c ≡ 0 → vs ≡ replicate 8 0
     → _≡_ {A = Event}
-    (record { process = record { 0 = p }; object = o; op = op; value = v; answer = record { count = c; values = vs } })
+    (record { process = record { 0 = p }; object = o; op = op; value = v; answer = record { lost = l; count = c; values = vs } })
     noEvent
-event-parts p o op v c vs h₁ h₂ h₃ h₄ h₅ h₆ = rw (h₁, h₂, h₃, h₄, h₅, h₆)
+event-parts p o op v l c vs h₁ h₂ h₃ h₄ h₅ h₆ h₇ = rw (h₁, h₂, h₃, h₄, h₅, h₆, h₇)
 
 event-is : (e : Event) → blankEvent e ≡ true → e ≡ noEvent
 unfolding blankEvent
@@ -61,21 +61,24 @@ event-is e h =
     let b₂ : Bool = eqb (e .process .0) 0 && eqb (e .object) 0 in
     let b₃ : Bool = b₂ && isWrite (e .op) in
     let b₄ : Bool = b₃ && eqb (e .value) 0 in
-    let b₅ : Bool = b₄ && eqb (e .answer .count) 0 in
-    let b₆ : Bool = b₅ && eqb (length vs) 8 in
-    let h₆ = and-left b₆ (allZero vs) h in
-    let h₅ = and-left b₅ (eqb (length vs) 8) h₆ in
-    let h₄ = and-left b₄ (eqb (e .answer .count) 0) h₅ in
+    let b₅ : Bool = b₄ && not (e .answer .lost) in
+    let b₆ : Bool = b₅ && eqb (e .answer .count) 0 in
+    let b₇ : Bool = b₆ && eqb (length vs) 8 in
+    let h₇ = and-left b₇ (allZero vs) h in
+    let h₆ = and-left b₆ (eqb (length vs) 8) h₇ in
+    let h₅ = and-left b₅ (eqb (e .answer .count) 0) h₆ in
+    let h₄ = and-left b₄ (not (e .answer .lost)) h₅ in
     let h₃ = and-left b₃ (eqb (e .value) 0) h₄ in
     let h₂ = and-left b₂ (isWrite (e .op)) h₃ in
-    event-parts (e .process .0) (e .object) (e .op) (e .value) (e .answer .count) vs
+    event-parts (e .process .0) (e .object) (e .op) (e .value) (e .answer .lost) (e .answer .count) vs
     (eqb-true (e .process .0) 0 (and-left (eqb (e .process .0) 0) (eqb (e .object) 0) h₂))
     (eqb-true (e .object) 0 (and-right (eqb (e .process .0) 0) (eqb (e .object) 0) h₂))
     (write-is (e .op) (and-right b₂ (isWrite (e .op)) h₃))
     (eqb-true (e .value) 0 (and-right b₃ (eqb (e .value) 0) h₄))
-    (eqb-true (e .answer .count) 0 (and-right b₄ (eqb (e .answer .count) 0) h₅))
-    (zero-is vs (and-right b₆ (allZero vs) h)
-    ∙ ap (λ (k : ℕ). replicate k 0) (eqb-true (length vs) 8 (and-right b₅ (eqb (length vs) 8) h₆)))
+    (not-true (e .answer .lost) (and-right b₄ (not (e .answer .lost)) h₅))
+    (eqb-true (e .answer .count) 0 (and-right b₅ (eqb (e .answer .count) 0) h₆))
+    (zero-is vs (and-right b₇ (allZero vs) h)
+    ∙ ap (λ (k : ℕ). replicate k 0) (eqb-true (length vs) 8 (and-right b₆ (eqb (length vs) 8) h₇)))
 
 objects-blank : (os : List Object) → blankObjects os ≡ true → os ≡ replicate (length os) noObject
 unfolding blankObjects

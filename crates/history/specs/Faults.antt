@@ -5,12 +5,13 @@ use mathlib.Core.List.{List, []}
 use lib.ListN.{length, getD}
 use lib.Dec.{eqb, leb, ltb}
 use Rattle.layout.specs.Split.{split}
-use Rattle.layout.specs.Word.{same, dash}
+use Rattle.layout.specs.Word.{same, dash, question}
 use Rattle.layout.specs.Number.{isNumber, value, spell}
 use Rattle.layout.specs.List.{itemsOf, allNumbers, allBelow, numbersOf}
-use Rattle.history.specs.Record.{noObject, noEvent, answerOf}
-use Rattle.history.specs.Kinds.{isKind, kindOf, isOp, opOf, isWindow, hasOp, takesValue, canAnswer}
+use Rattle.history.specs.Record.{valueBound, noObject, noEvent, lostAnswer, answerOf}
+use Rattle.history.specs.Kinds.{isKind, kindOf, isOp, opOf, isWindow, hasOp, takesValue, mayAnswer}
 use Rattle.history.specs.declared.record.Object.{Object}
+use Rattle.history.specs.declared.record.Answer.{Answer}
 use Rattle.history.specs.declared.record.Event.{Event}
 use Rattle.history.specs.declared.object.ObjectRead.{ObjectRead}
 use Rattle.history.specs.declared.event.EventRead.{EventRead}
@@ -61,22 +62,34 @@ objectFields own fs = cond (eqb (length fs) 3) (objectThree own (getD fs 0 []) (
 unfoldable pub objectLine : ℕ → List ℕ → ObjectRead
 objectLine own line = objectFields own (split 32 line)
 
+-- ---- the answer field: `?` where the answer was lost (document 02, T-01), and else a list
+unfoldable pub isLost : List ℕ → Bool
+isLost s = same s question
+
+-- Its items: `?` has none.
+unfoldable pub answerItems : List ℕ → List (List ℕ)
+answerItems s = cond (isLost s) [] (itemsOf s)
+
+-- The answer that the field says.
+unfoldable pub answerSaid : List ℕ → Answer
+answerSaid s = cond (isLost s) lostAnswer (answerOf (numbersOf s))
+
 -- ---- the line of an event: its number, process, object, op, value and answer
 unfoldable pub eventLayout : ℕ → List ℕ → List ℕ → List ℕ → List ℕ → List ℕ → List ℕ → Bool
-eventLayout own a p o w v s = same a (spell own) && isNumber p && isNumber o && isOp w && isOptional v && allNumbers (itemsOf s)
+eventLayout own a p o w v s = same a (spell own) && isNumber p && isNumber o && isOp w && isOptional v && allNumbers (answerItems s)
 
--- No 65th event, a process from 0 to 7, a declared object, values up to 65,535.
+-- No 65th event, a process from 0 to 7, a declared object, values below their bound.
 unfoldable pub eventLimits : ℕ → ℕ → List ℕ → List ℕ → List ℕ → List ℕ → Bool
 eventLimits own declared p o v s =
-    ltb own 64 && ltb (value p) 8 && ltb (value o) declared && (same v dash || ltb (value v) 65536) && allBelow 65536 (itemsOf s)
+    ltb own 64 && ltb (value p) 8 && ltb (value o) declared && (same v dash || ltb (value v) valueBound) && allBelow valueBound (answerItems s)
 
 -- An op that the kind has, and a value where the op takes one and nowhere else.
 unfoldable pub eventFits : Object → List ℕ → List ℕ → Bool
 eventFits object w v = hasOp (object .kind) (opOf w) && cond (takesValue (opOf w)) (not (same v dash)) (same v dash)
 
--- An answer of a length that the op can give. No op gives more than eight values.
+-- An answer that the op can give. No op gives more than eight values.
 unfoldable pub eventLong : Object → List ℕ → List ℕ → Bool
-eventLong object w s = leb (length (itemsOf s)) 8 && canAnswer object (opOf w) (length (itemsOf s))
+eventLong object w s = leb (length (answerItems s)) 8 && mayAnswer object (opOf w) (answerSaid s)
 
 -- The object that the field names.
 abbrev pub objectNamed : List Object → List ℕ → Object
@@ -96,7 +109,7 @@ eventWith fault e = cond (eqb fault 0) (record { fault = 0; event = e }) (faulty
 -- The event that six fields say.
 unfoldable pub eventSaid : List ℕ → List ℕ → List ℕ → List ℕ → List ℕ → Event
 eventSaid p o w v s =
-    record { process = record { 0 = value p }; object = value o; op = opOf w; value = optional v; answer = answerOf (numbersOf s) }
+    record { process = record { 0 = value p }; object = value o; op = opOf w; value = optional v; answer = answerSaid s }
 
 -- What six fields are as the line of an event, in a history with these objects.
 unfoldable pub eventSix : ℕ → List Object → List ℕ → List ℕ → List ℕ → List ℕ → List ℕ → List ℕ → EventRead

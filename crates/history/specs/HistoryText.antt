@@ -3,12 +3,13 @@ use Prim.Native.Nat.{ℕ, _+_}
 use mathlib.Core.Bool.{cond}
 use mathlib.Core.List.{List, [], _∷_, _++_}
 use Rattle.layout.specs.Split.{join}
-use Rattle.layout.specs.Word.{dash, objectHeading, eventHeading}
+use Rattle.layout.specs.Word.{dash, question, objectHeading, eventHeading}
 use Rattle.layout.specs.Number.{spell}
 use Rattle.layout.specs.List.{listText}
 use Rattle.history.specs.Record.{valuesIn, objectsIn, eventsIn}
 use Rattle.history.specs.Kinds.{kindWord, opWord, isWindow, takesValue}
 use Rattle.history.specs.declared.record.Object.{Object}
+use Rattle.history.specs.declared.record.Answer.{Answer}
 use Rattle.history.specs.declared.record.Event.{Event}
 use Rattle.history.specs.declared.record.History.{History}
 
@@ -22,13 +23,17 @@ unfoldable pub objectText : ℕ → Object → List ℕ
 objectText own o =
     join 32 (spell own ∷ kindWord (o .kind) ∷ cond (isWindow (o .kind)) (spell (o .width)) dash ∷ [])
 
+-- An answer: its values joined by commas, `-` when empty, `?` where it was lost.
+unfoldable pub answerText : Answer → List ℕ
+answerText a = cond (a .lost) question (listText (valuesIn a))
+
 -- The line of an event: its number, process, object, op, value, or `-` for read, pop and peek, and answer.
 unfoldable pub eventText : ℕ → Event → List ℕ
 eventText own e =
     join 32
     (spell own ∷ spell (e .process .0) ∷ spell (e .object) ∷ opWord (e .op)
     ∷ cond (takesValue (e .op)) (spell (e .value)) dash
-    ∷ listText (valuesIn (e .answer)) ∷ [])
+    ∷ answerText (e .answer) ∷ [])
 
 -- The lines of objects and of events that are numbered from `own` on.
 unfoldable pub objectLines : ℕ → List Object → List (List ℕ)

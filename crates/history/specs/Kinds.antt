@@ -9,6 +9,7 @@ use Rattle.history.specs.declared.record.Kind.the-variants.{Register, Qu
 use Rattle.history.specs.declared.record.Op.{Op}
 use Rattle.history.specs.declared.record.Op.the-variants.{Write, Read, Push, Pop, Peek}
 use Rattle.history.specs.declared.record.Object.{Object}
+use Rattle.history.specs.declared.record.Answer.{Answer}
 
 unfoldable pub kindWord : Kind → List ℕ
 kindWord Register = registerWord
@@ -83,3 +84,8 @@ canAnswer o Read n = eqb n (readCount (o .kind) (o .width))
 canAnswer o Push n = eqb n 0
 canAnswer o Pop n = leb n 1
 canAnswer o Peek n = leb n 1
+
+-- An op of an object can give the answer. "Fault 5 doesn't apply to `?`" (document 02, T-01): any op's answer may be lost, and it then has
+-- no value.
+abbrev pub mayAnswer : Object → Op → Answer → Bool
+mayAnswer o op a = cond (a .lost) (eqb (a .count) 0) (canAnswer o op (a .count))

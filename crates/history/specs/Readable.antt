@@ -1,12 +1,12 @@
 -- The limits of a record, and the texts that are readable: said with no reader.
 use Prim.Native.Nat.{ℕ, _≤_}
 use mathlib.Core.Path.{_≡_}
-use mathlib.Core.Bool.{Bool, true, false, cond, _&&_}
+use mathlib.Core.Bool.{Bool, true, false, cond, not, _&&_}
 use mathlib.Core.List.{List, [], _∷_}
 use lib.ListN.{length, getD, drop}
 use lib.Dec.{eqb, leb, ltb}
-use Rattle.history.specs.Record.{noObject, valuesIn, objectsIn, eventsIn}
-use Rattle.history.specs.Kinds.{isWindow, hasOp, takesValue, canAnswer}
+use Rattle.history.specs.Record.{valueBound, noObject, valuesIn, objectsIn, eventsIn}
+use Rattle.history.specs.Kinds.{isWindow, hasOp, takesValue, mayAnswer}
 use Rattle.history.specs.HistoryText.{historyText}
 use Rattle.history.specs.declared.record.Kind.{Kind}
 use Rattle.history.specs.declared.record.Kind.the-variants.{Register, Queue, Stack, Window}
@@ -34,15 +34,15 @@ unfoldable pub allZero : List ℕ → Bool
 allZero [] = true
 allZero (x ∷ xs) = eqb x 0 && allZero xs
 
--- An answer of at most eight values, of a length that the op can give, each up to 65,535; zeros in the other places.
+-- An answer that the op can give, of at most eight values, and zeros in the other places.
 unfoldable pub goodAnswer : Object → Op → Answer → Bool
 goodAnswer object op a =
-    leb (a .count) 8 && canAnswer object op (a .count) && allLess 65536 (valuesIn a)
+    leb (a .count) 8 && mayAnswer object op a && allLess valueBound (valuesIn a)
     && eqb (length (a .values)) 8 && allZero (drop (a .count) (a .values))
 
--- A value up to 65,535 where the op takes one, and 0 where it takes none.
+-- A value where the op takes one, and 0 where it takes none.
 unfoldable pub goodValue : Op → ℕ → Bool
-goodValue op v = cond (takesValue op) (ltb v 65536) (eqb v 0)
+goodValue op v = cond (takesValue op) (ltb v valueBound) (eqb v 0)
 
 -- A process from 0 to 7, a declared object, an op that its kind has, and its value and answer.
 unfoldable pub goodEvent : List Object → Event → Bool
@@ -78,7 +78,7 @@ blankObjects (o ∷ os) = blankObject o && blankObjects os
 unfoldable pub blankEvent : Event → Bool
 blankEvent e =
     eqb (e .process .0) 0 && eqb (e .object) 0 && isWrite (e .op) && eqb (e .value) 0
-    && eqb (e .answer .count) 0 && eqb (length (e .answer .values)) 8 && allZero (e .answer .values)
+    && not (e .answer .lost) && eqb (e .answer .count) 0 && eqb (length (e .answer .values)) 8 && allZero (e .answer .values)
 
 unfoldable pub blankEvents : List Event → Bool
 blankEvents [] = true

@@ -1,6 +1,8 @@
 -- The history record and the lists that it stands for.
 use Prim.Native.Nat.{ℕ, _-_}
+use mathlib.Core.Bool.{true, false, cond}
 use mathlib.Core.List.{List, _++_}
+use mathlib.Core.Option.{Option, none, some}
 use lib.ListN.{length, take, replicate}
 use Rattle.history.specs.declared.record.Kind.the-variants.{Register}
 use Rattle.history.specs.declared.record.Op.the-variants.{Write}
@@ -8,6 +10,10 @@ use Rattle.history.specs.declared.record.Object.{Object}
 use Rattle.history.specs.declared.record.Answer.{Answer}
 use Rattle.history.specs.declared.record.Event.{Event}
 use Rattle.history.specs.declared.record.History.{History}
+
+-- A value is a number below this bound: 0 to 65,535.
+abbrev pub valueBound : ℕ
+valueBound = 65536
 
 -- A list in an array of so many places; the places that it leaves are blank.
 unfoldable pub pad : {A : Type 0} → ℕ → A → List A → List A
@@ -18,7 +24,11 @@ abbrev pub noObject : Object
 noObject = record { kind = Register; width = 0 }
 
 abbrev pub noAnswer : Answer
-noAnswer = record { count = 0; values = replicate 8 0 }
+noAnswer = record { lost = false; count = 0; values = replicate 8 0 }
+
+-- An answer that was lost, which a text has as `?` (document 02, T-01).
+abbrev pub lostAnswer : Answer
+lostAnswer = record { lost = true; count = 0; values = replicate 8 0 }
 
 abbrev pub noEvent : Event
 noEvent = record { process = record { 0 = 0 }; object = 0; op = Write; value = 0; answer = noAnswer }
@@ -28,7 +38,7 @@ noHistory = record { objects = replicate 16 noObject; declared = 0; events = rep
 
 -- The record of an answer, of a history.
 unfoldable pub answerOf : List ℕ → Answer
-answerOf xs = record { count = length xs; values = pad 8 0 xs }
+answerOf xs = record { lost = false; count = length xs; values = pad 8 0 xs }
 
 unfoldable pub historyOf : List Object → List Event → History
 historyOf os es = record { objects = pad 16 noObject os; declared = length os; events = pad 64 noEvent es; count = length es }
@@ -36,6 +46,10 @@ historyOf os es = record { objects = pad 16 noObject os; declared = length os; e
 -- The values of an answer, the objects and the events of a history.
 abbrev pub valuesIn : Answer → List ℕ
 valuesIn a = take (a .count) (a .values)
+
+-- What was recorded of an answer: nothing where it was lost.
+abbrev pub recordedIn : Answer → Option (List ℕ)
+recordedIn a = cond (a .lost) none (some (valuesIn a))
 
 abbrev pub objectsIn : History → List Object
 objectsIn h = take (h .declared) (h .objects)

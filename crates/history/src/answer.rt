@@ -2,13 +2,18 @@
 ghost use mathlib.Core.Path.{_≡_};
 ghost use Prim.Native.Nat.{ℕ, _≤_, _<_};
 ghost use lib.ListN.{take, getD};
-ghost use Rattle.history.specs.Record.{answerOf, noAnswer};
+ghost use Rattle.history.specs.Record.{valueBound, answerOf, noAnswer, lostAnswer};
+ghost use mathlib.Core.Bool.{false};
+ghost use Rattle.history.specs.Faults.{isLost};
 ghost use Rattle.history.specs.Steps.Fields.{answerField};
 use crate::record::Answer;
+use crate::record::VALUES;
+use crate::record::Value;
 use layout::list::ListRead;
 use layout::list::read_list;
+use layout::word::is_word;
 
-// Whether an answer's items are numbers, also below 65,536, also at most eight; and then the answer.
+// Whether an answer's items are numbers, also values, also at most eight; and then the answer.
 pub struct AnswerField {
     pub spelt: bool,
     pub below: bool,
@@ -20,30 +25,47 @@ pub fn no_answer() -> Answer
     ensures { λ r. ⌜ r ≡ noAnswer ⌝ }
 {
     Answer {
+        lost: false,
         count: 0,
-        values: [0u16; 8],
+        values: [0 as Value; 8],
+    }
+}
+
+pub fn lost_answer() -> Answer
+    ensures { λ r. ⌜ r ≡ lostAnswer ⌝ }
+{
+    Answer {
+        lost: true,
+        count: 0,
+        values: [0 as Value; 8],
     }
 }
 
 // The answer of the first n items, which are values.
 fn narrow(items: [u32; 8], n: usize) -> Answer
-    requires { ⌜ (n ≤ 8) × ((i : ℕ) → i < n → getD items i 0 < 65536) ⌝ }
+    requires { ⌜ (n ≤ 8) × ((i : ℕ) → i < n → getD items i 0 < valueBound) ⌝ }
     ensures { λ r. ⌜ r ≡ answerOf (take n items) ⌝ }
 {
-    let mut values = [0u16; 8];
+    let mut values = [0 as Value; 8];
     let mut i = 0;
     while i < n {
-        values[i] = items[i] as u16;
+        values[i] = items[i] as Value;
         i += 1;
     }
-    Answer { count: n, values }
+    Answer {
+        lost: false,
+        count: n as u8,
+        values,
+    }
 }
 
-pub fn answer_field(field: &[u8]) -> AnswerField
+// The same of a field that is not `?`.
+fn values_field(field: &[u8]) -> AnswerField
+    requires { ⌜ isLost (now field) ≡ false ⌝ }
     ensures { λ r. ⌜ r ≡ answerField (now (field .entry)) ⌝ }
 {
     let mut items = [0u32; 8];
-    let r = read_list(field, 65536, 8, &mut items);
+    let r = read_list(field, VALUES, 8, &mut items);
     match r {
         ListRead::NotList => AnswerField {
             spelt: false,
@@ -70,4 +92,20 @@ pub fn answer_field(field: &[u8]) -> AnswerField
             answer: narrow(items, n),
         },
     }
+}
+
+// Whether a field is `?` or a list of values, and then the answer.
+pub fn answer_field(field: &[u8]) -> AnswerField
+    ensures { λ r. ⌜ r ≡ answerField (now (field .entry)) ⌝ }
+{
+    if is_word(field, b"?") {
+        let answer = lost_answer();
+        return AnswerField {
+            spelt: true,
+            below: true,
+            few: true,
+            answer,
+        };
+    }
+    values_field(field)
 }

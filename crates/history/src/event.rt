@@ -1,7 +1,8 @@
 // The line of an event.
 ghost use mathlib.Core.Path.{_≡_};
-ghost use Prim.Native.Nat.{_≤_};
+ghost use Prim.Native.Nat.{_≤_, _<_};
 ghost use lib.ListN.{take};
+ghost use Rattle.history.specs.Record.{valueBound};
 ghost use Rattle.history.specs.Steps.Fields.{eventJudged};
 ghost use Rattle.history.specs.Faults.{faultyEvent, eventSix, eventLine};
 use crate::answer::AnswerField;
@@ -16,9 +17,11 @@ use crate::record::Event;
 use crate::record::Object;
 use crate::record::Op;
 use crate::record::ProcessNo;
-use crate::word::can_answer;
+use crate::record::VALUES;
+use crate::record::Value;
 use crate::word::fits_dash;
 use crate::word::has_op;
+use crate::word::may_answer;
 use crate::word::read_op;
 use crate::word::takes_value;
 use layout::number::is_spelling;
@@ -58,7 +61,7 @@ fn judge(
     list: AnswerField,
     object: Object,
 ) -> EventRead
-    requires { ⌜ (process .value ≤ 7) × (number .value ≤ 15) × (value .value ≤ 65535) ⌝ }
+    requires { ⌜ (process .value ≤ 7) × (number .value ≤ 15) × (value .value < valueBound) ⌝ }
     ensures { λ r. ⌜ r ≡ eventJudged numbered own process number known op value list object ⌝ }
 {
     let kind = object.kind;
@@ -67,7 +70,7 @@ fn judge(
     let layout = numbered & process.spelt & number.spelt & known & value.spelt & list.spelt;
     let limits = (own < 64) & process.below & number.below & value.below & list.below;
     let fits = has_op(kind, op) & fits_dash(takes_value(op), dash);
-    let long = list.few & can_answer(object, op, answer.count);
+    let long = list.few & may_answer(object, op, answer.lost, answer.count);
     let fault = first_fault(layout, limits, fits, long);
     if fault != 0 {
         return faulty_event(fault);
@@ -78,7 +81,7 @@ fn judge(
             process: ProcessNo(process.value as u8),
             object: number.value as u8,
             op,
-            value: value.value as u16,
+            value: value.value as Value,
             answer,
         },
     }
@@ -103,7 +106,7 @@ fn read_six(
     let process = number_field(p, 8);
     let number = number_field(o, declared as u64);
     let word = read_op(w);
-    let value = optional_field(v, 65536);
+    let value = optional_field(v, VALUES);
     let list = answer_field(s);
     let known = word.known;
     let op = word.op;

@@ -1,6 +1,11 @@
 // The history record, by value. Every place that a record does not use holds zeros (`Register` and `Write` for a kind and
 // an op), so that two records of one history are equal.
 
+// The values of objects and answers: the numbers below VALUES.
+pub type Value = u16;
+
+pub const VALUES: u64 = 65536;
+
 pub struct ProcessNo(pub u8);
 
 pub struct EventNo(pub u8);
@@ -26,10 +31,11 @@ pub struct Object {
     pub width: u8,
 }
 
-// The first `count` of the values.
+// The first `count` of the values; or an answer that was lost, which has none.
 pub struct Answer {
-    pub count: usize,
-    pub values: [u16; 8],
+    pub lost: bool,
+    pub count: u8,
+    pub values: [Value; 8],
 }
 
 // A value is 0 where the op takes none.
@@ -37,7 +43,7 @@ pub struct Event {
     pub process: ProcessNo,
     pub object: u8,
     pub op: Op,
-    pub value: u16,
+    pub value: Value,
     pub answer: Answer,
 }
 

@@ -2,6 +2,7 @@
 ghost use mathlib.Core.Path.{_≡_};
 ghost use Rattle.history.specs.Kinds.{isKind, kindOf, isOp, opOf, isWindow, isShelf, isShelfOp, hasOp, takesValue, readCount, canAnswer};
 ghost use mathlib.Core.Bool.{cond, not};
+ghost use lib.Dec.{eqb};
 use crate::record::Kind;
 use crate::record::Object;
 use crate::record::Op;
@@ -138,19 +139,19 @@ pub fn takes_value(op: Op) -> bool
 }
 
 // How many values a read answers.
-fn read_count(kind: Kind, width: u8) -> usize
+fn read_count(kind: Kind, width: u8) -> u8
     ensures { λ r. ⌜ r ≡ readCount kind width ⌝ }
 {
     match kind {
         Kind::Register => 1,
         Kind::Queue => 1,
         Kind::Stack => 1,
-        Kind::Window => width as usize,
+        Kind::Window => width,
     }
 }
 
 // Whether an op of an object can answer so many values.
-pub fn can_answer(object: Object, op: Op, n: usize) -> bool
+fn can_answer(object: Object, op: Op, n: u8) -> bool
     ensures { λ r. ⌜ r ≡ canAnswer object op n ⌝ }
 {
     let kind = object.kind;
@@ -161,6 +162,16 @@ pub fn can_answer(object: Object, op: Op, n: usize) -> bool
         Op::Pop => n <= 1,
         Op::Peek => n <= 1,
     }
+}
+
+// Whether an op of an object can give an answer that was lost or has so many values. One that was lost has none.
+pub fn may_answer(object: Object, op: Op, lost: bool, n: u8) -> bool
+    ensures { λ r. ⌜ r ≡ cond lost (eqb n 0) (canAnswer object op n) ⌝ }
+{
+    if lost {
+        return n == 0;
+    }
+    can_answer(object, op, n)
 }
 
 // Whether a value or a width stands where it belongs, and `-` elsewhere.

@@ -9,6 +9,7 @@ use history::record::Kind;
 use history::record::Object;
 use history::record::Op;
 use history::record::ProcessNo;
+use history::record::Value;
 use history_reader::read::faulty_line;
 use history_reader::read::read_history;
 use history_reader::show::show;
@@ -109,9 +110,38 @@ fn say_written(text: &[u8], n: usize) {
     }
 }
 
-// The record of one queue and one event: a pop that answers 7, by this process and of this object. `second` stands in the second
-// place of the answer, which is not used.
-fn pop_record(process: u8, object: u8, second: u16) -> History {
+// An answer with two numbers in its eight places.
+fn answer(lost: bool, count: u8, first: Value, second: Value) -> Answer {
+    Answer {
+        lost,
+        count,
+        values: [first, second, 0, 0, 0, 0, 0, 0],
+    }
+}
+
+// An event that pops, by this process and of this object; and one that no history has, with this answer.
+fn pop(process: u8, object: u8, answer: Answer) -> Event {
+    Event {
+        process: ProcessNo(process),
+        object,
+        op: Op::Pop,
+        value: 0,
+        answer,
+    }
+}
+
+fn unused(answer: Answer) -> Event {
+    Event {
+        process: ProcessNo(0),
+        object: 0,
+        op: Op::Write,
+        value: 0,
+        answer,
+    }
+}
+
+// The record of one queue and one event; `next` stands in the place of the second event, which is not used.
+fn record(event: Event, next: Event) -> History {
     let no_object = Object {
         kind: Kind::Register,
         width: 0,
@@ -122,30 +152,10 @@ fn pop_record(process: u8, object: u8, second: u16) -> History {
     };
     let mut objects = [no_object; 16];
     objects[0] = queue;
-    let no_answer = Answer {
-        count: 0,
-        values: [0u16; 8],
-    };
-    let no_event = Event {
-        process: ProcessNo(0),
-        object: 0,
-        op: Op::Write,
-        value: 0,
-        answer: no_answer,
-    };
-    let answer = Answer {
-        count: 1,
-        values: [7, second, 0, 0, 0, 0, 0, 0],
-    };
-    let pop = Event {
-        process: ProcessNo(process),
-        object,
-        op: Op::Pop,
-        value: 0,
-        answer,
-    };
+    let no_event = unused(answer(false, 0, 0, 0));
     let mut events = [no_event; 64];
-    events[0] = pop;
+    events[0] = event;
+    events[1] = next;
     History {
         objects,
         declared: 1,
@@ -171,10 +181,36 @@ fn say_record(name: &[u8], h: History) {
 
 // A record that a text stands for, and three that differ from it in one number and that none stands for.
 fn records() {
-    say_record(b"process 7", pop_record(7, 0, 0));
-    say_record(b"process 8", pop_record(8, 0, 0));
-    say_record(b"an undeclared object", pop_record(7, 1, 0));
-    say_record(b"a value in a place that is not used", pop_record(7, 0, 1));
+    let seven = answer(false, 1, 7, 0);
+    let none = unused(answer(false, 0, 0, 0));
+    say_record(b"process 7", record(pop(7, 0, seven), none));
+    say_record(b"process 8", record(pop(8, 0, seven), none));
+    say_record(b"an undeclared object", record(pop(7, 1, seven), none));
+    say_record(
+        b"a value in a place that is not used",
+        record(pop(7, 0, answer(false, 1, 7, 1)), none),
+    );
+}
+
+// A record with a lost answer; one whose lost answer has a value, one with a number in the places of a lost answer, and one with a
+// lost answer in an event that is not used.
+fn records_with_lost_answers() {
+    let seven = answer(false, 1, 7, 0);
+    let lost = answer(true, 0, 0, 0);
+    let none = unused(answer(false, 0, 0, 0));
+    say_record(b"a lost answer", record(pop(7, 0, lost), none));
+    say_record(
+        b"a lost answer of one value",
+        record(pop(7, 0, answer(true, 1, 7, 0)), none),
+    );
+    say_record(
+        b"a number beside a lost answer",
+        record(pop(7, 0, answer(true, 0, 7, 0)), none),
+    );
+    say_record(
+        b"a lost answer in an event that is not used",
+        record(pop(7, 0, seven), unused(lost)),
+    );
 }
 
 // Texts of line feeds alone: as many as a history may have bytes, and one more.
@@ -306,6 +342,38 @@ fn of_events() {
     );
 }
 
+// Answers that were lost: `?` for each op, and beside other bytes and other faults.
+fn of_lost_answers() {
+    case(
+        b"lost answers of every op",
+        b"object kind width\n0 register -\n1 queue -\n2 window 8\nevent process object op value answer\n0 0 0 write 1 ?\n1 0 0 read - ?\n2 1 1 push 2 ?\n3 1 1 pop - ?\n4 2 1 peek - ?\n5 2 2 read - ?\n",
+    );
+    case(
+        b"lost before a value",
+        b"object kind width\n0 queue -\nevent process object op value answer\n0 0 0 pop - ?,7\n",
+    );
+    case(
+        b"lost behind a value",
+        b"object kind width\n0 queue -\nevent process object op value answer\n0 0 0 pop - 7,?\n",
+    );
+    case(
+        b"lost twice",
+        b"object kind width\n0 queue -\nevent process object op value answer\n0 0 0 pop - ??\n",
+    );
+    case(
+        b"lost value",
+        b"object kind width\n0 queue -\nevent process object op value answer\n0 0 0 push ? -\n",
+    );
+    case(
+        b"lost answer of process 8",
+        b"object kind width\n0 queue -\nevent process object op value answer\n0 8 0 pop - ?\n",
+    );
+    case(
+        b"lost answer of an op that the kind lacks",
+        b"object kind width\n0 register -\nevent process object op value answer\n0 0 0 pop - ?\n",
+    );
+}
+
 // Answers, and the layout of a text.
 fn of_answers_and_layout() {
     case(
@@ -359,6 +427,7 @@ fn of_writing() {
 fn main() {
     of_objects();
     of_events();
+    of_lost_answers();
     of_answers_and_layout();
     objects_to_the_limit();
     events_to_the_limit();
@@ -378,4 +447,5 @@ fn main() {
     of_showing();
     of_writing();
     records();
+    records_with_lost_answers();
 }

@@ -20,9 +20,9 @@ use Rattle.history.specs.declared.record.Op.the-variants.{Write, Read, Push, Po
 use Rattle.history.specs.declared.record.Object.{Object}
 use Rattle.history.specs.declared.record.Answer.{Answer}
 use Rattle.history.specs.declared.record.Event.{Event}
-use Rattle.history.specs.Record.{noObject, valuesIn}
-use Rattle.history.specs.Kinds.{kindWord, opWord, isWindow, hasOp, takesValue, canAnswer}
-use Rattle.history.specs.HistoryText.{linesText, objectText, eventText, objectLines, eventLines, textOf}
+use Rattle.history.specs.Record.{valueBound, noObject, valuesIn}
+use Rattle.history.specs.Kinds.{kindWord, opWord, isWindow, hasOp, takesValue, mayAnswer}
+use Rattle.history.specs.HistoryText.{linesText, answerText, objectText, eventText, objectLines, eventLines, textOf}
 use Rattle.history.specs.Readable.{goodObject, goodObjects, allLess, allZero, goodAnswer, goodValue, goodEvent, goodEvents}
 
 -- ---- fields with one byte between each two
@@ -74,22 +74,22 @@ value-short : (op : Op) (v : ℕ) → goodValue op v ≡ true → length (cond (
 unfolding goodValue
 value-short op v g =
     by-bool (takesValue op)
-    (λ t. rw t (spell-short 4 v (let h = ltb-true v 65536 (rw t at g) in omega arith)))
+    (λ t. rw t (spell-short 4 v (let h = ltb-true v valueBound (rw t at g) in omega arith)))
     (λ t. rw t (omega arith))
 
-items-short : (xs : List ℕ) → allLess 65536 xs ≡ true → length (join 44 (map spell xs)) ≤ length xs * 6
+items-short : (xs : List ℕ) → allLess valueBound xs ≡ true → length (join 44 (map spell xs)) ≤ length xs * 6
 unfolding join allLess
 items-short [] e = omega arith
 items-short (x ∷ []) e =
-    let h = ltb-true x 65536 (and-left (ltb x 65536) true e) in
+    let h = ltb-true x valueBound (and-left (ltb x valueBound) true e) in
     omega (arith, spell-short 4 x (omega arith))
 items-short (x ∷ y ∷ xs) e =
-    let h = ltb-true x 65536 (and-left (ltb x 65536) (allLess 65536 (y ∷ xs)) e) in
+    let h = ltb-true x valueBound (and-left (ltb x valueBound) (allLess valueBound (y ∷ xs)) e) in
     let l = spell-short 4 x (omega arith) in
-    let ih = items-short (y ∷ xs) (and-right (ltb x 65536) (allLess 65536 (y ∷ xs)) e) in
+    let ih = items-short (y ∷ xs) (and-right (ltb x valueBound) (allLess valueBound (y ∷ xs)) e) in
     omega (arith, length-append (spell x) (44 ∷ join 44 (map spell (y ∷ xs))))
 
-list-short : (xs : List ℕ) → allLess 65536 xs ≡ true → length xs ≤ 8 → length (listText xs) ≤ 48
+list-short : (xs : List ℕ) → allLess valueBound xs ≡ true → length xs ≤ 8 → length (listText xs) ≤ 48
 unfolding listText
 list-short [] e h = omega arith
 list-short (x ∷ xs) e h = omega (arith, items-short (x ∷ xs) e)
@@ -99,17 +99,17 @@ take-short zero xs = omega arith
 take-short (suc n) [] = omega arith
 take-short (suc n) (x ∷ xs) = let ih = take-short n xs in omega arith
 
-answer-short : (object : Object) (op : Op) (a : Answer) → goodAnswer object op a ≡ true → length (listText (valuesIn a)) ≤ 48
-unfolding goodAnswer
+answer-short : (object : Object) (op : Op) (a : Answer) → goodAnswer object op a ≡ true → length (answerText a) ≤ 48
+unfolding goodAnswer answerText
 answer-short object op a e =
-    let b₂ : Bool = leb (a .count) 8 && canAnswer object op (a .count) in
-    let b₃ : Bool = b₂ && allLess 65536 (valuesIn a) in
+    let b₂ : Bool = leb (a .count) 8 && mayAnswer object op a in
+    let b₃ : Bool = b₂ && allLess valueBound (valuesIn a) in
     let b₄ : Bool = b₃ && eqb (length (a .values)) 8 in
     let e₄ = and-left b₄ (allZero (drop (a .count) (a .values))) e in
     let e₃ = and-left b₃ (eqb (length (a .values)) 8) e₄ in
-    let e₂ = and-left b₂ (allLess 65536 (valuesIn a)) e₃ in
-    let c : a .count ≤ 8 = leb-true (a .count) 8 (and-left (leb (a .count) 8) (canAnswer object op (a .count)) e₂) in
-    list-short (valuesIn a) (and-right b₂ (allLess 65536 (valuesIn a)) e₃) (omega (arith, take-short (a .count) (a .values)))
+    let e₂ = and-left b₂ (allLess valueBound (valuesIn a)) e₃ in
+    let c : a .count ≤ 8 = leb-true (a .count) 8 (and-left (leb (a .count) 8) (mayAnswer object op a) e₂) in
+    by-bool (a .lost) (λ l. rw l (omega arith)) (λ l. rw l (list-short (valuesIn a) (and-right b₂ (allLess valueBound (valuesIn a)) e₃) (omega (arith, take-short (a .count) (a .values)))))
 
 event-short : (own : ℕ) (os : List Object) (e : Event) → own < 64 → length os ≤ 16 → goodEvent os e ≡ true
     → length (eventText own e) ≤ 68
@@ -129,7 +129,7 @@ event-short own os e h n g =
     let o : List ℕ = spell (e .object) in
     let w : List ℕ = opWord (e .op) in
     let v : List ℕ = cond (takesValue (e .op)) (spell (e .value)) dash in
-    let s : List ℕ = listText (valuesIn (e .answer)) in
+    let s : List ℕ = answerText (e .answer) in
     let la : length a ≤ 2 = spell-short 1 own (omega arith) in
     let lp : length p ≤ 1 = spell-short 0 (e .process .0) (omega arith) in
     let lo : length o ≤ 2 = spell-short 1 (e .object) (omega arith) in

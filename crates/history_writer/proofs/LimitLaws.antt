@@ -3,7 +3,7 @@ use Prim.Native.Nat.{ℕ, suc, _+_, _≤_, _<_}
 use native.Mathlib.Numerals.{add-one}
 use native.Mathlib.Omega.{arith}
 use mathlib.Core.Path.{_≡_, refl, sym, ap, _∙_}
-use mathlib.Core.Bool.{Bool, true, false, _&&_}
+use mathlib.Core.Bool.{Bool, true, false, not, _&&_}
 use mathlib.Core.List.{List, [], _∷_}
 use lib.ListN.{length, getD, take, drop}
 use lib.Dec.{eqb, leb, ltb}
@@ -15,8 +15,8 @@ use Rattle.history.specs.declared.record.Object.{Object}
 use Rattle.history.specs.declared.record.Answer.{Answer}
 use Rattle.history.specs.declared.record.Event.{Event}
 use Rattle.history.specs.declared.record.History.{History}
-use Rattle.history.specs.Record.{noObject, valuesIn, objectsIn, eventsIn}
-use Rattle.history.specs.Kinds.{hasOp, canAnswer}
+use Rattle.history.specs.Record.{valueBound, noObject, valuesIn, objectsIn, eventsIn}
+use Rattle.history.specs.Kinds.{hasOp, mayAnswer}
 use Rattle.history.specs.Readable.{goodObject, goodObjects, allLess, allZero, goodAnswer, goodValue, goodEvent, goodEvents, isWrite, blankObject, blankObjects, blankEvent, blankEvents, within}
 
 pub and-true : (a : Bool) → a && true ≡ a
@@ -87,11 +87,11 @@ module _ (object : Object) (op : Op) (a : Answer) where
   answer-many h = rw (lt-leb (a .count) 8 h)
 
   pub answer-is : (can less blank : Bool) → a .count ≤ 8 → length (a .values) ≡ 8
-      → can ≡ canAnswer object op (a .count) → less ≡ allLess 65536 (valuesIn a) → blank ≡ allZero (drop (a .count) (a .values))
+      → can ≡ mayAnswer object op a → less ≡ allLess valueBound (valuesIn a) → blank ≡ allZero (drop (a .count) (a .values))
       → can && less && blank ≡ goodAnswer object op a
   unfolding goodAnswer
   answer-is can less blank h l p q r =
-      rw (p, q, r, le-leb (a .count) 8 h, eq-eqb (length (a .values)) 8 l, and-true (canAnswer object op (a .count) && allLess 65536 (valuesIn a)))
+      rw (p, q, r, le-leb (a .count) 8 h, eq-eqb (length (a .values)) 8 l, and-true (mayAnswer object op a && allLess valueBound (valuesIn a)))
 
 -- ---- an event
 module _ (objects : List Object) (declared : ℕ) (l : declared ≤ length objects) (e : Event) where
@@ -121,10 +121,10 @@ module _ (objects : List Object) (declared : ℕ) (l : declared ≤ length objec
       )
 
 pub blank-is : (e : Event) (write zeros : Bool) → length (e .answer .values) ≡ 8 → write ≡ isWrite (e .op) → zeros ≡ allZero (e .answer .values)
-    → eqb (e .process .0) 0 && eqb (e .object) 0 && write && eqb (e .value) 0 && eqb (e .answer .count) 0 && zeros ≡ blankEvent e
+    → eqb (e .process .0) 0 && eqb (e .object) 0 && write && eqb (e .value) 0 && not (e .answer .lost) && eqb (e .answer .count) 0 && zeros ≡ blankEvent e
 unfolding blankEvent
 blank-is e write zeros l p q =
-    let b : Bool = eqb (e .process .0) 0 && eqb (e .object) 0 && isWrite (e .op) && eqb (e .value) 0 && eqb (e .answer .count) 0 in
+    let b : Bool = eqb (e .process .0) 0 && eqb (e .object) 0 && isWrite (e .op) && eqb (e .value) 0 && not (e .answer .lost) && eqb (e .answer .count) 0 in
     rw (p, q, eq-eqb (length (e .answer .values)) 8 l, and-true b)
 
 -- ---- a record

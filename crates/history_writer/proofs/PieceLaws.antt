@@ -1,22 +1,22 @@
 -- The fields of the line of an object and of an event, as they are written. Assumes nothing.
 use Prim.Native.Nat.{ℕ, _+_, _-_}
 use native.Mathlib.Omega.{arith}
-use mathlib.Core.Path.{_≡_, refl, ap, _∙_}
+use mathlib.Core.Path.{_≡_, refl, ap, ap₂, _∙_}
 use mathlib.Core.Bool.{Bool, true, false, cond}
 use mathlib.Core.List.{List, [], _∷_, _++_, map}
 use lib.ListN.{take}
-use Rattle.layout.specs.Word.{dash}
+use Rattle.layout.specs.Word.{dash, question}
 use Rattle.layout.specs.Number.{spell}
 use Rattle.layout.specs.List.{listText}
 use Rattle.layout.specs.Steps.Line.{piecesText}
 use Rattle.layout.proofs.LineLaws.{pieces-join}
 use Rattle.history_writer.specs.declared.line.Field.{Field}
-use Rattle.history_writer.specs.declared.line.Field.the-variants.{Dash, Number}
+use Rattle.history_writer.specs.declared.line.Field.the-variants.{Dash, Number, Items, Lost}
 use Rattle.history.specs.declared.record.Object.{Object}
 use Rattle.history.specs.declared.record.Event.{Event}
 use Rattle.history.specs.Kinds.{kindWord, opWord, isWindow, takesValue}
 use Rattle.history.specs.Record.{valuesIn}
-use Rattle.history.specs.HistoryText.{objectText, eventText}
+use Rattle.history.specs.HistoryText.{answerText, objectText, eventText}
 use Rattle.history_writer.specs.Steps.Lines.{fieldText, objectFieldsOf, eventFieldsOf}
 
 -- ---- the fields of a line are its text and its line feed
@@ -25,6 +25,11 @@ unfolding fieldText
 choose items true n = refl
 choose items false n = refl
 
+chosen : (items : List ℕ) (t : Bool) → fieldText items (cond t Lost Items) ≡ cond t question (listText items)
+unfolding fieldText
+chosen items true = refl
+chosen items false = refl
+
 pub object-pieces : (items : List ℕ) (own : ℕ) (o : Object) → piecesText (map (fieldText items) (objectFieldsOf own o)) ≡ objectText own o ++ 10 ∷ []
 unfolding objectFieldsOf objectText fieldText
 object-pieces items own o =
@@ -32,12 +37,12 @@ object-pieces items own o =
     ∙ pieces-join (spell own) (kindWord (o .kind) ∷ cond (isWindow (o .kind)) (spell (o .width)) dash ∷ [])
 
 pub event-pieces : (own : ℕ) (e : Event) → piecesText (map (fieldText (valuesIn (e .answer))) (eventFieldsOf own e)) ≡ eventText own e ++ 10 ∷ []
-unfolding eventFieldsOf eventText fieldText
+unfolding eventFieldsOf eventText answerText fieldText
 event-pieces own e =
-    ap (λ (v : List ℕ). piecesText (spell own ∷ spell (e .process .0) ∷ spell (e .object) ∷ opWord (e .op) ∷ v ∷ listText (valuesIn (e .answer)) ∷ []))
-    (choose (valuesIn (e .answer)) (takesValue (e .op)) (e .value))
+    ap₂ (λ (v s : List ℕ). piecesText (spell own ∷ spell (e .process .0) ∷ spell (e .object) ∷ opWord (e .op) ∷ v ∷ s ∷ []))
+    (choose (valuesIn (e .answer)) (takesValue (e .op)) (e .value)) (chosen (valuesIn (e .answer)) (e .answer .lost))
     ∙ pieces-join (spell own)
-    (spell (e .process .0) ∷ spell (e .object) ∷ opWord (e .op) ∷ cond (takesValue (e .op)) (spell (e .value)) dash ∷ listText (valuesIn (e .answer)) ∷ [])
+    (spell (e .process .0) ∷ spell (e .object) ∷ opWord (e .op) ∷ cond (takesValue (e .op)) (spell (e .value)) dash ∷ answerText (e .answer) ∷ [])
 
 -- ---- the lines that the writers write
 pub object-line : (items : List ℕ) (own : ℕ) (o : Object) (fields : List Field) → take 3 fields ≡ objectFieldsOf own o

@@ -18,8 +18,8 @@ use Rattle.layout.proofs.FillLaws.{Writing, after-fits, after-short, writing-ro
 use Rattle.history.specs.declared.record.Object.{Object}
 use Rattle.history.specs.declared.record.Event.{Event}
 use Rattle.history.specs.declared.record.History.{History}
-use Rattle.history.specs.Record.{noObject, valuesIn, objectsIn, eventsIn}
-use Rattle.history.specs.Kinds.{hasOp, canAnswer}
+use Rattle.history.specs.Record.{valueBound, noObject, valuesIn, objectsIn, eventsIn}
+use Rattle.history.specs.Kinds.{hasOp, mayAnswer}
 use Rattle.history.specs.HistoryText.{linesText, objectText, eventText, objectLines, eventLines, textOf, historyText}
 use Rattle.history.specs.Readable.{allLess, allZero, goodAnswer, goodValue, goodEvent, goodEvents, within}
 use Rattle.history_writer.specs.declared.write.HistoryWritten.{HistoryWritten}
@@ -137,14 +137,14 @@ good-short os e g =
     let a = e .answer in
     let p : Bool = ltb (e .process .0) 8 && ltb (e .object) (length os) && hasOp (o .kind) (e .op) && goodValue (e .op) (e .value) in
     let b₁ : Bool = leb (a .count) 8 in
-    let b₂ : Bool = b₁ && canAnswer o (e .op) (a .count) in
-    let b₃ : Bool = b₂ && allLess 65536 (valuesIn a) in
+    let b₂ : Bool = b₁ && mayAnswer o (e .op) a in
+    let b₃ : Bool = b₂ && allLess valueBound (valuesIn a) in
     let b₄ : Bool = b₃ && eqb (length (a .values)) 8 in
     let g₅ = and-right p (goodAnswer o (e .op) a) g in
     let g₄ = and-left b₄ (allZero (drop (a .count) (a .values))) g₅ in
     let g₃ = and-left b₃ (eqb (length (a .values)) 8) g₄ in
-    let g₂ = and-left b₂ (allLess 65536 (valuesIn a)) g₃ in
-    and-left b₁ (canAnswer o (e .op) (a .count)) g₂
+    let g₂ = and-left b₂ (allLess valueBound (valuesIn a)) g₃ in
+    and-left b₁ (mayAnswer o (e .op) a) g₂
 
 pub goods-short : (os : List Object) (es : List Event) → goodEvents os es ≡ true → shortAnswers es ≡ true
 unfolding goodEvents shortAnswers

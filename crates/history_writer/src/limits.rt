@@ -2,6 +2,7 @@
 ghost use mathlib.Core.Path.{_≡_};
 ghost use Prim.Native.Nat.{_≤_};
 ghost use lib.ListN.{take, drop};
+ghost use Rattle.history.specs.Record.{valueBound};
 ghost use Rattle.history.specs.Readable.{goodObject, goodObjects, allLess, allZero, goodAnswer, goodValue, goodEvent, goodEvents, isRegister, isWrite, blankObject, blankObjects, blankEvent, blankEvents, within};
 use history::record::Answer;
 use history::record::Event;
@@ -9,9 +10,11 @@ use history::record::History;
 use history::record::Kind;
 use history::record::Object;
 use history::record::Op;
-use history::word::can_answer;
+use history::record::VALUES;
+use history::record::Value;
 use history::word::has_op;
 use history::word::is_window;
+use history::word::may_answer;
 use history::word::takes_value;
 
 // Whether a kind is the one of a blank object.
@@ -92,14 +95,14 @@ fn blank_objects(objects: [Object; 16], n: usize) -> bool
     true
 }
 
-// Whether each of the first n values is below 65,536.
-fn all_less(values: [u16; 8], n: usize) -> bool
+// Whether each of the first n numbers is a value.
+fn all_less(values: [Value; 8], n: usize) -> bool
     requires { ⌜ n ≤ 8 ⌝ }
-    ensures { λ r. ⌜ r ≡ allLess 65536 (take n values) ⌝ }
+    ensures { λ r. ⌜ r ≡ allLess valueBound (take n values) ⌝ }
 {
     let mut i = 0;
     while i < n {
-        if (values[i] as u32) >= 65536 {
+        if (values[i] as u64) >= VALUES {
             return false;
         }
         i += 1;
@@ -108,7 +111,7 @@ fn all_less(values: [u16; 8], n: usize) -> bool
 }
 
 // Whether each value from the place n on is 0.
-fn all_zero(values: [u16; 8], n: usize) -> bool
+fn all_zero(values: [Value; 8], n: usize) -> bool
     requires { ⌜ n ≤ 8 ⌝ }
     ensures { λ r. ⌜ r ≡ allZero (drop n values) ⌝ }
 {
@@ -126,23 +129,23 @@ fn all_zero(values: [u16; 8], n: usize) -> bool
 fn good_answer(object: Object, op: Op, a: Answer) -> bool
     ensures { λ r. ⌜ r ≡ goodAnswer object op a ⌝ }
 {
-    let count = a.count;
+    let count = a.count as usize;
     let values = a.values;
     if count > 8 {
         return false;
     }
-    let can = can_answer(object, op, count);
+    let can = may_answer(object, op, a.lost, a.count);
     let less = all_less(values, count);
     let blank = all_zero(values, count);
     can & less & blank
 }
 
 // Whether an op has the value: a value where it takes one, and 0 elsewhere.
-fn good_value(op: Op, v: u16) -> bool
+fn good_value(op: Op, v: Value) -> bool
     ensures { λ r. ⌜ r ≡ goodValue op v ⌝ }
 {
     if takes_value(op) {
-        return (v as u32) < 65536;
+        return (v as u64) < VALUES;
     }
     v == 0
 }
@@ -179,7 +182,14 @@ fn blank_event(e: Event) -> bool
     let values = answer.values;
     let write = is_write(op);
     let zero = all_zero(values, 0);
-    (e.process.0 == 0) & (e.object == 0) & write & (e.value == 0) & (answer.count == 0) & zero
+    let kept = !answer.lost;
+    (e.process.0 == 0)
+        & (e.object == 0)
+        & write
+        & (e.value == 0)
+        & kept
+        & (answer.count == 0)
+        & zero
 }
 
 // Whether each of the first n events is good.

@@ -23,6 +23,7 @@ pub(crate) enum Field {
     KindWord(Kind),
     OpWord(Op),
     Items,
+    Lost,
 }
 
 fn kind_len(kind: Kind) -> usize
@@ -59,6 +60,7 @@ fn field_len(field: Field, items: &[u32]) -> usize
         Field::KindWord(k) => kind_len(k),
         Field::OpWord(o) => op_len(o),
         Field::Items => list_len(items),
+        Field::Lost => 1,
     }
 }
 
@@ -98,6 +100,7 @@ fn put_field(part: &mut [u8], field: Field, items: &[u32]) -> usize
         Field::KindWord(k) => put_kind(part, k),
         Field::OpWord(o) => put_op(part, o),
         Field::Items => put_list(part, items),
+        Field::Lost => put_bytes(part, b"?"),
     }
 }
 

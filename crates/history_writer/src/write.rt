@@ -17,6 +17,7 @@ use crate::line::put_line;
 use history::record::Event;
 use history::record::History;
 use history::record::Object;
+use history::record::Value;
 use history::word::is_window;
 use history::word::takes_value;
 use layout::fill::put_bytes;
@@ -35,6 +36,16 @@ fn number_or_dash(wanted: bool, n: u32) -> Field
         return Field::Number(n);
     }
     Field::Dash
+}
+
+// `?` where the answer was lost, and else its items.
+fn items_or_lost(lost: bool) -> Field
+    ensures { λ r. ⌜ r ≡ cond lost Field.Lost Field.Items ⌝ }
+{
+    if lost {
+        return Field::Lost;
+    }
+    Field::Items
 }
 
 // The three fields of an object's line.
@@ -60,18 +71,20 @@ fn event_fields(own: u32, e: Event) -> [Field; 6]
     let op = e.op;
     let process = e.process.0;
     let value = number_or_dash(takes_value(op), e.value as u32);
+    let answer = e.answer;
+    let list = items_or_lost(answer.lost);
     [
         Field::Number(own),
         Field::Number(process as u32),
         Field::Number(e.object as u32),
         Field::OpWord(op),
         value,
-        Field::Items,
+        list,
     ]
 }
 
 // The values of an answer, as items of a list.
-fn widen(values: [u16; 8]) -> [u32; 8]
+fn widen(values: [Value; 8]) -> [u32; 8]
     ensures { λ r. ⌜ r ≡ values ⌝ }
 {
     let mut items = [0u32; 8];
@@ -106,7 +119,7 @@ fn event_len(own: u32, e: Event) -> usize
     ensures { λ r. ⌜ (r ≡ length (eventText own e ++ 10 ∷ [])) × (r ≤ 4230) ⌝ }
 {
     let answer = e.answer;
-    let n = answer.count;
+    let n = answer.count as usize;
     let values = answer.values;
     let items = widen(values);
     line_len(event_fields(own, e), 6, &items[0..n])
@@ -118,7 +131,7 @@ fn put_event(part: &mut [u8], own: u32, e: Event) -> usize
     ensures { λ r. ⌜ (r ≡ length (eventText own e ++ 10 ∷ [])) × (now (part .exit) ≡ fill (eventText own e ++ 10 ∷ []) (now (part .entry))) ⌝ }
 {
     let answer = e.answer;
-    let n = answer.count;
+    let n = answer.count as usize;
     let values = answer.values;
     let items = widen(values);
     put_line(part, event_fields(own, e), 6, &items[0..n])

@@ -15,6 +15,10 @@ same (x ∷ xs) (y ∷ ys) = eqb x y && same xs ys
 abbrev pub dash : List ℕ
 dash = 45 ∷ []
 
+-- `?`: an answer that was lost.
+abbrev pub question : List ℕ
+question = 63 ∷ []
+
 -- ---- the words of the kinds
 -- `register`
 abbrev pub registerWord : List ℕ

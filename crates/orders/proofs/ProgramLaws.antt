@@ -4,6 +4,7 @@ use native.Mathlib.Omega.{arith}
 use mathlib.Core.Path.{_≡_, refl, sym, _∙_}
 use mathlib.Core.Bool.{Bool, true, false, _&&_, or-true, or-false}
 use mathlib.Core.List.{List, [], map}
+use mathlib.Core.Option.{some}
 use lib.ListN.{length, getD, set, replicate, List·getD-map}
 use lib.Seq.{getD-set-same, getD-set-other}
 use lib.Dec.{eqb, ltb}
@@ -76,7 +77,7 @@ program-more ps i rows row h o s a b =
 
 -- ---- program order of a history is that of its processes
 process-at : (h : History) (e : ℕ) → getD (map (λ (x : Event). x .process) (h .events)) e 0 ≡ process h e
-process-at h e = List·getD-map (λ (x : Event). x .process) (h .events) e record { process = 0; object = 0; op = Read; value = 0; answer = [] }
+process-at h e = List·getD-map (λ (x : Event). x .process) (h .events) e record { process = 0; object = 0; op = Read; value = 0; answer = some [] }
 
 pub program-is : (h : History) (a b : ℕ) → programOrder h a b ≡ programIn (size h) (map (λ (x : Event). x .process) (h .events)) a b
 unfolding programOrder

@@ -14,17 +14,17 @@ use Rattle.layout.proofs.Cases.{by-lt, by-eq}
 use Rattle.history.specs.declared.record.Object.{Object}
 use Rattle.history.specs.Record.{noObject}
 use Rattle.history.specs.Kinds.{hasOp}
-use Rattle.criteria.specs.Tests.{or, foundIf, sameList, keepIf, keep, mem}
+use Rattle.criteria.specs.Tests.{or, foundIf, keepIf, keep, mem}
 use Rattle.criteria.specs.Object.{after, gives}
 use Rattle.criteria.specs.History.{Event, History, event, object, only}
 use Rattle.criteria.specs.Replay.{Contents}
-use Rattle.criteria.specs.Check.{right, firstWrong}
+use Rattle.criteria.specs.Check.{fits, right, firstWrong}
 use Rattle.criteria.proofs.Lists.{by-test, mem-getD}
 use Rattle.objects.specs.declared.state.State.{State}
 use Rattle.objects.specs.State.{contentsOf, Changed}
 use Rattle.orders.specs.Rows.{inRow}
 use Rattle.replays.specs.declared.replay.Light.{Light}
-use Rattle.replays.specs.Replay.{noLight, lightHistory, Stands}
+use Rattle.replays.specs.Replay.{recordedAs, noLight, lightHistory, Stands}
 use Rattle.replays.specs.Steps.{isQuiet, Judged}
 use Rattle.replayed_views.specs.Steps.{oneWrong}
 use Rattle.replays.proofs.ReplayLaws.{few-read, quiet-right, event-at}
@@ -51,16 +51,16 @@ module _ (h : History) (e o : ℕ) (its : event h e .object ≡ o) where
       by-test (eqb x o)
       (λ t.
       let c = after (object h o) op v (getD s o []) in
-      let fits : o < length (set s o c) = omega (arith, length-set s o c) in
-      ap (λ (y : ℕ). or (foundIf (only e f && not (sameList (event h f .answer) (gives (object h y) op (getD s y [])))) f) (firstWrong h (only e) (set s y (after (object h y) op v (getD s y []))) fs)) (eqb-true x o t)
-      ∙ ap (or (foundIf (only e f && not (sameList (event h f .answer) (gives (object h o) op (getD s o [])))) f))
-      (one-object (set s o c) fs fits ∙ ap (λ (d : List ℕ). oneWrong h e o d (keep (onObject h o) fs)) (getD-set-same s o c [] l))
+      let within : o < length (set s o c) = omega (arith, length-set s o c) in
+      ap (λ (y : ℕ). or (foundIf (only e f && not (fits (event h f .answer) (gives (object h y) op (getD s y [])))) f) (firstWrong h (only e) (set s y (after (object h y) op v (getD s y []))) fs)) (eqb-true x o t)
+      ∙ ap (or (foundIf (only e f && not (fits (event h f .answer) (gives (object h o) op (getD s o [])))) f))
+      (one-object (set s o c) fs within ∙ ap (λ (d : List ℕ). oneWrong h e o d (keep (onObject h o) fs)) (getD-set-same s o c [] l))
       ∙ ap (λ (b : Bool). oneWrong h e o (getD s o []) (keepIf b f (keep (onObject h o) fs))) (sym t))
       (λ t.
       let c = after (object h x) op v (getD s x []) in
-      let fits : o < length (set s x c) = omega (arith, length-set s x c) in
+      let within : o < length (set s x c) = omega (arith, length-set s x c) in
       ap (λ (b : Bool). or (foundIf (b && not (right h s f)) f) (firstWrong h (only e) (set s x c) fs)) (unseen f t)
-      ∙ one-object (set s x c) fs fits
+      ∙ one-object (set s x c) fs within
       ∙ ap (λ (d : List ℕ). oneWrong h e o d (keep (onObject h o) fs)) (getD-set-other s x o c [] (λ q. eqb-false x o t (sym q)))
       ∙ ap (λ (b : Bool). oneWrong h e o (getD s o []) (keepIf b f (keep (onObject h o) fs))) (sym t))
 
@@ -85,13 +85,13 @@ module _ (os : List Object) (size : ℕ) (ls : List Light) (vs : List ℕ) (answ
   module _ (s : State) (part : List ℕ) (n i : ℕ) (i-lt : i < n) (le : n ≤ length part) (lt : getD part i 0 < size) (w : Bool) (m : ℕ)
       (st : Stands (getD os o noObject) m s)
       (has : hasOp (getD os o noObject .kind) (getD ls (getD part i 0) noLight .op) ≡ true)
-      (judged : Judged (eqb (getD part i 0) e) vs (take (getD cs (getD part i 0) 0) (getD answers (getD part i 0) [])) s (getD ls (getD part i 0) noLight .op) w) where
-    test-at : only e (getD part i 0) && not (sameList (event (lightHistory os size ls vs answers cs) (getD part i 0) .answer) (gives (object (lightHistory os size ls vs answers cs) o) (event (lightHistory os size ls vs answers cs) (getD part i 0) .op) (contentsOf vs s))) ≡ w
+      (judged : Judged (eqb (getD part i 0) e) vs (recordedAs (getD cs (getD part i 0) 0) (getD answers (getD part i 0) [])) s (getD ls (getD part i 0) noLight .op) w) where
+    test-at : only e (getD part i 0) && not (fits (event (lightHistory os size ls vs answers cs) (getD part i 0) .answer) (gives (object (lightHistory os size ls vs answers cs) o) (event (lightHistory os size ls vs answers cs) (getD part i 0) .op) (contentsOf vs s))) ≡ w
     unfolding Judged lightHistory
     test-at =
         let x = getD part i 0 in
         let ob = getD os o noObject in
-        ap (λ (y : Event). only e x && not (sameList (y .answer) (gives ob (y .op) (contentsOf vs s)))) (event-at os size ls vs answers cs x lt)
+        ap (λ (y : Event). only e x && not (fits (y .answer) (gives ob (y .op) (contentsOf vs s)))) (event-at os size ls vs answers cs x lt)
         ∙ sym (judged ob (st .newest) (few-read ob m s st (getD ls x noLight .op) has vs))
 
     pub part-stops : w ≡ true → oneIn s (slice i n part) ≡ some (getD part i 0)
@@ -115,10 +115,10 @@ module _ (os : List Object) (size : ℕ) (ls : List Light) (vs : List ℕ) (answ
 
   -- an event that answers nothing and has no recorded answer is never wrong
   module _ (below : e < size) (quiet : isQuiet (getD ls e noLight .op) (getD cs e 0) ≡ true) where
-    its-right : (c : List ℕ) → sameList (event (lightHistory os size ls vs answers cs) e .answer) (gives (object (lightHistory os size ls vs answers cs) o) (event (lightHistory os size ls vs answers cs) e .op) c) ≡ true
+    its-right : (c : List ℕ) → fits (event (lightHistory os size ls vs answers cs) e .answer) (gives (object (lightHistory os size ls vs answers cs) o) (event (lightHistory os size ls vs answers cs) e .op) c) ≡ true
     unfolding lightHistory
     its-right c =
-        ap (λ (y : Event). sameList (y .answer) (gives (getD os o noObject) (y .op) c)) (event-at os size ls vs answers cs e below)
+        ap (λ (y : Event). fits (y .answer) (gives (getD os o noObject) (y .op) c)) (event-at os size ls vs answers cs e below)
         ∙ quiet-right (getD os o noObject) (getD ls e noLight .op) (getD cs e 0) (getD answers e []) c quiet
 
     quiet-from : (c part : List ℕ) → oneWrong (lightHistory os size ls vs answers cs) e o c part ≡ none
@@ -127,7 +127,7 @@ module _ (os : List Object) (size : ℕ) (ls : List Light) (vs : List ℕ) (answ
         let h = lightHistory os size ls vs answers cs in
         let rest = quiet-from (after (object h o) (event h f .op) (event h f .value) c) fs in
         by-test (eqb f e)
-        (λ t. rw (t, ap (λ (x : ℕ). sameList (event h x .answer) (gives (object h o) (event h x .op) c)) (eqb-true f e t) ∙ its-right c) rest)
+        (λ t. rw (t, ap (λ (x : ℕ). fits (event h x .answer) (gives (object h o) (event h x .op) c)) (eqb-true f e t) ∙ its-right c) rest)
         (λ t. rw t rest)
 
     pub part-quiet : (s : State) (part : List ℕ) → oneIn s part ≡ none

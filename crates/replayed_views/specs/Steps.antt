@@ -10,10 +10,10 @@ use Rattle.history.specs.declared.record.Object.{Object}
 use Rattle.history.specs.Record.{noObject}
 use Rattle.history.specs.Kinds.{hasOp}
 use Rattle.criteria.specs.Object.{after, gives}
-use Rattle.criteria.specs.Tests.{or, foundIf, sameList}
+use Rattle.criteria.specs.Tests.{or, foundIf}
 use Rattle.criteria.specs.History.{History, event, object, only}
 use Rattle.criteria.specs.Replay.{Contents}
-use Rattle.criteria.specs.Check.{firstWrong}
+use Rattle.criteria.specs.Check.{fits, firstWrong}
 use Rattle.objects.specs.declared.state.State.{State}
 use Rattle.replays.specs.declared.replay.Light.{Light}
 use Rattle.replays.specs.declared.replay.Visible.{Visible}
@@ -24,12 +24,12 @@ use Rattle.replays.specs.Replay.{noLight, lightHistory, isVisible, Stands}
 abbrev pub oneWrong : History → ℕ → ℕ → List ℕ → List ℕ → Option ℕ
 oneWrong h e o c [] = none
 oneWrong h e o c (f ∷ fs) =
-    or (foundIf (only e f && not (sameList (event h f .answer) (gives (object h o) (event h f .op) c))) f)
+    or (foundIf (only e f && not (fits (event h f .answer) (gives (object h o) (event h f .op) c))) f)
     (oneWrong h e o (after (object h o) (event h f .op) (event h f .value) c) fs)
 
 -- What the replay of one object's events takes for granted: there are values of 64 events and of the start, e is an event, the view
 -- holds events, those of them that are kept are of e's object, an event's object has its op, no recorded answer has more than eight
--- values, and the state of e's object stands before any event.
+-- values and 9 stands for one that was lost, and the state of e's object stands before any event.
 pub record ReadyKept (os : List Object) (size : ℕ) (ls : List Light) (vs cs : List ℕ) (first : State) (view : List ℕ) (n : ℕ) (kept : ℕ → Bool) (e : ℕ) : Type 0 where
   pub values : length vs ≡ 65
   pub small : size ≤ 64
@@ -38,7 +38,7 @@ pub record ReadyKept (os : List Object) (size : ℕ) (ls : List Light) (vs cs : 
   pub event : (i : ℕ) → i < n → getD view i 0 < size
   pub object : (f : ℕ) → f < size → kept f ≡ true → getD ls f noLight .object ≡ getD ls e noLight .object
   pub fits : (f : ℕ) → f < size → hasOp (getD os (getD ls f noLight .object) noObject .kind) (getD ls f noLight .op) ≡ true
-  pub answer : (f : ℕ) → f < size → getD cs f 0 ≤ 8
+  pub answer : (f : ℕ) → f < size → getD cs f 0 ≤ 9
   pub start : Stands (getD os (getD ls e noLight .object) noObject) 0 first
 
 -- The answers of process p are the visible ones.

@@ -8,6 +8,7 @@ use crate::object::object_rows;
 use crate::object::replay_row;
 use history::record::EventNo;
 use history::record::Object;
+use history::record::Value;
 use objects::state::State;
 use orders::sets::both;
 use orders::sets::with_event;
@@ -17,8 +18,8 @@ use replays::replay::Light;
 pub fn first_wrong_cut(
     objects: [Object; 16],
     events: [Light; 64],
-    values: &[u16; 65],
-    answers: &[[u16; 8]; 64],
+    values: &[Value; 65],
+    answers: &[[Value; 8]; 64],
     counts: &[u8; 64],
     size: usize,
     starts: [State; 16],

@@ -10,6 +10,7 @@ ghost use Rattle.replays.specs.Replay.{noLight, lightHistory, foundEvent};
 ghost use Rattle.replayed_views.specs.Steps.{oneWrong, ReadyKept};
 use history::record::EventNo;
 use history::record::Object;
+use history::record::Value;
 use objects::state::State;
 use orders::sets::with_event;
 use orders::views::cut_to;
@@ -39,8 +40,8 @@ pub(crate) fn object_rows(events: [Light; 64]) -> [u64; 16]
 fn replay_object(
     objects: [Object; 16],
     events: [Light; 64],
-    values: &[u16; 65],
-    answers: &[[u16; 8]; 64],
+    values: &[Value; 65],
+    answers: &[[Value; 8]; 64],
     counts: &[u8; 64],
     size: usize,
     start: State,
@@ -78,8 +79,8 @@ fn replay_object(
 pub(crate) fn replay_row(
     objects: [Object; 16],
     events: [Light; 64],
-    values: &[u16; 65],
-    answers: &[[u16; 8]; 64],
+    values: &[Value; 65],
+    answers: &[[Value; 8]; 64],
     counts: &[u8; 64],
     size: usize,
     start: State,

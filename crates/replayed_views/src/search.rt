@@ -14,6 +14,7 @@ use crate::object::object_rows;
 use crate::object::replay_row;
 use history::record::EventNo;
 use history::record::Object;
+use history::record::Value;
 use objects::state::State;
 use replays::replay::Light;
 use replays::replay::Visible;
@@ -37,8 +38,8 @@ fn length_below(lengths: [u8; 64], d: usize, k: usize) -> usize
 pub fn first_wrong(
     objects: [Object; 16],
     events: [Light; 64],
-    values: &[u16; 65],
-    answers: &[[u16; 8]; 64],
+    values: &[Value; 65],
+    answers: &[[Value; 8]; 64],
     counts: &[u8; 64],
     size: usize,
     starts: [State; 16],

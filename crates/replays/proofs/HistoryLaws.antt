@@ -10,12 +10,13 @@ use mathlib.Core.Option.{Option}
 use lib.ListN.{length, getD, take, drop, length-map, length-set, take-append-drop, List·getD-append}
 use lib.Seq.{length-take-le, getD-take, set-append-left, ext-getD}
 use lib.Dec.{eqb}
-use borrow.Author.Tests.{eq-eqb}
+use borrow.Author.Tests.{eq-eqb, le-leb}
 use Rattle.history.specs.declared.record.Kind.the-variants.{Register}
 use Rattle.history.specs.declared.record.Object.{Object}
+use Rattle.history.specs.declared.record.Answer.{Answer}
 use Rattle.history.specs.declared.record.Event as written-event
 use Rattle.history.specs.declared.record.History as written-history
-use Rattle.history.specs.Record.{noObject, noEvent, objectsIn, eventsIn}
+use Rattle.history.specs.Record.{noObject, noEvent, recordedIn, objectsIn, eventsIn}
 use Rattle.history.proofs.PadLaws.{take-more}
 use Rattle.history.proofs.Guarantees.{SoundEvent, Sound}
 use Rattle.criteria.specs.Tests.{foundIf, or, table, mem}
@@ -24,14 +25,14 @@ use Rattle.criteria.specs.History.{Event, History, event, object}
 use Rattle.criteria.specs.Replay.{Contents, start, changed}
 use Rattle.criteria.specs.Check.{right, firstWrong}
 use Rattle.criteria.specs.Records.{eventOf, historyOf}
-use Rattle.criteria.proofs.Lists.{true-or-left, true-or-right}
+use Rattle.criteria.proofs.Lists.{by-test, true-or-left, true-or-right}
 use Rattle.objects.specs.declared.state.State.{State}
 use Rattle.objects.specs.State.{valueIn, contentsOf, noState, Fresh}
 use Rattle.replays.specs.declared.replay.Light.{Light}
 use Rattle.replays.specs.declared.replay.Visible.{Visible}
 use Rattle.replays.specs.declared.replay.Visible.the-variants.{All, Of, Only}
-use Rattle.replays.specs.Replay.{noLight, eventAt, lightHistory, contentsIn, isVisible, Ready}
-use Rattle.replays.specs.Light.{lightOf}
+use Rattle.replays.specs.Replay.{recordedAs, noLight, eventAt, lightHistory, contentsIn, isVisible, Ready}
+use Rattle.replays.specs.Light.{lightOf, countOf}
 use Rattle.replays.proofs.ReplayLaws.{fresh-stands}
 use Rattle.replays.proofs.LightLaws.{Made}
 
@@ -40,6 +41,13 @@ getD-mapped : {A : Type 0} (f : A → List ℕ) (l : List A) (i : ℕ) (d : A) �
 getD-mapped f [] i d h = absurd (not-suc-le-zero h)
 getD-mapped f (x ∷ l) zero d h = refl
 getD-mapped f (x ∷ l) (suc i) d h = getD-mapped f l i d (omega arith)
+
+-- an answer that was taken apart
+recorded-is : (a : Answer) → a .count ≤ 8 → recordedAs (countOf a) (a .values) ≡ recordedIn a
+recorded-is a few = by-test (a .lost) (λ l. rw l) (λ l. rw (l, le-leb (a .count) 8 few))
+
+count-small : (a : Answer) → a .count ≤ 8 → countOf a ≤ 9
+count-small a few = by-test (a .lost) (λ l. rw l (omega arith)) (λ l. rw l (omega arith))
 
 -- ---- the events
 table-takes : {A B : Type 0} (f : ℕ → B) (g : A → B) (xs : List A) (d : A) (n : ℕ) → n ≤ length xs → ((e : ℕ) → e < n → f e ≡ g (getD xs e d))
@@ -53,10 +61,11 @@ module _ (es : List written-event.Event) (ls : List Light) (vs : List ℕ) (answ
     (lights : Made lightOf noEvent noLight es ls 64)
     (values : Made (λ (x : written-event.Event). x .value) noEvent 0 es vs 64)
     (answered-as : Made (λ (x : written-event.Event). x .answer .values) noEvent [] es answers 64)
-    (counts : Made (λ (x : written-event.Event). x .answer .count) noEvent 0 es cs 64) where
+    (counts : Made (λ (x : written-event.Event). countOf (x .answer)) noEvent 0 es cs 64)
+    (few-values : (e : ℕ) → getD es e noEvent .answer .count ≤ 8) where
   event-as : (e : ℕ) → e < 64 → eventAt ls vs answers cs e ≡ eventOf (getD es e noEvent)
   unfolding eventOf
-  event-as e h = rw (lights e h, values e h, answered-as e h, counts e h)
+  event-as e h = rw (lights e h, values e h, answered-as e h, counts e h, recorded-is (getD es e noEvent .answer) (few-values e))
 
   pub events-are : (n : ℕ) → n ≤ 64 → length es ≡ 64 → table n (eventAt ls vs answers cs) ≡ map eventOf (take n es)
   events-are n few long =
@@ -128,7 +137,8 @@ module _ (h : written-history.History) (ls : List Light) (vs : List ℕ) (answer
     (lights : Made lightOf noEvent noLight (h .events) ls 64)
     (values : Made (λ (x : written-event.Event). x .value) noEvent 0 (h .events) vs 64)
     (answered-as : Made (λ (x : written-event.Event). x .answer .values) noEvent [] (h .events) answers 64)
-    (counts : Made (λ (x : written-event.Event). x .answer .count) noEvent 0 (h .events) cs 64)
+    (counts : Made (λ (x : written-event.Event). countOf (x .answer)) noEvent 0 (h .events) cs 64)
+    (few-values : (e : ℕ) → getD (h .events) e noEvent .answer .count ≤ 8)
     (zero-value : valueIn vs 64 ≡ 0)
     (few : h .count ≤ 64)
     (long : length (h .events) ≡ 64)
@@ -151,7 +161,7 @@ module _ (h : written-history.History) (ls : List Light) (vs : List ℕ) (answer
       let es : List Event = map eventOf (eventsIn h) in
       let k : History = record { objects = objectsIn h; events = map eventOf (eventsIn h) } in
       ap (λ (l : List Event). firstWrong record { objects = h .objects; events = l } (isVisible record { objects = h .objects; events = l } who) (contentsIn vs states) v)
-      (events-are (h .events) ls vs answers cs lights values answered-as counts (h .count) few long)
+      (events-are (h .events) ls vs answers cs lights values answered-as counts few-values (h .count) few long)
       ∙ other-objects (h .objects) (objectsIn h) es agree (isVisible record { objects = h .objects; events = es } who) (contentsIn vs states) v
       ∙ same-visible k (isVisible record { objects = h .objects; events = es } who) (isVisible k who) (visible-events (h .objects) (objectsIn h) es who) (contentsIn vs states) v
       ∙ ap (λ (s : Contents). firstWrong k (isVisible k who) s v) same-start
@@ -161,7 +171,7 @@ module _ (h : written-history.History) (ls : List Light) (vs : List ℕ) (answer
 -- ---- what a replay takes for granted is what the reader guarantees
 module _ (h : written-history.History) (s : Sound h) (ls : List Light) (vs cs : List ℕ) (states : List State) (view : List ℕ) (n : ℕ)
     (lights : Made lightOf noEvent noLight (h .events) ls 64)
-    (counts : Made (λ (x : written-event.Event). x .answer .count) noEvent 0 (h .events) cs 64)
+    (counts : Made (λ (x : written-event.Event). countOf (x .answer)) noEvent 0 (h .events) cs 64)
     (values-long : length vs ≡ 65)
     (agree : (o : ℕ) → getD (h .objects) o noObject ≡ getD (objectsIn h) o noObject)
     (fresh-as : (o : ℕ) → o < 16 → Fresh (getD (h .objects) o noObject) (getD states o noState))
@@ -183,6 +193,6 @@ module _ (h : written-history.History) (s : Sound h) (ls : List Light) (vs cs : 
     event = entries;
     object = λ e l. rw (light-at e l) (omega (arith, sound-at e l .declared, s .objects, s .declared));
     fits = λ e l. rw (light-at e l, agree (getD (h .events) e noEvent .object)) (sound-at e l .op);
-    answer = λ e l. rw (counts e (omega (arith, s .count))) (sound-at e l .few);
+    answer = λ e l. rw (counts e (omega (arith, s .count))) (count-small (getD (h .events) e noEvent .answer) (sound-at e l .few));
     start = λ o l. fresh-stands (getD (h .objects) o noObject) (getD states o noState) (fresh-as o l);
   }

@@ -22,14 +22,14 @@ use Rattle.criteria.specs.Object.{after, gives}
 use Rattle.criteria.specs.Tests.{sameList}
 use Rattle.criteria.specs.History.{Event, event, object}
 use Rattle.criteria.specs.Replay.{changed}
-use Rattle.criteria.specs.Check.{right, firstWrong}
+use Rattle.criteria.specs.Check.{fits, right, firstWrong}
 use Rattle.criteria.proofs.Lists.{by-test, clash, getD-table}
 use Rattle.objects.specs.declared.state.State.{State}
 use Rattle.objects.specs.declared.state.Given.{Given}
 use Rattle.objects.specs.State.{valueIn, contentsOf, givenOf, Fresh, Changed, Answered}
 use Rattle.objects.specs.State.{noState}
 use Rattle.history.specs.Record.{noObject}
-use Rattle.replays.specs.Replay.{noLight, eventAt, lightHistory, contentsIn, isVisible, foundEvent, Stands}
+use Rattle.replays.specs.Replay.{recordedAs, noLight, eventAt, lightHistory, contentsIn, isVisible, foundEvent, Stands}
 use Rattle.replays.specs.Steps.{seesOf, isQuiet, canChange, Judged}
 use Rattle.replays.specs.declared.replay.Light.{Light}
 use Rattle.replays.specs.declared.replay.Visible.{Visible}
@@ -78,20 +78,20 @@ module _ (vs xs : List ℕ) (g : Given) (n : ℕ) (lx : length xs ≡ 8) (lk : l
   same-ends i e = rw (e, slice-empty (g .count) xs, slice-empty (g .count) (g .numbers))
 
 -- ---- one event's test
-pub judged-given : {b : Bool} (vs answer : List ℕ) (s : State) (op : Op) (g : Given) → Answered s op g → b ≡ sameList answer (givenOf vs g)
+pub judged-given : {b : Bool} (vs : List ℕ) (answer : Option (List ℕ)) (s : State) (op : Op) (g : Given) → Answered s op g → b ≡ fits answer (givenOf vs g)
     → Judged true vs answer s op (not b)
 unfolding Judged
 judged-given vs answer s op g g′ q o same few = rw (q, g′ .values vs o same few)
 
 -- an op that answers nothing gives the recorded answer of no value
-pub quiet-right : (o : Object) (op : Op) (count : ℕ) (answer c : List ℕ) → isQuiet op count ≡ true → sameList (take count answer) (gives o op c) ≡ true
+pub quiet-right : (o : Object) (op : Op) (count : ℕ) (answer c : List ℕ) → isQuiet op count ≡ true → fits (recordedAs count answer) (gives o op c) ≡ true
 quiet-right o Write count answer c t = rw (eqb-true count 0 t)
 quiet-right o Read count answer c t = absurd (false≢true t)
 quiet-right o Push count answer c t = rw (eqb-true count 0 t)
 quiet-right o Pop count answer c t = absurd (false≢true t)
 quiet-right o Peek count answer c t = absurd (false≢true t)
 
-module _ (seen : Bool) (vs answer : List ℕ) (s : State) (op : Op) where
+module _ (seen : Bool) (vs : List ℕ) (answer : Option (List ℕ)) (s : State) (op : Op) where
   pub judged-seen : {d b : Bool} → seen ≡ true → Judged true vs answer s op d → d ≡ b → Judged seen vs answer s op b
   unfolding Judged
   judged-seen t j q o same few = rw t (sym q ∙ j o same few)
@@ -101,10 +101,10 @@ module _ (seen : Bool) (vs answer : List ℕ) (s : State) (op : Op) where
   judged-unseen f o same few = rw f
 
 module _ (seen : Bool) (vs answer : List ℕ) (s : State) (op : Op) (count : ℕ) {a : Bool} (asked : a ≡ not (isQuiet op count) && seen) where
-  pub judged-asked : {d b : Bool} → a ≡ true → Judged true vs (take count answer) s op d → d ≡ b → Judged seen vs (take count answer) s op b
-  judged-asked t = judged-seen seen vs (take count answer) s op (and-right (not (isQuiet op count)) seen (sym asked ∙ t))
+  pub judged-asked : {d b : Bool} → a ≡ true → Judged true vs (recordedAs count answer) s op d → d ≡ b → Judged seen vs (recordedAs count answer) s op b
+  judged-asked t = judged-seen seen vs (recordedAs count answer) s op (and-right (not (isQuiet op count)) seen (sym asked ∙ t))
 
-  pub judged-unasked : a ≡ false → Judged seen vs (take count answer) s op false
+  pub judged-unasked : a ≡ false → Judged seen vs (recordedAs count answer) s op false
   unfolding Judged
   judged-unasked f o same few =
       by-test (isQuiet op count)
@@ -239,11 +239,11 @@ module _ (os : List Object) (size : ℕ) (ls : List Light) (vs : List ℕ) (answ
     visible-at (Only f) = refl
 
     right-at : right (lightHistory os size ls vs answers cs) (contentsIn vs states) x
-        ≡ sameList (take (getD cs x 0) (getD answers x [])) (gives (getD os (getD ls x noLight .object) noObject) (getD ls x noLight .op) (contentsOf vs (getD states (getD ls x noLight .object) noState)))
+        ≡ fits (recordedAs (getD cs x 0) (getD answers x [])) (gives (getD os (getD ls x noLight .object) noObject) (getD ls x noLight .op) (contentsOf vs (getD states (getD ls x noLight .object) noState)))
     unfolding right lightHistory
     right-at =
-        ap (λ (e : Event). sameList (e .answer) (gives (getD os (e .object) noObject) (e .op) (getD (contentsIn vs states) (e .object) []))) (event-at os size ls vs answers cs x lt)
-        ∙ ap (λ (l : List ℕ). sameList (take (getD cs x 0) (getD answers x [])) (gives (getD os (getD ls x noLight .object) noObject) (getD ls x noLight .op) l)) (getD-contents vs states (getD ls x noLight .object))
+        ap (λ (e : Event). fits (e .answer) (gives (getD os (e .object) noObject) (e .op) (getD (contentsIn vs states) (e .object) []))) (event-at os size ls vs answers cs x lt)
+        ∙ ap (λ (l : List ℕ). fits (recordedAs (getD cs x 0) (getD answers x [])) (gives (getD os (getD ls x noLight .object) noObject) (getD ls x noLight .op) l)) (getD-contents vs states (getD ls x noLight .object))
 
     module _ (t : State) (m : ℕ) (st : Stands (getD os (getD ls x noLight .object) noObject) m (getD states (getD ls x noLight .object) noState))
         (c : Changed (getD states (getD ls x noLight .object) noState) (getD ls x noLight .op) x t) where
@@ -261,7 +261,7 @@ module _ (os : List Object) (size : ℕ) (ls : List Light) (vs : List ℕ) (answ
   module _ (states : List State) (view : List ℕ) (n i : ℕ) (i-lt : i < n) (le : n ≤ length view) (lt : getD view i 0 < size) (w : Bool) (m : ℕ)
       (st : Stands (getD os (getD ls (getD view i 0) noLight .object) noObject) m (getD states (getD ls (getD view i 0) noLight .object) noState))
       (has : hasOp (getD os (getD ls (getD view i 0) noLight .object) noObject .kind) (getD ls (getD view i 0) noLight .op) ≡ true)
-      (judged : Judged (seesOf who (getD ls (getD view i 0) noLight .process .0) (getD view i 0)) vs (take (getD cs (getD view i 0) 0) (getD answers (getD view i 0) [])) (getD states (getD ls (getD view i 0) noLight .object) noState) (getD ls (getD view i 0) noLight .op) w) where
+      (judged : Judged (seesOf who (getD ls (getD view i 0) noLight .process .0) (getD view i 0)) vs (recordedAs (getD cs (getD view i 0) 0) (getD answers (getD view i 0) [])) (getD states (getD ls (getD view i 0) noLight .object) noState) (getD ls (getD view i 0) noLight .op) w) where
     test-at : isVisible (lightHistory os size ls vs answers cs) who (getD view i 0) && not (right (lightHistory os size ls vs answers cs) (contentsIn vs states) (getD view i 0)) ≡ w
     unfolding Judged
     test-at =

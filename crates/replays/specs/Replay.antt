@@ -5,7 +5,7 @@ use mathlib.Core.Bool.{Bool, true, false, cond}
 use mathlib.Core.List.{List, [], map}
 use mathlib.Core.Option.{Option, none, some}
 use lib.ListN.{length, getD, take}
-use lib.Dec.{ltb}
+use lib.Dec.{leb, ltb}
 use Rattle.history.specs.declared.record.Op.the-variants.{Write}
 use Rattle.history.specs.declared.record.Object.{Object}
 use Rattle.history.specs.Record.{noObject}
@@ -22,6 +22,10 @@ use Rattle.replays.specs.declared.replay.Visible.the-variants.{All, Of, 
 abbrev pub noLight : Light
 noLight = record { process = record { 0 = 0 }; object = 0; op = Write }
 
+-- An answer, by its count and its places: a count over eight stands for one that was lost.
+abbrev pub recordedAs : ℕ → List ℕ → Option (List ℕ)
+recordedAs count xs = cond (leb count 8) (some (take count xs)) none
+
 -- Event e: the light record has its process, object and op; its value and its answer stand beside.
 abbrev pub eventAt : List Light → List ℕ → List (List ℕ) → List ℕ → ℕ → Event
 eventAt ls vs answers cs e =
@@ -30,7 +34,7 @@ eventAt ls vs answers cs e =
       object = getD ls e noLight .object;
       op = getD ls e noLight .op;
       value = getD vs e 0;
-      answer = take (getD cs e 0) (getD answers e []);
+      answer = recordedAs (getD cs e 0) (getD answers e []);
     }
 
 -- The history of the first n events, with these objects.
@@ -60,7 +64,8 @@ pub record Stands (o : Object) (m : ℕ) (s : State) : Type 0 where
   pub few : isShelf (o .kind) ≡ false → (vs : List ℕ) → length (contentsOf vs s) ≤ 8
 
 -- What a replay takes for granted: there are values of 64 events and of the start, the view holds events, an event's object is one of
--- the sixteen and has its op, no recorded answer has more than eight values, and each object's state stands before any event.
+-- the sixteen and has its op, no recorded answer has more than eight values and 9 stands for one that was lost, and each object's state
+-- stands before any event.
 pub record Ready (os : List Object) (size : ℕ) (ls : List Light) (vs cs : List ℕ) (starts : List State) (view : List ℕ) (n : ℕ) : Type 0 where
   pub values : length vs ≡ 65
   pub small : size ≤ 64
@@ -68,5 +73,5 @@ pub record Ready (os : List Object) (size : ℕ) (ls : List Light) (vs cs : List
   pub event : (i : ℕ) → i < n → getD view i 0 < size
   pub object : (e : ℕ) → e < size → getD ls e noLight .object < 16
   pub fits : (e : ℕ) → e < size → hasOp (getD os (getD ls e noLight .object) noObject .kind) (getD ls e noLight .op) ≡ true
-  pub answer : (e : ℕ) → e < size → getD cs e 0 ≤ 8
+  pub answer : (e : ℕ) → e < size → getD cs e 0 ≤ 9
   pub start : (o : ℕ) → o < 16 → Stands (getD os o noObject) 0 (getD starts o noState)

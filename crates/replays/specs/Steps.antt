@@ -3,13 +3,14 @@ use Prim.Native.Nat.{ℕ, _≤_}
 use mathlib.Core.Path.{_≡_}
 use mathlib.Core.Bool.{Bool, true, false, not, _&&_}
 use mathlib.Core.List.{List}
+use mathlib.Core.Option.{Option}
 use lib.ListN.{length}
 use lib.Dec.{eqb}
 use Rattle.history.specs.declared.record.Object.{Object}
 use Rattle.history.specs.declared.record.Op.{Op}
 use Rattle.history.specs.declared.record.Op.the-variants.{Write, Read, Push, Pop, Peek}
 use Rattle.criteria.specs.Object.{gives}
-use Rattle.criteria.specs.Tests.{sameList}
+use Rattle.criteria.specs.Check.{fits}
 use Rattle.criteria.specs.History.{event, object}
 use Rattle.objects.specs.declared.state.State.{State}
 use Rattle.objects.specs.State.{contentsOf, isStack}
@@ -23,10 +24,10 @@ seesOf (Of q) p e = eqb p (q .0)
 seesOf (Only f) p e = eqb e (f .0)
 
 -- Whether the answer is visible and is not what an object in this state gives.
-unfoldable pub Judged : Bool → List ℕ → List ℕ → State → Op → Bool → Type 0
+unfoldable pub Judged : Bool → List ℕ → Option (List ℕ) → State → Op → Bool → Type 0
 Judged seen vs answer s op r =
     (o : Object) → isStack (o .kind) ≡ s .newest → (op ≡ Read → length (contentsOf vs s) ≤ 8)
-    → r ≡ seen && not (sameList answer (gives o op (contentsOf vs s)))
+    → r ≡ seen && not (fits answer (gives o op (contentsOf vs s)))
 
 -- The op answers nothing and the recorded answer has no value.
 abbrev pub isQuiet : Op → ℕ → Bool

@@ -1,15 +1,17 @@
 // A history taken apart for its replays: light events, and beside them the values, the answers and how many values each answer has.
 ghost use mathlib.Core.Path.{_≡_};
-ghost use Prim.Native.Nat.{ℕ, _≤_, _<_};
+ghost use Prim.Native.Nat.{ℕ, _<_};
 ghost use mathlib.Core.List.{[]};
 ghost use lib.ListN.{getD};
 ghost use Rattle.history.specs.Record.{noEvent};
 ghost use Rattle.replays.specs.Replay.{noLight};
-ghost use Rattle.replays.specs.Light.{lightOf};
+ghost use Rattle.replays.specs.Light.{lightOf, countOf};
 use crate::replay::Light;
+use history::record::Answer;
 use history::record::Event;
 use history::record::Op;
 use history::record::ProcessNo;
+use history::record::Value;
 
 // The light record of each event.
 pub fn light_events(events: [Event; 64]) -> [Light; 64]
@@ -39,10 +41,10 @@ pub fn light_events(events: [Event; 64]) -> [Light; 64]
 }
 
 // The value of each event, and 0 behind them for the start.
-pub fn values_of(events: [Event; 64]) -> [u16; 65]
+pub fn values_of(events: [Event; 64]) -> [Value; 65]
     ensures { λ r. ⌜ (getD r 64 0 ≡ 0) × ((e : ℕ) → e < 64 → getD r e 0 ≡ getD events e noEvent .value) ⌝ }
 {
-    let mut values = [0u16; 65];
+    let mut values = [0 as Value; 65];
     let mut i = 0;
     while i < 64 {
         let e = events[i];
@@ -53,10 +55,10 @@ pub fn values_of(events: [Event; 64]) -> [u16; 65]
 }
 
 // The values of each answer.
-pub fn answers_of(events: [Event; 64]) -> [[u16; 8]; 64]
+pub fn answers_of(events: [Event; 64]) -> [[Value; 8]; 64]
     ensures { λ r. ⌜ ((e : ℕ) → e < 64 → getD r e [] ≡ getD events e noEvent .answer .values) ⌝ }
 {
-    let mut answers = [[0u16; 8]; 64];
+    let mut answers = [[0 as Value; 8]; 64];
     let mut i = 0;
     while i < 64 {
         let e = events[i];
@@ -68,17 +70,26 @@ pub fn answers_of(events: [Event; 64]) -> [[u16; 8]; 64]
     answers
 }
 
-// How many values each answer has.
+// The count of an answer, and 9 where it was lost.
+fn count_of(answer: Answer) -> u8
+    ensures { λ r. ⌜ r ≡ countOf answer ⌝ }
+{
+    if answer.lost {
+        return 9;
+    }
+    answer.count
+}
+
+// How many values each answer has; 9 where it was lost.
 pub fn counts_of(events: [Event; 64]) -> [u8; 64]
-    requires { ⌜ ((e : ℕ) → e < 64 → getD events e noEvent .answer .count ≤ 8) ⌝ }
-    ensures { λ r. ⌜ ((e : ℕ) → e < 64 → getD r e 0 ≡ getD events e noEvent .answer .count) ⌝ }
+    ensures { λ r. ⌜ ((e : ℕ) → e < 64 → getD r e 0 ≡ countOf (getD events e noEvent .answer)) ⌝ }
 {
     let mut counts = [0u8; 64];
     let mut i = 0;
     while i < 64 {
         let e = events[i];
         let answer = e.answer;
-        counts[i] = answer.count as u8;
+        counts[i] = count_of(answer);
         i += 1;
     }
     counts

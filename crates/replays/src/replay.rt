@@ -4,14 +4,15 @@ ghost use Prim.Native.Nat.{_≤_};
 ghost use mathlib.Core.Bool.{true, not, _&&_};
 ghost use lib.ListN.{length, take};
 ghost use Rattle.criteria.specs.Tests.{sameList};
-ghost use Rattle.criteria.specs.Check.{firstWrong};
+ghost use Rattle.criteria.specs.Check.{fits, firstWrong};
 ghost use Rattle.objects.specs.State.{valueIn, givenOf};
-ghost use Rattle.replays.specs.Replay.{lightHistory, contentsIn, isVisible, foundEvent, Ready};
+ghost use Rattle.replays.specs.Replay.{recordedAs, lightHistory, contentsIn, isVisible, foundEvent, Ready};
 ghost use Rattle.replays.specs.Steps.{seesOf, isQuiet, canChange};
 use history::record::EventNo;
 use history::record::Object;
 use history::record::Op;
 use history::record::ProcessNo;
+use history::record::Value;
 use objects::state::Given;
 use objects::state::State;
 
@@ -41,7 +42,7 @@ fn sees(who: Visible, process: ProcessNo, no: EventNo) -> bool
 }
 
 // The value of the event with this number; 0 past the last.
-fn value(values: &[u16; 65], number: u8) -> u16
+fn value(values: &[Value; 65], number: u8) -> Value
     requires { ⌜ length (now values) ≡ 65 ⌝ }
     ensures { λ r. ⌜ r ≡ valueIn (now (values .entry)) number ⌝ }
 {
@@ -49,8 +50,8 @@ fn value(values: &[u16; 65], number: u8) -> u16
     if at < 65 { values[at] } else { 0 }
 }
 
-// Whether the recorded answer is what the state gives: the values of `given`, one by one.
-pub fn same(values: &[u16; 65], answer: [u16; 8], count: usize, given: Given) -> bool
+// Whether the first `count` of the values are those of `given`, one by one.
+fn same_values(values: &[Value; 65], answer: [Value; 8], count: usize, given: Given) -> bool
     requires { ⌜ (length (now values) ≡ 65) × (count ≤ 8) × (given .count ≤ 8) ⌝ }
     ensures { λ r. ⌜ r ≡ sameList (take count answer) (givenOf (now (values .entry)) given) ⌝ }
 {
@@ -68,6 +69,17 @@ pub fn same(values: &[u16; 65], answer: [u16; 8], count: usize, given: Given) ->
         i += 1;
     }
     true
+}
+
+// Whether the recorded answer is what the state gives, or was lost.
+pub fn same(values: &[Value; 65], answer: [Value; 8], count: usize, given: Given) -> bool
+    requires { ⌜ (length (now values) ≡ 65) × (given .count ≤ 8) ⌝ }
+    ensures { λ r. ⌜ r ≡ fits (recordedAs count answer) (givenOf (now (values .entry)) given) ⌝ }
+{
+    if 8 < count {
+        return true;
+    }
+    same_values(values, answer, count, given)
 }
 
 // Whether the op answers nothing and the recorded answer has no value.
@@ -110,8 +122,8 @@ fn changes(op: Op) -> bool
 pub fn replay(
     objects: [Object; 16],
     events: [Light; 64],
-    values: &[u16; 65],
-    answers: &[[u16; 8]; 64],
+    values: &[Value; 65],
+    answers: &[[Value; 8]; 64],
     counts: &[u8; 64],
     size: usize,
     starts: [State; 16],

@@ -6,10 +6,10 @@ use lib.ListN.{length}
 use lib.Dec.{leb, ltb}
 use Rattle.layout.specs.Word.{same, dash}
 use Rattle.layout.specs.Number.{isNumber, value}
-use Rattle.layout.specs.List.{itemsOf, allNumbers, allBelow, numbersOf}
-use Rattle.history.specs.Record.{noAnswer, answerOf}
-use Rattle.history.specs.Kinds.{hasOp, takesValue, canAnswer}
-use Rattle.history.specs.Faults.{firstFault, isOptional, eventWith}
+use Rattle.layout.specs.List.{allNumbers, allBelow}
+use Rattle.history.specs.Record.{valueBound, noAnswer}
+use Rattle.history.specs.Kinds.{hasOp, takesValue, mayAnswer}
+use Rattle.history.specs.Faults.{firstFault, isOptional, answerItems, answerSaid, eventWith}
 use Rattle.history.specs.declared.record.Op.{Op}
 use Rattle.history.specs.declared.record.Object.{Object}
 use Rattle.history.specs.declared.event.EventRead.{EventRead}
@@ -34,17 +34,17 @@ optionalField bound f =
       value = cond (same f dash) 0 (cond (isBelow bound f) (value f) 0);
     }
 
--- An answer: whether its items are numbers, also below 65,536, also at most eight; and then its record.
+-- An answer: whether its items are numbers, also values, also at most eight; and then its record.
 unfoldable pub isAnswer : List ℕ → Bool
-isAnswer f = allNumbers (itemsOf f) && allBelow 65536 (itemsOf f) && leb (length (itemsOf f)) 8
+isAnswer f = allNumbers (answerItems f) && allBelow valueBound (answerItems f) && leb (length (answerItems f)) 8
 
 unfoldable pub answerField : List ℕ → AnswerField
 answerField f =
     record {
-      spelt = allNumbers (itemsOf f);
-      below = allNumbers (itemsOf f) && allBelow 65536 (itemsOf f);
+      spelt = allNumbers (answerItems f);
+      below = allNumbers (answerItems f) && allBelow valueBound (answerItems f);
       few = isAnswer f;
-      answer = cond (isAnswer f) (answerOf (numbersOf f)) noAnswer;
+      answer = cond (isAnswer f) (answerSaid f) noAnswer;
     }
 
 -- The first fault of the fields kept, as those of an event of this object; and what they are as its line.
@@ -54,7 +54,7 @@ judgedFault numbered own process number known op value list object =
     (numbered && process .spelt && number .spelt && known && value .spelt && list .spelt)
     (ltb own 64 && process .below && number .below && value .below && list .below)
     (hasOp (object .kind) op && cond (takesValue op) (not (value .dash)) (value .dash))
-    (list .few && canAnswer object op (list .answer .count))
+    (list .few && mayAnswer object op (list .answer))
 
 unfoldable pub eventJudged : Bool → ℕ → NumberField → NumberField → Bool → Op → OptionalField → AnswerField → Object → EventRead
 eventJudged numbered own process number known op value list object =

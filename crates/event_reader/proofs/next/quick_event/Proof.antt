@@ -12,6 +12,7 @@ use Rattle.layout.specs.Number.{spell}
 use Rattle.layout.specs.Steps.Stands.{Stands}
 use Rattle.layout.proofs.StandsLaws.{spaced-stands}
 use Rattle.history.specs.Kinds.{takesValue}
+use Rattle.history.specs.Record.{valueBound}
 use Rattle.event_reader.proofs.QuickLaws.{fields-quick, none-told}
 use borrow.Author.Needs.{needs}
 use Rattle.event_reader.proofs.next.quick_event.Statement.{statement}
@@ -50,14 +51,14 @@ object-stands c = spaced-stands _ _ _ (c .before .spaced-number3 .result) (c .be
 value-told : (c : tie.Else7) → let v = c .before .before in
     let w = v .before .before .before .before .before .before in
     let z = w .before .before .before .before .before .before .before .before .before .before in
-    (cond (takesValue (w .op-at .result .op)) (ltb (v .value-at .result .value) 65536) (eqb (v .value-at .result .value) 0) ≡ true)
+    (cond (takesValue (w .op-at .result .op)) (ltb (v .value-at .result .value) valueBound) (eqb (v .value-at .result .value) 0) ≡ true)
     × Stands (cond (takesValue (w .op-at .result .op)) (spell (v .value-at .result .value)) dash ++ 32 ∷ []) (w .op-at .result .end) (v .value-at .result .end) (z .args .text .now)
 value-told c =
     let v = c .before .before in
     let w = v .before .before .before .before .before .before in
     let z = w .before .before .before .before .before .before .before .before .before .before in
     subst
-    (λ (t : Bool). (cond t (ltb (v .value-at .result .value) 65536) (eqb (v .value-at .result .value) 0) ≡ true)
+    (λ (t : Bool). (cond t (ltb (v .value-at .result .value) valueBound) (eqb (v .value-at .result .value) 0) ≡ true)
     × Stands (cond t (spell (v .value-at .result .value)) dash ++ 32 ∷ []) (w .op-at .result .end) (v .value-at .result .end) (z .args .text .now))
     (v .before .takes-value .ensures) (v .value-at .ensures (not-false _ (c .if7 .left)))
 
@@ -147,8 +148,8 @@ no-event-requires-8 c κs = search needs
 returns-8 : tie.Need-returns-8
 returns-8 c h = absurd (none-told _ _ (c .no-event8 .ensures) h)
 
-can-answer-requires : tie.Need-can-answer-requires
-can-answer-requires c κs = search needs
+may-answer-requires : tie.Need-may-answer-requires
+may-answer-requires c κs = search needs
 
 no-event-requires-9 : tie.Need-no-event-requires-9
 no-event-requires-9 c κs = search needs
@@ -157,7 +158,9 @@ returns-9 : tie.Need-returns-9
 returns-9 c h = absurd (none-told _ _ (c .no-event9 .ensures) h)
 
 cast-t34 : tie.Need-cast-t34
-cast-t34 c = search needs
+cast-t34 c =
+    let third = c .before .before .before .before .before .before .before .before .before .before .before .before .before .before .before .before .before .before in
+    omega (arith, process-few third)
 
 cast-t36 : tie.Need-cast-t36
 cast-t36 c =
@@ -181,7 +184,7 @@ returns-10 c h =
     (object-few fourth) (object-stands fourth)
     (sym (o .has-op .ensures) ∙ not-false _ (v .before .before .if6 .left)) (w .op-at .ensures (not-false _ (o .before .if5 .left)))
     (value-told (a .before) .0) (value-told (a .before) .1)
-    (a .answer-at .ensures (not-false _ (c .before .before .if8 .left))) (sym (c .before .can-answer .ensures) ∙ not-false _ (c .if9 .left))
+    (a .answer-at .ensures (not-false _ (c .before .before .if8 .left))) (sym (c .before .may-answer .ensures) ∙ not-false _ (c .if9 .left))
 
 pub quick-event-spec : {M : Type 1} → statement M
 quick-event-spec =
@@ -213,7 +216,7 @@ quick-event-spec =
     answer-at-requires
     no-event-requires-8
     returns-8
-    can-answer-requires
+    may-answer-requires
     no-event-requires-9
     returns-9
     cast-t34

@@ -1,4 +1,4 @@
--- `value_at` meets its contract: a number below 65,536 where one is wanted, and else `-`. Assumes nothing.
+-- `value_at` meets its contract: a value where one is wanted, and else `-`. Assumes nothing.
 use mathlib.Core.Path.{refl}
 use mathlib.Core.Bool.{false≢true}
 use borrow.Author.Tests.{lt-ltb}

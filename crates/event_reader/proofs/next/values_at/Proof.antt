@@ -5,6 +5,7 @@ use mathlib.Core.Path.{_≡_, refl, sym, _∙_}
 use mathlib.Core.Bool.{false≢true}
 use lib.ListN.{length, length-set}
 use Rattle.layout.proofs.StandsLaws.{number-stands}
+use Rattle.history.specs.Record.{valueBound}
 use Rattle.history.proofs.ListingLaws.{Listing, listing-begins, listing-more}
 use Rattle.event_reader.proofs.QuickLaws.{values-end}
 use borrow.Author.Needs.{needs}
@@ -12,7 +13,7 @@ use Rattle.event_reader.proofs.next.values_at.Statement.{statement}
 use Rattle.event_reader.proofs.next.values_at.Tie as tie
 
 abbrev Inv-loop : tie.InvT-loop
-Inv-loop text from values₀ k₀ a₀ values k a = (a ≤ length text) × (k ≤ 8) × (length values ≡ 8) × Listing 8 65536 from text values k a
+Inv-loop text from values₀ k₀ a₀ values k a = (a ≤ length text) × (k ≤ 8) × (length values ≡ 8) × Listing 8 valueBound from text values k a
 
 abbrev μ-loop : tie.MeasureT-loop
 μ-loop text from values₀ k₀ a₀ values k a = 8 - k
@@ -20,22 +21,22 @@ abbrev μ-loop : tie.MeasureT-loop
 loop-holds : tie.Need-loop-holds Inv-loop μ-loop
 loop-holds c =
     let a = c .before .args in
-    (search needs, search needs, search needs, listing-begins 8 65536 (a .from) (a .text .now) _ refl)
+    (search needs, search needs, search needs, listing-begins 8 valueBound (a .from) (a .text .now) _ refl)
 
 number-at-requires : tie.Need-number-at-requires Inv-loop μ-loop
 number-at-requires c κs = search needs
 
+lost-at-requires : tie.Need-lost-at-requires Inv-loop μ-loop
+lost-at-requires c κs = search needs
+
+returns : tie.Need-returns Inv-loop μ-loop
+returns c h = c .lost-at .ensures h
+
 unknown-answer-requires : tie.Need-unknown-answer-requires Inv-loop μ-loop
 unknown-answer-requires c κs = search needs
 
-returns : tie.Need-returns Inv-loop μ-loop
-returns c h = absurd (false≢true (sym (c .unknown-answer .ensures) ∙ h))
-
-unknown-answer-requires-2 : tie.Need-unknown-answer-requires-2 Inv-loop μ-loop
-unknown-answer-requires-2 c κs = search needs
-
 returns-2 : tie.Need-returns-2 Inv-loop μ-loop
-returns-2 c h = absurd (false≢true (sym (c .unknown-answer2 .ensures) ∙ h))
+returns-2 c h = absurd (false≢true (sym (c .unknown-answer .ensures) ∙ h))
 
 shared-slice-read-c : tie.Need-shared-slice-read-c Inv-loop μ-loop
 shared-slice-read-c c = search needs
@@ -52,6 +53,9 @@ array-write-values c = search needs
 add-k : tie.Need-add-k Inv-loop μ-loop
 add-k c = search needs
 
+cast-t19 : tie.Need-cast-t19 Inv-loop μ-loop
+cast-t19 c = search needs
+
 returns-3 : tie.Need-returns-3 Inv-loop μ-loop
 returns-3 c h =
     let q = c .before .before .before .before in
@@ -59,11 +63,11 @@ returns-3 c h =
     values-end (l .inv .3) (search needs) (q .number-at .result .value) (q .number-at .result .end) (number-stands _ _ _ (q .number-at .result) (q .number-at .ensures) (omega arith))
     (search needs) (search needs) (c .if3 .taken)
 
-unknown-answer-requires-3 : tie.Need-unknown-answer-requires-3 Inv-loop μ-loop
-unknown-answer-requires-3 c κs = search needs
+unknown-answer-requires-2 : tie.Need-unknown-answer-requires-2 Inv-loop μ-loop
+unknown-answer-requires-2 c κs = search needs
 
 returns-4 : tie.Need-returns-4 Inv-loop μ-loop
-returns-4 c h = absurd (false≢true (sym (c .unknown-answer3 .ensures) ∙ h))
+returns-4 c h = absurd (false≢true (sym (c .unknown-answer2 .ensures) ∙ h))
 
 add-a : tie.Need-add-a Inv-loop μ-loop
 add-a c = search needs
@@ -82,11 +86,11 @@ loop-again c =
           (search needs) (search needs) (search needs),
     )
 
-unknown-answer-requires-4 : tie.Need-unknown-answer-requires-4 Inv-loop μ-loop
-unknown-answer-requires-4 c κs = search needs
+unknown-answer-requires-3 : tie.Need-unknown-answer-requires-3 Inv-loop μ-loop
+unknown-answer-requires-3 c κs = search needs
 
 returns-5 : tie.Need-returns-5 Inv-loop μ-loop
-returns-5 c h = absurd (false≢true (sym (c .unknown-answer4 .ensures) ∙ h))
+returns-5 c h = absurd (false≢true (sym (c .unknown-answer3 .ensures) ∙ h))
 
 pub values-at-spec : {M : Type 1} → statement M
 values-at-spec =
@@ -96,20 +100,21 @@ values-at-spec =
     μ-loop
     loop-holds
     number-at-requires
-    unknown-answer-requires
+    lost-at-requires
     returns
-    unknown-answer-requires-2
+    unknown-answer-requires
     returns-2
     shared-slice-read-c
     cast-values
     mul-values
     array-write-values
     add-k
+    cast-t19
     returns-3
-    unknown-answer-requires-3
+    unknown-answer-requires-2
     returns-4
     add-a
     loop-less
     loop-again
-    unknown-answer-requires-4
+    unknown-answer-requires-3
     returns-5)

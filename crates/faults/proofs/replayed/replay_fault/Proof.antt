@@ -12,7 +12,7 @@ use lib.ListN.{length, getD}
 use Rattle.replays.specs.Replay.{Ready}
 use Rattle.orders.specs.Rows.{inRows}
 use Rattle.faults.specs.Steps.{isConverge}
-use Rattle.faults.proofs.RecordFacts.{widths-small, answers-small}
+use Rattle.faults.proofs.RecordFacts.{widths-small}
 use Rattle.faults.proofs.ReplayedLaws.{Taken, view-ready, place-below, place-fault, place-nothing, view-there, event-fault, event-nothing}
 
 -- where the function begins
@@ -69,7 +69,7 @@ answers-of-requires : tie.Need-answers-of-requires
 answers-of-requires c κs = search needs
 
 counts-of-requires : tie.Need-counts-of-requires
-counts-of-requires c κs = let s = c .before .before .before .before .before in λ e l. answers-small (s .args .h) (s .pre .0) e
+counts-of-requires c κs = search needs
 
 starts-requires : tie.Need-starts-requires
 starts-requires c κs = let s = c .before .before .before .before .before .before in λ o l. widths-small (s .args .h) (s .pre .0) o

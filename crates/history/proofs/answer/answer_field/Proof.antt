@@ -1,84 +1,36 @@
--- `answer_field` meets its contract, by what the field is as a list. Assumes nothing.
-use mathlib.Core.Path.{sym, _∙_}
-use Rattle.history.proofs.AnswerLaws.{answer-not, answer-over, answer-many, answer-few, answer-small, answer-listed}
+-- `answer_field` meets its contract: `?` is an answer that was lost. Assumes nothing.
+use mathlib.Core.Path.{sym, ap, _∙_}
+use mathlib.Core.Bool.{true}
+use Rattle.history.specs.declared.record.Answer.{Answer}
+use Rattle.history.specs.Faults.{isLost}
+use Rattle.history.proofs.AnswerLaws.{answer-lost}
 use borrow.Author.Needs.{needs}
 use Rattle.history.proofs.answer.answer_field.Statement.{statement}
 use Rattle.history.proofs.answer.answer_field.Tie as tie
 
-slice-aggregate-read-list : tie.Need-slice-aggregate-read-list
-slice-aggregate-read-list c = search needs
+slice-aggregate-is-word : tie.Need-slice-aggregate-is-word
+slice-aggregate-is-word c = search needs
 
-read-list-requires : tie.Need-read-list-requires
-read-list-requires c κs = search needs
+is-word-requires : tie.Need-is-word-requires
+is-word-requires c κs = search needs
 
-enum-told : tie.Need-enum-told
-enum-told c = search needs
-
-no-answer-requires : tie.Need-no-answer-requires
-no-answer-requires c κs = search needs
-
-enum-told-2 : tie.Need-enum-told-2
-enum-told-2 c = search needs
-
-no-answer-requires-2 : tie.Need-no-answer-requires-2
-no-answer-requires-2 c κs = search needs
-
-enum-told-3 : tie.Need-enum-told-3
-enum-told-3 c = search needs
-
-no-answer-requires-3 : tie.Need-no-answer-requires-3
-no-answer-requires-3 c κs = search needs
-
-enum-known-r : tie.Need-enum-known-r
-enum-known-r c = search needs
-
-narrow-requires : tie.Need-narrow-requires
-narrow-requires c κs =
-    let k = c .before .before .before .before in
-    let f = k .before .before .before .args .field .now in
-    let q = sym (k .read-list .ensures .0) ∙ c .before .r .given .1 in
-    (answer-few f _ q _ _ (k .read-list .ensures .1), answer-small f _ q _ _ (k .read-list .ensures .1))
+lost-answer-requires : tie.Need-lost-answer-requires
+lost-answer-requires c κs = search needs
 
 returns : tie.Need-returns
+unfolding isLost
 returns c =
-    let k = c .before .before .before .before in
-    let f = k .before .before .before .args .field .now in
-    rw (c .no-answer .ensures) (sym (answer-not f (sym (k .read-list .ensures .0) ∙ c .before .enum-told .given .1)))
+    let i = c .before in
+    let a = i .before .before .before .before .args in
+    ap (λ (x : Answer). record { spelt = true; below = true; few = true; answer = x }) (c .lost-answer .ensures)
+    ∙ sym (answer-lost (a .field .now) (sym (i .before .is-word .ensures) ∙ i .if1 .taken))
+
+values-field-requires : tie.Need-values-field-requires
+unfolding isLost
+values-field-requires c κs = sym (c .before .is-word .ensures) ∙ c .if1 .left
 
 returns-2 : tie.Need-returns-2
-returns-2 c =
-    let k = c .before .before .before .before in
-    let f = k .before .before .before .args .field .now in
-    rw (c .no-answer2 .ensures) (sym (answer-over f (sym (k .read-list .ensures .0) ∙ c .before .enum-told2 .given .1)))
-
-returns-3 : tie.Need-returns-3
-returns-3 c =
-    let k = c .before .before .before .before in
-    let f = k .before .before .before .args .field .now in
-    rw (c .no-answer3 .ensures) (sym (answer-many f (sym (k .read-list .ensures .0) ∙ c .before .enum-told3 .given .1)))
-
-returns-4 : tie.Need-returns-4
-returns-4 c =
-    let k = c .before .before .before .before .before in
-    let f = k .before .before .before .args .field .now in
-    let q = sym (k .read-list .ensures .0) ∙ c .before .before .r .given .1 in
-    rw (c .narrow .ensures) (sym (answer-listed f _ q _ _ (k .read-list .ensures .1)))
+returns-2 c = search needs
 
 pub answer-field-spec : {M : Type 1} → statement M
-answer-field-spec =
-    tie.close
-    (tie.spec
-    slice-aggregate-read-list
-    read-list-requires
-    enum-told
-    no-answer-requires
-    enum-told-2
-    no-answer-requires-2
-    enum-told-3
-    no-answer-requires-3
-    enum-known-r
-    narrow-requires
-    returns
-    returns-2
-    returns-3
-    returns-4)
+answer-field-spec = tie.close (tie.spec slice-aggregate-is-word is-word-requires lost-answer-requires returns values-field-requires returns-2)

@@ -4,6 +4,7 @@ use borrow.Author.Needs.{needs}
 use Prim.Native.Nat.{ℕ, _≤_, _-_}
 use mathlib.Core.Path.{_≡_, sym, ap, ap₂, _∙_}
 use mathlib.Core.List.{List}
+use mathlib.Core.Bool.{false}
 use lib.ListN.{length, take, getD, length-set}
 use lib.Seq.{length-take-le}
 use Rattle.history.specs.declared.record.Answer.{Answer}
@@ -54,6 +55,9 @@ loop-again c =
           ∙ ap (pad 8 0) (sym (take-more (a .t1) (h .i) 0 (omega arith)))),
     )
 
+cast-t16 : tie.Need-cast-t16 Inv-loop μ-loop
+cast-t16 c = search needs
+
 returns : tie.Need-returns Inv-loop μ-loop
 unfolding answerOf
 returns c =
@@ -63,7 +67,7 @@ returns c =
     let e : h .i ≡ a .n = omega arith in
     let v : h .values ≡ pad 8 0 (take (a .n) (a .t1)) = h .inv .2 ∙ ap (λ (k : ℕ). pad 8 0 (take k (a .t1))) e in
     let k : a .n ≡ length (take (a .n) (a .t1)) = sym (length-take-le (a .n) (a .t1) (omega arith)) in
-    ap₂ {C = Answer} (λ (m : ℕ) (vs : List ℕ). record { count = m; values = vs }) k v
+    ap₂ {C = Answer} (λ (m : ℕ) (vs : List ℕ). record { lost = false; count = m; values = vs }) k v
 
 pub narrow-spec : {M : Type 1} → statement M
 narrow-spec =
@@ -80,4 +84,5 @@ narrow-spec =
     add-i
     loop-less
     loop-again
+    cast-t16
     returns)

@@ -14,7 +14,7 @@ judged c =
     let a = n .before .before .before .before .before .before .before .before .before .before .before .before .before .args in
     c .first-fault .ensures
     ∙ judged-is (a .numbered) (a .own) (a .process) (a .number) (a .known) (a .op) (a .value) (a .list) (a .object) _ _ _ _
-    (n .before .before .before .has-op .ensures) (n .before .before .takes-value .ensures) (n .before .fits-dash .ensures) (n .can-answer .ensures)
+    (n .before .before .before .has-op .ensures) (n .before .before .takes-value .ensures) (n .before .fits-dash .ensures) (n .may-answer .ensures)
 
 has-op-requires : tie.Need-has-op-requires
 has-op-requires c κs = search needs
@@ -25,8 +25,8 @@ takes-value-requires c κs = search needs
 fits-dash-requires : tie.Need-fits-dash-requires
 fits-dash-requires c κs = search needs
 
-can-answer-requires : tie.Need-can-answer-requires
-can-answer-requires c κs = search needs
+may-answer-requires : tie.Need-may-answer-requires
+may-answer-requires c κs = search needs
 
 first-fault-requires : tie.Need-first-fault-requires
 first-fault-requires c κs = search needs
@@ -62,7 +62,7 @@ judge-spec =
     has-op-requires
     takes-value-requires
     fits-dash-requires
-    can-answer-requires
+    may-answer-requires
     first-fault-requires
     faulty-event-requires
     returns

@@ -6,12 +6,13 @@ use mathlib.Core.Path.{_≡_, refl, sym, _∙_}
 use lib.ListN.{length, getD, take, drop}
 use borrow.Author.Tests.{lt-ltb, le-ltb}
 use Rattle.history.specs.Readable.{allLess}
+use Rattle.history.specs.Record.{valueBound}
 use Rattle.history_writer.proofs.LimitLaws.{every-less, used-goes, used-fails, used-ends}
 use Rattle.history_writer.proofs.limits.all_less.Statement.{statement}
 use Rattle.history_writer.proofs.limits.all_less.Tie as tie
 
 abbrev Inv-loop : tie.InvT-loop
-Inv-loop n values i₀ i = (i ≤ n) × (allLess 65536 (take n values) ≡ allLess 65536 (drop i (take n values)))
+Inv-loop n values i₀ i = (i ≤ n) × (allLess valueBound (take n values) ≡ allLess valueBound (drop i (take n values)))
 
 abbrev μ-loop : tie.MeasureT-loop
 μ-loop n values i₀ i = n - i
@@ -34,7 +35,7 @@ returns c =
     let s = c .before .before .before in
     let a = s .args in
     let l : length (a .t1) ≡ 8 = search needs in
-    sym (h .inv .1 ∙ used-fails (every-less 65536) (a .t1) (a .n) (omega (arith, s .pre)) (h .i) 0 (omega arith) (le-ltb (getD (a .t1) (h .i) 0) 65536 (c .if1 .taken)))
+    sym (h .inv .1 ∙ used-fails (every-less valueBound) (a .t1) (a .n) (omega (arith, s .pre)) (h .i) 0 (omega arith) (le-ltb (getD (a .t1) (h .i) 0) valueBound (c .if1 .taken)))
 
 add-i : tie.Need-add-i Inv-loop μ-loop
 add-i c = search needs
@@ -48,7 +49,7 @@ loop-again c =
     let s = c .before .before .before in
     let a = s .args in
     let l : length (a .t1) ≡ 8 = search needs in
-    (search needs, h .inv .1 ∙ used-goes (every-less 65536) (a .t1) (a .n) (omega (arith, s .pre)) (h .i) 0 (omega arith) (lt-ltb (getD (a .t1) (h .i) 0) 65536 (c .if1 .left)))
+    (search needs, h .inv .1 ∙ used-goes (every-less valueBound) (a .t1) (a .n) (omega (arith, s .pre)) (h .i) 0 (omega arith) (lt-ltb (getD (a .t1) (h .i) 0) valueBound (c .if1 .left)))
 
 returns-2 : tie.Need-returns-2 Inv-loop μ-loop
 returns-2 c =
@@ -56,7 +57,7 @@ returns-2 c =
     let s = c .before .before in
     let a = s .args in
     let l : length (a .t1) ≡ 8 = search needs in
-    sym (h .inv .1 ∙ used-ends (every-less 65536) (a .t1) (a .n) (omega (arith, s .pre)) (h .i) (omega arith))
+    sym (h .inv .1 ∙ used-ends (every-less valueBound) (a .t1) (a .n) (omega (arith, s .pre)) (h .i) (omega arith))
 
 pub all-less-spec : {M : Type 1} → statement M
 all-less-spec =

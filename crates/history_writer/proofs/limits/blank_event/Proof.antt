@@ -18,7 +18,7 @@ all-zero-requires c κs = search needs
 
 returns : tie.Need-returns
 returns c =
-    let z = c .before .before .before .before in
+    let z = c .before .before .before .before .before in
     let s = z .before .before .before .before in
     blank-is (s .args .e) _ _ (values-long s) (z .before .is-write .ensures) (z .all-zero .ensures)
 

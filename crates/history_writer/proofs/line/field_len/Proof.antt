@@ -31,6 +31,9 @@ enum-told-2 c = search needs
 list-len-requires : tie.Need-list-len-requires
 list-len-requires c κs = search needs
 
+enum-told-3 : tie.Need-enum-told-3
+enum-told-3 c = search needs
+
 returns : tie.Need-returns
 unfolding fieldText
 returns c = (rw (c .enum-told .given .1), search needs)
@@ -51,6 +54,10 @@ returns-5 : tie.Need-returns-5
 unfolding fieldText
 returns-5 c = rw (c .before .enum-told2 .given .1) (c .list-len .ensures)
 
+returns-6 : tie.Need-returns-6
+unfolding fieldText
+returns-6 c = (rw (c .enum-told3 .given .1), search needs)
+
 pub field-len-spec : {M : Type 1} → statement M
 field-len-spec =
     tie.close
@@ -64,8 +71,10 @@ field-len-spec =
     op-len-requires
     enum-told-2
     list-len-requires
+    enum-told-3
     returns
     returns-2
     returns-3
     returns-4
-    returns-5)
+    returns-5
+    returns-6)

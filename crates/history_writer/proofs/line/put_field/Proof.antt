@@ -42,6 +42,16 @@ put-list-requires : tie.Need-put-list-requires
 unfolding fieldText
 put-list-requires c κs = rw (c .before .enum-told2 .given .1) at (c .before .before .before .before .before .pre)
 
+enum-told-3 : tie.Need-enum-told-3
+enum-told-3 c = search needs
+
+slice-aggregate-put-bytes-2 : tie.Need-slice-aggregate-put-bytes-2
+slice-aggregate-put-bytes-2 c = search needs
+
+put-bytes-requires-2 : tie.Need-put-bytes-requires-2
+unfolding fieldText
+put-bytes-requires-2 c κs = rw (c .before .before .enum-told3 .given .1) at (c .before .before .before .before .before .before .pre)
+
 same-length : tie.Need-same-length
 same-length c = search needs
 
@@ -87,6 +97,15 @@ returns-5 c =
     let p = c .before .before in
     rw (p .before .before .enum-told2 .given .1) (p .put-list .ensures)
 
+same-length-6 : tie.Need-same-length-6
+same-length-6 c = search needs
+
+returns-6 : tie.Need-returns-6
+unfolding fieldText
+returns-6 c =
+    let p = c .before .before in
+    rw (p .before .before .before .enum-told3 .given .1) (p .put-bytes2 .ensures)
+
 pub put-field-spec : {M : Type 1} → statement M
 put-field-spec =
     tie.close
@@ -102,6 +121,9 @@ put-field-spec =
     put-op-requires
     enum-told-2
     put-list-requires
+    enum-told-3
+    slice-aggregate-put-bytes-2
+    put-bytes-requires-2
     same-length
     returns
     same-length-2
@@ -111,4 +133,6 @@ put-field-spec =
     same-length-4
     returns-4
     same-length-5
-    returns-5)
+    returns-5
+    same-length-6
+    returns-6)

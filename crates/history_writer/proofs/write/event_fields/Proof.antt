@@ -13,15 +13,20 @@ cast-number-or-dash c = search needs
 number-or-dash-requires : tie.Need-number-or-dash-requires
 number-or-dash-requires c κs = search needs
 
-cast-t7 : tie.Need-cast-t7
-cast-t7 c = search needs
+items-or-lost-requires : tie.Need-items-or-lost-requires
+items-or-lost-requires c κs = search needs
 
-cast-t10 : tie.Need-cast-t10
-cast-t10 c = search needs
+cast-t9 : tie.Need-cast-t9
+cast-t9 c = search needs
+
+cast-t12 : tie.Need-cast-t12
+cast-t12 c = search needs
 
 returns : tie.Need-returns
 unfolding eventFieldsOf
-returns c = rw (c .before .number-or-dash .ensures, c .before .before .before .takes-value .ensures)
+returns c =
+    let n = c .before .before in
+    rw (n .before .number-or-dash .ensures, n .before .before .before .takes-value .ensures, c .before .items-or-lost .ensures)
 
 pub event-fields-spec : {M : Type 1} → statement M
 event-fields-spec =
@@ -30,6 +35,7 @@ event-fields-spec =
     takes-value-requires
     cast-number-or-dash
     number-or-dash-requires
-    cast-t7
-    cast-t10
+    items-or-lost-requires
+    cast-t9
+    cast-t12
     returns)

@@ -6,6 +6,9 @@ use borrow.Author.Needs.{needs}
 use Rattle.history_writer.proofs.write.event_len.Statement.{statement}
 use Rattle.history_writer.proofs.write.event_len.Tie as tie
 
+cast-n : tie.Need-cast-n
+cast-n c = search needs
+
 widen-requires : tie.Need-widen-requires
 widen-requires c κs = search needs
 
@@ -28,7 +31,7 @@ returns : tie.Need-returns
 returns c =
     let f = c .before .before .before in
     let w = f .before in
-    let a = w .before .before .before .args in
+    let a = w .before .before .before .before .args in
     let v = items-are (a .e .answer .values) (w .widen .result) (a .e .answer .count) (w .widen .ensures) in
     (c .line-len .ensures .0 ∙ ap length (event-line _ (a .own) (a .e) (f .event-fields .result) (f .event-fields .ensures) v), c .line-len .ensures .1)
 
@@ -36,6 +39,7 @@ pub event-len-spec : {M : Type 1} → statement M
 event-len-spec =
     tie.close
     (tie.spec
+    cast-n
     widen-requires
     event-fields-requires
     sub-line-len

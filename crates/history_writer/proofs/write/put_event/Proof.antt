@@ -5,6 +5,9 @@ use borrow.Author.Needs.{needs}
 use Rattle.history_writer.proofs.write.put_event.Statement.{statement}
 use Rattle.history_writer.proofs.write.put_event.Tie as tie
 
+cast-n : tie.Need-cast-n
+cast-n c = search needs
+
 widen-requires : tie.Need-widen-requires
 widen-requires c κs = search needs
 
@@ -24,7 +27,7 @@ put-line-requires : tie.Need-put-line-requires
 put-line-requires c κs =
     let f = c .before .before in
     let w = f .before .before in
-    let z = w .before .before .before .before in
+    let z = w .before .before .before .before .before in
     let v = items-are (z .args .e .answer .values) (w .widen .result) (z .args .e .answer .count) (w .widen .ensures) in
     (search needs, rw (event-line _ (z .args .own) (z .args .e) (f .event-fields .result) (f .event-fields .ensures) v) (z .pre .1))
 
@@ -36,7 +39,7 @@ returns c =
     let p = c .before .before in
     let f = p .before .before .before in
     let w = f .before .before in
-    let a = w .before .before .before .before .args in
+    let a = w .before .before .before .before .before .args in
     let v = items-are (a .e .answer .values) (w .widen .result) (a .e .answer .count) (w .widen .ensures) in
     rw (sym (event-line _ (a .own) (a .e) (f .event-fields .result) (f .event-fields .ensures) v)) (p .put-line .ensures)
 
@@ -44,6 +47,7 @@ pub put-event-spec : {M : Type 1} → statement M
 put-event-spec =
     tie.close
     (tie.spec
+    cast-n
     widen-requires
     event-fields-requires
     sub-put-line

@@ -6,6 +6,7 @@ use mathlib.Core.Path.{_≡_, refl, sym, _∙_}
 use mathlib.Core.Bool.{true, false}
 use mathlib.Core.Logic.{⊎-elim}
 use mathlib.Core.List.{List, []}
+use mathlib.Core.Option.{Option}
 use lib.ListN.{length, take, getD}
 use lib.Seq.{slice}
 use lib.Dec.{eqb}
@@ -15,7 +16,7 @@ use Rattle.history.specs.declared.record.Op.{Op}
 use Rattle.history.specs.Record.{noObject}
 use Rattle.history.specs.Kinds.{hasOp}
 use Rattle.criteria.specs.Tests.{mem}
-use Rattle.replays.specs.Replay.{Stands, noLight}
+use Rattle.replays.specs.Replay.{recordedAs, Stands, noLight}
 use Rattle.replays.specs.Steps.{Judged}
 use Rattle.replayed_views.specs.Steps.{ReadyKept}
 use Rattle.replays.proofs.ReplayLaws.{stands-on, judged-given, judged-seen, judged-unseen, found-some}
@@ -46,8 +47,8 @@ number c = getD (c .before .before .args .t8) (c .before .loop .i) 0
 abbrev op : tie.In-loop Inv-loop μ-loop → Op
 op c = getD (c .before .before .args .t2) (number c) noLight .op
 
-abbrev recorded : tie.In-loop Inv-loop μ-loop → List ℕ
-recorded c = let a = c .before .before .args in take (getD (a .counts .now) (number c) 0) (getD (a .answers .now) (number c) [])
+abbrev recorded : tie.In-loop Inv-loop μ-loop → Option (List ℕ)
+recorded c = let a = c .before .before .args in recordedAs (getD (a .counts .now) (number c) 0) (getD (a .answers .now) (number c) [])
 
 in-part : (c : tie.In-loop Inv-loop μ-loop) → c .before .loop .i < c .before .before .args .m
 in-part c = let t = c .loop-test .taken in omega (arith, t)
@@ -58,7 +59,7 @@ is-event c = c .before .before .pre .event (c .before .loop .i) (in-part c)
 below : (c : tie.In-loop Inv-loop μ-loop) → number c < 64
 below c = omega (arith, is-event c, c .before .before .pre .small)
 
-short-answer : (c : tie.In-loop Inv-loop μ-loop) → getD (c .before .before .args .counts .now) (number c) 0 ≤ 8
+short-answer : (c : tie.In-loop Inv-loop μ-loop) → getD (c .before .before .args .counts .now) (number c) 0 ≤ 9
 short-answer c = c .before .before .pre .answer (number c) (is-event c)
 
 part-holds : (c : tie.In-loop Inv-loop μ-loop) → c .before .before .args .m ≤ length (c .before .before .args .t8)
@@ -133,7 +134,7 @@ same-requires : tie.Need-same-requires Inv-loop μ-loop
 same-requires c κs =
     let p = c .before .before .before .before .before in
     let t = p .before .before in
-    (t .before .before .pre .values, short-answer t, p .step .ensures .1 .few)
+    (t .before .before .pre .values, p .step .ensures .1 .few)
 
 returns : tie.Need-returns Inv-loop μ-loop
 returns c =

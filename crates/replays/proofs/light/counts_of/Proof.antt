@@ -2,12 +2,11 @@
 use native.Mathlib.Omega.{arith}
 use Prim.Native.Nat.{_≤_, _<_, _-_}
 use mathlib.Core.Path.{_≡_, refl, ap, _∙_}
-use mathlib.Core.List.{[]}
 use lib.ListN.{length, getD, length-set}
 use Rattle.history.specs.declared.record.Event.{Event}
-use Rattle.history.specs.declared.record.Op.the-variants.{Write}
 use Rattle.history.specs.Record.{noEvent}
 use Rattle.criteria.proofs.Loops.{any-default}
+use Rattle.replays.specs.Light.{countOf}
 use Rattle.replays.proofs.LightLaws.{Made, made-more}
 use borrow.Author.Needs.{needs}
 use Rattle.replays.proofs.light.counts_of.Statement.{statement}
@@ -15,7 +14,7 @@ use Rattle.replays.proofs.light.counts_of.Tie as tie
 
 abbrev Inv-loop : tie.InvT-loop
 Inv-loop events counts₀ i₀ counts i =
-    (i ≤ 64) × (length events ≡ 64) × (length counts ≡ 64) × Made (λ (x : Event). x .answer .count) noEvent 0 events counts i
+    (i ≤ 64) × (length events ≡ 64) × (length counts ≡ 64) × Made (λ (x : Event). countOf (x .answer)) noEvent 0 events counts i
 
 abbrev μ-loop : tie.MeasureT-loop
 μ-loop events counts₀ i₀ counts i = 64 - i
@@ -38,15 +37,8 @@ mul-e c = search needs
 array-copy-out-e : tie.Need-array-copy-out-e Inv-loop μ-loop
 array-copy-out-e c = search needs
 
-cast-counts : tie.Need-cast-counts Inv-loop μ-loop
-cast-counts c =
-    let i = c .before .before .before in
-    let l = i .before .loop in
-    let s = i .before .before in
-    let q =
-    ap (λ (x : Event). x .answer .count)
-    (same-event i record { process = record { 0 = 0 }; object = 0; op = Write; value = 0; answer = record { count = 0; values = [] } }) in
-    omega (arith, q, s .pre (l .i) (next-i i))
+count-of-requires : tie.Need-count-of-requires Inv-loop μ-loop
+count-of-requires c κs = search needs
 
 array-write-counts : tie.Need-array-write-counts Inv-loop μ-loop
 array-write-counts c = search needs
@@ -66,7 +58,7 @@ loop-again c =
       omega (arith, h),
       l .inv .1,
       length-set (l .counts) (l .i) _ ∙ l .inv .2,
-      made-more (λ (x : Event). x .answer .count) noEvent 0 (a .t1) (l .counts) (l .i) _ (omega (arith, h, l .inv .2)) (ap (λ (x : Event). x .answer .count) (same-event i _)) (l .inv .3),
+      made-more (λ (x : Event). countOf (x .answer)) noEvent 0 (a .t1) (l .counts) (l .i) _ (omega (arith, h, l .inv .2)) (c .count-of .ensures ∙ ap (λ (x : Event). countOf (x .answer)) (same-event i _)) (l .inv .3),
     )
 
 returns : tie.Need-returns Inv-loop μ-loop
@@ -83,7 +75,7 @@ counts-of-spec =
     loop-holds
     mul-e
     array-copy-out-e
-    cast-counts
+    count-of-requires
     array-write-counts
     add-i
     loop-less

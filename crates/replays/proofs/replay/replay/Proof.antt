@@ -12,7 +12,7 @@ use Rattle.history.specs.declared.record.Op.{Op}
 use Rattle.history.specs.Record.{noObject}
 use Rattle.objects.specs.declared.state.State.{State}
 use Rattle.objects.specs.State.{noState, Changed}
-use Rattle.replays.specs.Replay.{Ready, Stands, noLight}
+use Rattle.replays.specs.Replay.{recordedAs, Ready, Stands, noLight}
 use Rattle.replays.specs.Steps.{seesOf, Judged}
 use Rattle.replays.proofs.ReplayLaws.{AllStand, wrongIn, all-on, stands-on, unchanged, judged-given, judged-asked, judged-unasked, whole, turn-on, turn-stops, view-ends, found-some}
 use Rattle.replays.proofs.replay.replay.Statement.{statement}
@@ -61,7 +61,7 @@ below c = let a = is-event c in let b = c .before .before .pre .small in omega (
 is-object : (c : tie.In-loop Inv-loop μ-loop) → place c < 16
 is-object c = c .before .before .pre .object (number c) (is-event c)
 
-short-answer : (c : tie.In-loop Inv-loop μ-loop) → getD (c .before .before .args .counts .now) (number c) 0 ≤ 8
+short-answer : (c : tie.In-loop Inv-loop μ-loop) → getD (c .before .before .args .counts .now) (number c) 0 ≤ 9
 short-answer c = c .before .before .pre .answer (number c) (is-event c)
 
 view-holds : (c : tie.In-loop Inv-loop μ-loop) → c .before .before .args .n ≤ length (c .before .before .args .t8)
@@ -85,18 +85,18 @@ ready c =
 follows : (c : tie.Joined1 Inv-loop μ-loop)
     → let t = c .before .before .before .before .before .before in
     (s : State) × Changed (state t) (op t) (number t) s
-    × Judged (seen t) (t .before .before .args .values .now) (take (getD (t .before .before .args .counts .now) (number t) 0) (recorded t)) (state t) (op t) false
+    × Judged (seen t) (t .before .before .args .values .now) (recordedAs (getD (t .before .before .args .counts .now) (number t) 0) (recorded t)) (state t) (op t) false
     × (c .if1 .states ≡ set (t .before .loop .states) (place t) s)
 follows c =
     let q = c .before in
     let t = q .before .before .before .before .before in
     let a = t .before .before .args in
     let k = getD (a .counts .now) (number t) 0 in
-    let unasked : q .asks .result ≡ false → Judged (seen t) (a .values .now) (take k (recorded t)) (state t) (op t) false =
+    let unasked : q .asks .result ≡ false → Judged (seen t) (a .values .now) (recordedAs k (recorded t)) (state t) (op t) false =
     judged-unasked (seen t) (a .values .now) (recorded t) (state t) (op t) k (q .asks .ensures) in
     ⊎-elim
     (λ w.
-    let j = judged-given (a .values .now) (take k (recorded t)) (state t) (op t) (w .2 .result .answer) (w .2 .ensures .1) (w .5 .ensures) in
+    let j = judged-given (a .values .now) (recordedAs k (recorded t)) (state t) (op t) (w .2 .result .answer) (w .2 .ensures .1) (w .5 .ensures) in
     (w .2 .result .state, w .2 .ensures .0, judged-asked (seen t) (a .values .now) (recorded t) (state t) (op t) k (q .asks .ensures) (w .0 .taken) j (w .6 .left), w .8))
     (⊎-elim
     (λ w. (w .4 .result, w .4 .ensures, unasked (w .0 .left), w .5))
@@ -149,7 +149,7 @@ element-copy-out-answer c = below (c .before .before .before .before .before .be
 same-requires : tie.Need-same-requires Inv-loop μ-loop
 same-requires c κs =
     let t = c .before .before .before .before .before .before .before .before .before .before in
-    (t .before .before .pre .values, short-answer t, c .before .before .step .ensures .1 .few)
+    (t .before .before .pre .values, c .before .before .step .ensures .1 .few)
 
 returns : tie.Need-returns Inv-loop μ-loop
 returns c =
@@ -161,7 +161,7 @@ returns c =
     let l = t .before in
     let a = l .before in
     let k = getD (a .args .counts .now) (number t) 0 in
-    let g = judged-given (a .args .values .now) (take k (recorded t)) (state t) (op t) (p .step .result .answer) (p .step .ensures .1) (d .same .ensures) in
+    let g = judged-given (a .args .values .now) (recordedAs k (recorded t)) (state t) (op t) (p .step .result .answer) (p .step .ensures .1) (d .same .ensures) in
     let j = judged-asked (seen t) (a .args .values .now) (recorded t) (state t) (op t) k (q .asks .ensures) (n .if1 .taken) g refl in
     found-some (number t) (below t)
     ∙ sym (whole (a .args .objects) (a .args .size) (a .args .t2) (a .args .values .now) (a .args .answers .now) (a .args .counts .now) (a .args .who) (a .args .starts) (take (a .args .n) (a .args .t8))

@@ -1,0 +1,2 @@
+pub mod VerdictFrom
+pub mod KnownAnswers

@@ -1,0 +1,1 @@
+// What the check was before a change, and that the change left it so. No function is here.
