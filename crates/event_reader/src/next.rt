@@ -172,9 +172,9 @@ fn lost_at(text: &[u8], from: usize) -> AnswerAt
     unknown_answer(from)
 }
 
-// The answer that stands at a place as values with commas between them, or as `?`, and its line feed. Few answers are lost, so `?` is
-// looked for where no number stands.
-fn values_at(text: &[u8], from: usize) -> AnswerAt
+// The answer that stands at a place as values with commas between them, or as `?`, and its line feed. Few answers are lost: `?` is
+// looked for only where no number stands.
+fn values_or_lost_at(text: &[u8], from: usize) -> AnswerAt
     requires { ⌜ from ≤ length (now text) ⌝ }
     ensures { λ r. ⌜ (r .known ≡ true → AnswerFrom from (now (text .entry)) r) ⌝ }
 {
@@ -227,7 +227,7 @@ fn answer_at(text: &[u8], from: usize) -> AnswerAt
             end: from + 1,
         };
     }
-    values_at(text, from)
+    values_or_lost_at(text, from)
 }
 
 // The answer where no event is read: of fault 2, at a line that ends at a place.

@@ -1,9 +1,9 @@
-// The answer of an event: at most eight values.
+// The answer of an event: at most eight values, or one that was lost.
 ghost use mathlib.Core.Path.{_≡_};
+ghost use mathlib.Core.Bool.{false};
 ghost use Prim.Native.Nat.{ℕ, _≤_, _<_};
 ghost use lib.ListN.{take, getD};
 ghost use Rattle.history.specs.Record.{valueBound, answerOf, noAnswer, lostAnswer};
-ghost use mathlib.Core.Bool.{false};
 ghost use Rattle.history.specs.Faults.{isLost};
 ghost use Rattle.history.specs.Steps.Fields.{answerField};
 use crate::record::Answer;
@@ -59,7 +59,7 @@ fn narrow(items: [u32; 8], n: usize) -> Answer
     }
 }
 
-// The same of a field that is not `?`.
+// What a field that is not `?` is as an answer.
 fn values_field(field: &[u8]) -> AnswerField
     requires { ⌜ isLost (now field) ≡ false ⌝ }
     ensures { λ r. ⌜ r ≡ answerField (now (field .entry)) ⌝ }
@@ -94,7 +94,7 @@ fn values_field(field: &[u8]) -> AnswerField
     }
 }
 
-// Whether a field is `?` or a list of values, and then the answer.
+// What a field is as an answer: `?`, or a list.
 pub fn answer_field(field: &[u8]) -> AnswerField
     ensures { λ r. ⌜ r ≡ answerField (now (field .entry)) ⌝ }
 {

@@ -182,12 +182,12 @@ fn blank_event(e: Event) -> bool
     let values = answer.values;
     let write = is_write(op);
     let zero = all_zero(values, 0);
-    let kept = !answer.lost;
+    let recorded = !answer.lost;
     (e.process.0 == 0)
         & (e.object == 0)
         & write
         & (e.value == 0)
-        & kept
+        & recorded
         & (answer.count == 0)
         & zero
 }

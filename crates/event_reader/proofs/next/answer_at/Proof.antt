@@ -23,8 +23,8 @@ returns c h =
     none-end (a .from) (a .text .now) (c .no-answer .result) (c .no-answer .ensures)
     (word-stands (a .text .now) _ (a .from) _ (c .before .before .stands-at .ensures) (search needs) (c .before .if1 .taken))
 
-values-at-requires : tie.Need-values-at-requires
-values-at-requires c κs = search needs
+values-or-lost-at-requires : tie.Need-values-or-lost-at-requires
+values-or-lost-at-requires c κs = search needs
 
 returns-2 : tie.Need-returns-2
 returns-2 c = search needs
@@ -38,5 +38,5 @@ answer-at-spec =
     no-answer-requires
     add-t8
     returns
-    values-at-requires
+    values-or-lost-at-requires
     returns-2)

@@ -1,4 +1,4 @@
--- `values_at` meets its contract: the values so far are what the text spells up to the place that is reached. Assumes nothing.
+-- `values_or_lost_at` meets its contract: the values so far are what the text spells up to the place that is reached. Assumes nothing.
 use native.Mathlib.Omega.{arith}
 use Prim.Native.Nat.{_≤_, _-_}
 use mathlib.Core.Path.{_≡_, refl, sym, _∙_}
@@ -9,8 +9,8 @@ use Rattle.history.specs.Record.{valueBound}
 use Rattle.history.proofs.ListingLaws.{Listing, listing-begins, listing-more}
 use Rattle.event_reader.proofs.QuickLaws.{values-end}
 use borrow.Author.Needs.{needs}
-use Rattle.event_reader.proofs.next.values_at.Statement.{statement}
-use Rattle.event_reader.proofs.next.values_at.Tie as tie
+use Rattle.event_reader.proofs.next.values_or_lost_at.Statement.{statement}
+use Rattle.event_reader.proofs.next.values_or_lost_at.Tie as tie
 
 abbrev Inv-loop : tie.InvT-loop
 Inv-loop text from values₀ k₀ a₀ values k a = (a ≤ length text) × (k ≤ 8) × (length values ≡ 8) × Listing 8 valueBound from text values k a
@@ -92,8 +92,8 @@ unknown-answer-requires-3 c κs = search needs
 returns-5 : tie.Need-returns-5 Inv-loop μ-loop
 returns-5 c h = absurd (false≢true (sym (c .unknown-answer3 .ensures) ∙ h))
 
-pub values-at-spec : {M : Type 1} → statement M
-values-at-spec =
+pub values-or-lost-at-spec : {M : Type 1} → statement M
+values-or-lost-at-spec =
     tie.close
     (tie.spec
     Inv-loop
