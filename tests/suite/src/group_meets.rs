@@ -1,5 +1,5 @@
 //! Whether histories meet criteria: the brute force, the search and the checker must agree, and so must what document 01 says of its
-//! samples and document 004 of its Figure 3. About a third of the random histories have lost answers.
+//! samples and document 004 of its Figure 3. About a half of the random histories have lost answers.
 
 use crate::brute::{orderings, Brute};
 use crate::certificate::{Certificate, Criterion, List, CRITERIA};
@@ -8,11 +8,13 @@ use crate::checker::Lent;
 use crate::compare::{Call, Comparer};
 use crate::damage::damage_history;
 use crate::group_random::pair;
-use crate::history::History;
+use crate::history::{Event, History};
 use crate::make::{answers_of, certified, lose_now_and_then, lose_some, random_answer, random_answers, shape, Size};
+use crate::objects::{Kind, Object, KINDS, OPS};
 use crate::random::Random;
-use crate::samples::{certificate, claims, claims_of_lost, figure_3};
+use crate::samples::{certificate, claims, claims_of_lost, figure_3, updates_lost};
 use crate::search::find;
+use crate::weaken::is_pair;
 
 /// Goes through all ways to take one item from each list, until one suits.
 fn any_choice(lists: &[Vec<List>], suits: &mut dyn FnMut(&[List]) -> bool) -> bool {
@@ -110,18 +112,50 @@ fn small(random: &mut Random, events: usize) -> History {
     history
 }
 
+/// A small random history with a lost answer, if it has events. Many of them break a criterion: there is one object,
+/// all values are different, and each answer is any that the event could get. Most of the lost ones are of writes and
+/// pushes, so that the others tell something.
+fn small_with_lost(random: &mut Random, events: usize) -> History {
+    let kind = random.pick(&KINDS).0;
+    let width = (kind == Kind::Window).then_some(2);
+    let mut history = History { objects: vec![Object { kind, width }], events: vec![] };
+    let processes = 2 + random.under(2);
+    while history.events.len() < events {
+        let op = random.pick(&OPS).0;
+        if kind.has(op) {
+            let value = op.takes_value().then_some(history.events.len() as u64 + 1);
+            history.events.push(Event { process: random.under(processes), object: 0, op, value, answer: None });
+        }
+    }
+    for e in 0..events {
+        if !random.once_in(if history.events[e].value.is_some() { 2 } else { 8 }) {
+            let answers = possible_answers(&history, e);
+            history.events[e].answer = Some(random.pick(&answers).clone());
+        }
+    }
+    if events > 0 && !history.has_lost() {
+        history.events[random.under(events)].answer = None;
+    }
+    history
+}
+
+/// One of the two ways to draw a small history.
+fn small_of_each(random: &mut Random, events: usize) -> History {
+    if random.once_in(3) { small_with_lost(random, events) } else { small(random, events) }
+}
+
 /// Exhaustive: a history meets a criterion exactly when some certificate is accepted, with lost answers or without.
 pub fn exhaustive(comparer: &mut Comparer, random: &mut Random, rounds: usize) {
     let mut brute = Brute::default();
     let mut outcomes = [[[0; 2]; 2]; 5];
-    for round in 0..rounds.div_ceil(2) {
+    for round in 0..rounds.div_ceil(5) {
         // Four or five events now and then: their certificates are many.
         let events = match round % 64 {
             63 => 5,
             other if other % 8 == 7 => 4,
             _ => random.under(4),
         };
-        let history = small(random, events);
+        let history = small_of_each(random, events);
         for criterion in CRITERIA {
             let meets = brute.meets(&history, criterion);
             outcomes[criterion as usize][usize::from(history.has_lost())][usize::from(meets)] += 1;
@@ -151,12 +185,41 @@ pub fn exhaustive(comparer: &mut Comparer, random: &mut Random, rounds: usize) {
     }
 }
 
+/// Lost answers leave the criteria apart: for each pair there are histories with lost answers that meet the weaker
+/// criterion and break the stronger one, and some certificate is accepted of the one and none of the other.
+pub fn apart(comparer: &mut Comparer, random: &mut Random, rounds: usize) {
+    let mut brute = Brute::default();
+    for (stronger, weaker) in CRITERIA.into_iter().flat_map(|given| CRITERIA.map(|wanted| (given, wanted))) {
+        if stronger == weaker || !is_pair(stronger, weaker) {
+            continue;
+        }
+        for _ in 0..rounds.div_ceil(800) {
+            let suits = |history: &History, brute: &mut Brute| {
+                !brute.meets(history, stronger) && brute.meets(history, weaker)
+            };
+            let drawn = (0..20_000).map(|_| small_with_lost(random, 4)).find(|history| suits(history, &mut brute));
+            comparer.note(drawn.is_some(), || format!("no history drawn meets {weaker:?} and not {stronger:?}"));
+            let Some(history) = drawn else { continue };
+            for (criterion, met) in [(stronger, false), (weaker, true)] {
+                let accepted = some_accepted(comparer, &mut brute, &history, criterion);
+                if comparer.done() {
+                    return;
+                }
+                comparer.note(accepted == met, || {
+                    let text = String::from_utf8_lossy(&history.text()).into_owned();
+                    format!("{criterion:?}: the history meets it: {met}; a certificate is accepted: {accepted}\n{text}")
+                });
+            }
+        }
+    }
+}
+
 /// Every certificate of a history of up to two events, whatever its lists: an accepted one means that the criterion is met.
 pub fn every_list(comparer: &mut Comparer, random: &mut Random, rounds: usize) {
     let mut brute = Brute::default();
-    for _ in 0..rounds.div_ceil(33) {
+    for _ in 0..rounds.div_ceil(50) {
         let events = 1 + random.under(2);
-        let history = small(random, events);
+        let history = small_of_each(random, events);
         let text = history.text();
         // All lists of up to as many entries as there are events, repeats too; and all sets for the pasts.
         let mut lists: Vec<List> = vec![vec![]];
@@ -191,7 +254,7 @@ pub fn searched(comparer: &mut Comparer, random: &mut Random, rounds: usize) {
     let mut brute = Brute::default();
     for round in 0..rounds {
         let events = if round % 100 == 99 { 5 } else { random.under(5) };
-        let history = small(random, events);
+        let history = small_of_each(random, events);
         for criterion in CRITERIA {
             let meets = brute.meets(&history, criterion);
             let found = find(&history, criterion);
@@ -226,7 +289,9 @@ fn accept(comparer: &mut Comparer, history: &History, certificate: &Certificate,
 pub fn claimed(comparer: &mut Comparer, _: &mut Random, _: usize) {
     use Criterion::{Causal, Pram};
     let mut brute = Brute::default();
-    for (name, history, met, broken) in claims().into_iter().chain(claims_of_lost()).chain(figure_3()) {
+    let stated: Vec<_> = claims().into_iter().chain(figure_3()).collect();
+    let of_lost = claims_of_lost().into_iter().chain(updates_lost(&stated));
+    for (name, history, met, broken) in stated.clone().into_iter().chain(of_lost) {
         for (criteria, claim) in [(met, true), (broken, false)] {
             for criterion in criteria {
                 let found = find(&history, criterion);
@@ -341,7 +406,7 @@ pub fn filled_in(comparer: &mut Comparer, random: &mut Random, rounds: usize) {
     let mut brute = Brute::default();
     for _ in 0..rounds.div_ceil(8) {
         let events = 1 + random.under(4);
-        let mut history = small(random, events);
+        let mut history = small_of_each(random, events);
         let e = random.under(events);
         history.events[e].answer = None;
         let answers = possible_answers(&history, e);

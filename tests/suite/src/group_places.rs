@@ -172,7 +172,7 @@ pub fn views(comparer: &mut Comparer, random: &mut Random, _: usize) {
             // One answer lost, alone and now and then with another one changed.
             let mut changed = with_lost(history.clone(), &[e]);
             let answer = comparer.verdict(&changed.text(), &certificate.text());
-            if random.once_in(2) {
+            if random.once_in(4) {
                 flip(&mut changed, random.under(64), 0, 1);
                 comparer.verdict(&changed.text(), &certificate.text());
             }

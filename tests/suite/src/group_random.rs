@@ -32,7 +32,7 @@ fn all_calls(comparer: &mut Comparer, random: &mut Random, history: &[u8], certi
 
 /// Valid texts, long and short: every one is accepted.
 pub fn valid(comparer: &mut Comparer, random: &mut Random, rounds: usize) {
-    for _ in 0..rounds + rounds / 4 {
+    for _ in 0..rounds {
         let (history, certificate) = pair(random);
         let (history, certificate) = (history.text(), certificate.text());
         let answer = comparer.compare(Call::Check, &history, &certificate);
@@ -46,7 +46,7 @@ pub fn valid(comparer: &mut Comparer, random: &mut Random, rounds: usize) {
 
 /// Records with a few things changed: the faults of the check.
 pub fn records(comparer: &mut Comparer, random: &mut Random, rounds: usize) {
-    for _ in 0..rounds * 3 {
+    for _ in 0..rounds * 5 / 2 {
         let (mut history, mut certificate) = pair(random);
         if random.once_in(8) {
             random_answers(random, &mut history, 3);

@@ -68,6 +68,7 @@ const GROUPS: &[Group] = &[
     ("slices that are NULL", group_memory::nulls),
     ("weakening too long texts", group_weaken::too_long),
     ("lost answers filled in", group_meets::filled_in),
+    ("lost answers, criteria apart", group_meets::apart),
 ];
 
 /// The numbers that each function must have answered in a whole run.
