@@ -1,6 +1,7 @@
-/* Calls the archive as the fleet console does, on the sample dispenser Q: the check, its places, an event's line, both texts
- * read and written back, and a certificate weakened. The same with an answer lost. Then gives each function NULL with
- * length 0 for each of its slices. Prints a line each; make test compares them with tests/call_from_c.out. */
+/* Calls the archive as the fleet console does, on the sample dispenser Q: the check, its places, an event's line, both
+ * texts read and written back, and a certificate weakened; and some of these with an answer lost. Then gives each
+ * function NULL with length 0 for each of its slices. Prints a line each; make test compares them with
+ * tests/call_from_c.out. */
 #include <inttypes.h>
 #include <stdio.h>
 #include <string.h>
