@@ -1,5 +1,6 @@
-/* Compares the two checks: on the sample folders that are named as arguments, on pairs of many seeds, and on damaged variants of
- * all of them. Both must give the same number. Prints how often each number came.
+/* Compares the two checks: on the sample folders that are named as arguments, on pairs of many seeds, as they are and
+ * with some answers lost, and on damaged variants of all of them. Both must give the same number. Prints how often each
+ * number came.
  *
  * agree ROUNDS FOLDER...: so many damaged variants of each pair. */
 #include <stdbool.h>
@@ -91,11 +92,11 @@ static unsigned value_at(const struct text *t, size_t a, size_t b) {
 static const char *const words[] = {
     "register", "queue", "stack", "window", "write", "read", "push", "pop", "peek", "pram", "weak", "causal", "converge",
     "sequential", "-", "0", "7", "8", "9", "15", "16", "63", "64", "65535", "65536", "99999999999999999999", "00",
-    "1,2,3,4,5,6,7,8,9",
+    "1,2,3,4,5,6,7,8,9", "?", "?,7", "??",
 };
 
 static void damage(struct text *t) {
-    static const char bytes[] = "0123456789-, \n\nabw";
+    static const char bytes[] = "0123456789-, \n\nabw?";
     size_t a = 0, b = 0, c = 0, d = 0;
     const size_t at = t->length == 0 ? 0 : draw((unsigned)t->length);
     const uint8_t byte = draw(40) == 0 ? (uint8_t)draw(256) : (uint8_t)bytes[draw(sizeof bytes - 1)];
@@ -174,10 +175,31 @@ static void damage(struct text *t) {
     }
 }
 
+/* Loses one answer in so many: the last field of a line below the heading of the events becomes `?`. */
+static void lose(struct text *t, unsigned rarity) {
+    static const char heading[] = "event process object op value answer\n";
+    const size_t n = sizeof heading - 1;
+    size_t a = 0;
+    while (a + n <= t->length && memcmp(t->bytes + a, heading, n) != 0) a++;
+    for (a += n; a < t->length; a++) {
+        size_t field = a; /* where the line's last field starts */
+        while (a < t->length && t->bytes[a] != '\n') {
+            if (t->bytes[a] == ' ') field = a + 1;
+            a++;
+        }
+        if (draw(rarity) == 0) {
+            replace(t, field, a, (const uint8_t *)"?", 1);
+            a = field + 1;
+        }
+    }
+}
+
+/* Every third variant has lost answers besides. */
 static void damaged(const struct pair *p, unsigned rounds) {
     static struct pair q;
     for (unsigned i = 0; i < rounds; i++) {
         q = *p;
+        if (draw(3) == 0) lose(&q.history, 1 + draw(8));
         for (unsigned many = 1 + draw(3) * draw(2); many > 0; many--) damage(draw(3) == 0 ? &q.history : &q.certificate);
         compare(&q);
     }
@@ -195,6 +217,7 @@ static void load(struct text *t, const char *folder, const char *file) {
 
 int main(int argc, char **argv) {
     static struct pair pairs[PAIRS];
+    static struct pair lost;
     const unsigned rounds = argc > 1 ? (unsigned)atoi(argv[1]) : 500;
     for (int i = 2; i < argc; i++) {
         struct pair *p = &pairs[0];
@@ -209,6 +232,14 @@ int main(int argc, char **argv) {
             if (compare(&pairs[i]) != 0) {
                 printf("%s of seed %u is not accepted\n", pairs[i].name, s);
                 return 1;
+            }
+            for (unsigned rarity = 1; rarity <= 16; rarity++) {
+                lost = pairs[i];
+                lose(&lost.history, rarity);
+                if (compare(&lost) != 0) {
+                    printf("%s of seed %u with lost answers is not accepted\n", pairs[i].name, s);
+                    return 1;
+                }
             }
             damaged(&pairs[i], rounds);
         }

@@ -41,6 +41,7 @@ struct history {
     unsigned count;
     struct object objects[OBJECTS];
     struct event events[EVENTS];
+    uint64_t lost;                  /* the events whose answer is lost */
     uint64_t of_process[PROCESSES]; /* the events of each process */
     uint64_t earlier[EVENTS];       /* the earlier events of the same process */
 };
@@ -174,7 +175,8 @@ static uint32_t read_event(struct history *h, struct lines *t) {
     struct event e;
     uint32_t length = 0;
     bool over = false;
-    if (!PASS(t, "-\n")) {
+    const bool lost = PASS(t, "?\n");
+    if (!lost && !PASS(t, "-\n")) {
         for (bool last = false; !last; length++) {
             uint32_t v;
             if (!item(t, &v, &last)) return 2;
@@ -187,7 +189,7 @@ static uint32_t read_event(struct history *h, struct lines *t) {
     const bool pushes = o.kind == QUEUE || o.kind == STACK; /* the kinds with push, pop and peek */
     if (pushes == (op == WRITE || op == READ)) return 4;
     if (dash == (op == WRITE || op == PUSH)) return 4;
-    if (!can_answer(o, op, length)) return 5;
+    if (!lost && !can_answer(o, op, length)) return 5;
 
     e.process = (uint8_t)process;
     e.object = (uint8_t)object;
@@ -195,6 +197,7 @@ static uint32_t read_event(struct history *h, struct lines *t) {
     e.answered = (uint8_t)length;
     e.value = (uint16_t)value;
     h->events[own] = e;
+    if (lost) h->lost |= bit(own);
     h->earlier[own] = h->of_process[process];
     h->of_process[process] |= bit(own);
     h->count++;
@@ -206,6 +209,7 @@ static uint32_t read_history(struct history *h, const uint8_t *text, size_t leng
     struct lines t = lines_of(text, length);
     h->declared = 0;
     h->count = 0;
+    h->lost = 0;
     memset(h->of_process, 0, sizeof h->of_process);
     if (!PASS(&t, "object kind width\n")) return 2;
     while (!PASS(&t, "event process object op value answer\n")) {
@@ -359,8 +363,10 @@ static void start_contents(struct contents *s, const struct history *h) {
     }
 }
 
-/* Replays those events of the view that are kept, and says whether it gives every visible answer. */
+/* Replays those events of the view that are kept, and says whether it gives every visible answer. A lost one is not
+ * visible. */
 static bool replay(const struct history *h, struct contents *s, const struct view *w, uint64_t kept, uint64_t visible) {
+    visible &= ~h->lost;
     memset(s->head, 0, sizeof s->head);
     memcpy(s->tail, s->start, sizeof s->tail);
     for (unsigned i = 0; i < w->length; i++) {

@@ -1,6 +1,7 @@
-/* Calls the archive as the fleet console does, on the sample dispenser Q: the check, its places, an event's line, both texts read and
- * written back, and a certificate weakened. Then gives each function NULL with length 0 for each of its slices. Prints a line each;
- * make test compares them with tests/call_from_c.out. */
+/* Calls the archive as the fleet console does, on the sample dispenser Q: the check, its places, an event's line, both
+ * texts read and written back, and a certificate weakened; and some of these with an answer lost. Then gives each
+ * function NULL with length 0 for each of its slices. Prints a line each; make test compares them with
+ * tests/call_from_c.out. */
 #include <inttypes.h>
 #include <stdio.h>
 #include <string.h>
@@ -13,6 +14,13 @@ static const char history[] =
     "event process object op value answer\n"
     "0 0 0 push 7 -\n"
     "1 1 0 pop - 7\n";
+
+static const char lost[] =
+    "object kind width\n"
+    "0 queue -\n"
+    "event process object op value answer\n"
+    "0 0 0 push 7 -\n"
+    "1 1 0 pop - ?\n";
 
 static const char certificate[] =
     "criterion sequential\n"
@@ -38,6 +46,23 @@ static void weaken(const char *given, uint32_t wanted, size_t room) {
     while (unchanged < sizeof buffer && buffer[sizeof buffer - 1 - unchanged] == '.') unchanged++;
     printf("weaken to %" PRIu32 " into %zu: %" PRIu32 ", length %" PRIu64 ", unchanged %zu\n", wanted, room, answer, length, unchanged);
     printf("%.*s", (int)length, (const char *)buffer);
+}
+
+/* Q with the answer of event 1 lost: the certificate that Q refuses is accepted. */
+static void lose_answer(void) {
+    const size_t n = strlen(lost);
+    printf("check, lost: %" PRIu32 "\n", walnutgleam_check(bytes(lost), n, bytes(certificate), strlen(certificate)));
+
+    uint64_t start = 99;
+    uint64_t length = 99;
+    uint32_t answer = walnutgleam_show(bytes(lost), n, 1, &start, &length);
+    printf("show, lost: %" PRIu32 ": %.*s\n", answer, (int)length, lost + start);
+
+    uint8_t buffer[128];
+    memset(buffer, '.', sizeof buffer);
+    answer = walnutgleam_rewrite_history(bytes(lost), n, buffer, n, &length);
+    const char *const kept = memcmp(buffer, lost, n) == 0 && buffer[n] == '.' ? "same" : "other";
+    printf("history, lost: %" PRIu32 " %" PRIu64 " %s\n", answer, length, kept);
 }
 
 /* What the last call gave besides its answer. */
@@ -140,6 +165,7 @@ int main(void) {
     weaken(certificate, 2, 128);
     weaken("criterion sequential\nview ordre\n", 2, 128);
 
+    lose_answer();
     give_null();
     return 0;
 }

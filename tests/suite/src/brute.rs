@@ -1,5 +1,6 @@
-//! Whether a small history meets a criterion, straight from document 01's five lines: all strict partial orders of the events that
-//! contain program order, and all views. Nothing here is shared with the check.
+//! Whether a small history meets a criterion, straight from document 01's five lines: all strict partial orders of the
+//! events that contain program order, and all views. A lost answer is visible in no view. Nothing here is shared
+//! with the check.
 
 use std::collections::HashMap;
 
@@ -81,11 +82,14 @@ fn answer_after(history: &History, earlier: &[usize], e: usize) -> Vec<u64> {
     }
 }
 
-/// Does every visible answer in the view equal what the object gives?
+/// Does every visible answer in the view equal what the object gives? A lost one is not visible.
 fn replays(history: &History, view: &[usize], visible: impl Fn(usize) -> bool) -> bool {
     (0..view.len()).all(|place| {
         let e = view[place];
-        !visible(e) || answer_after(history, &view[..place], e) == history.events[e].answer
+        match &history.events[e].answer {
+            Some(recorded) if visible(e) => answer_after(history, &view[..place], e) == *recorded,
+            _ => true,
+        }
     })
 }
 

@@ -1,7 +1,7 @@
 //! The check of a certificate of a history, and what it answers.
 
 use crate::certificate::{Certificate, CertificateRules, Criterion, View};
-use crate::history::{History, HistoryRules};
+use crate::history::{Event, History, HistoryRules};
 use crate::objects::{ObjectRules, State};
 use crate::texts::{Refusal, Text};
 
@@ -46,7 +46,7 @@ impl Verdict {
 /// A fault of the check: its number, and its view and event.
 pub type Fault = (u32, Option<usize>, Option<usize>);
 
-/// How a certificate is checked. A wrong checker overrides one of these; the defaults are document 01's.
+/// How a certificate is checked. A wrong checker overrides one of these; the defaults are those of the documents.
 pub trait CheckRules: ObjectRules {
     /// 11: the lowest e whose past lacks an earlier event of its process.
     fn lacks_own(&self, history: &History, certificate: &Certificate) -> Option<Fault> {
@@ -119,13 +119,19 @@ pub trait CheckRules: ObjectRules {
         }
     }
 
+    /// Does a replay that gives this answer differ from the event's? A lost answer is visible in no view, under any
+    /// criterion.
+    fn differs(&self, event: &Event, given: &[u64]) -> bool {
+        event.answer.as_ref().is_some_and(|answer| answer != given)
+    }
+
     /// Every event of the view changes its object. Gives the first event with a visible answer that the replay doesn't give.
     fn replay(&self, history: &History, order: &[usize], visible: &dyn Fn(usize) -> bool) -> Option<usize> {
         let mut states: Vec<State> = history.objects.iter().map(|object| object.start()).collect();
         for e in order {
             let event = &history.events[*e];
             let answer = self.act(&history.objects[event.object], &mut states[event.object], event.op, event.value);
-            if visible(*e) && answer != event.answer {
+            if visible(*e) && self.differs(event, &answer) {
                 return Some(*e);
             }
         }
@@ -189,7 +195,7 @@ pub trait Rules: HistoryRules + CertificateRules + CheckRules {
     }
 }
 
-/// Document 01's rules: every default above.
+/// Document 01's rules with T-01 of document 02, the lost answers: every default above.
 pub struct Document01;
 
 impl ObjectRules for Document01 {}

@@ -97,6 +97,9 @@ pub fn crop(bytes: &[u8]) -> String {
     format!("{} .. ({} bytes) .. {}", text(&bytes[..400]), bytes.len(), text(&bytes[bytes.len() - 200..]))
 }
 
+/// The check of a history text in which the answer of a line is lost.
+pub const CHECK_OF_LOST: &str = "check with a lost answer";
+
 /// Compares a checker with the model and keeps the counts.
 pub struct Comparer<'c> {
     pub checker: &'c dyn Checker,
@@ -156,6 +159,9 @@ impl<'c> Comparer<'c> {
         let given = run(self.checker, call, history, certificate);
         let expected = run(&self.model, call, history, certificate);
         *self.answers.entry((call.name(), given.answer)).or_default() += 1;
+        if call == Call::Check && history.windows(3).any(|bytes| bytes == b" ?\n") {
+            *self.answers.entry((CHECK_OF_LOST, given.answer)).or_default() += 1;
+        }
         if given.places.length >= 7 && !self.until_first {
             let part = &given.places.all[given.places.start..];
             self.places.insert([given.answer, part[1], part[2], part[3], part[4]]);

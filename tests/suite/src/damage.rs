@@ -2,6 +2,7 @@
 
 use crate::certificate::{Certificate, Criterion, View};
 use crate::history::History;
+use crate::make::random_answer;
 use crate::objects::Op;
 use crate::random::Random;
 
@@ -101,8 +102,9 @@ pub fn damage_history(random: &mut Random, history: &mut History) {
         return;
     }
     let place = random.under(history.events.len());
+    let other = random_answer(random, history, place, 4);
     let event = &mut history.events[place];
-    match random.under(6) {
+    match random.under(7) {
         0 => event.process = random.under(8),
         1 => {
             if let Some(value) = &mut event.value {
@@ -118,27 +120,35 @@ pub fn damage_history(random: &mut Random, history: &mut History) {
         }
         3 => {
             if matches!(event.op, Op::Pop | Op::Peek) {
-                event.answer = if event.answer.is_empty() { vec![random.next() % 4] } else { vec![] };
+                let empty = event.answer.as_ref().is_some_and(|answer| answer.is_empty());
+                event.answer = Some(if empty { vec![random.next() % 4] } else { vec![] });
             }
         }
-        4 => event.answer.reverse(),
-        _ => {
-            if !event.answer.is_empty() {
-                let item = random.under(event.answer.len());
-                event.answer[item] = if random.once_in(2) { (event.answer[item] + 1) % 65_536 } else { random.next() % 4 };
+        4 => {
+            if let Some(answer) = &mut event.answer {
+                answer.reverse();
             }
         }
+        // An answer is lost, or one that was lost is there.
+        5 => event.answer = if event.answer.is_some() { None } else { Some(other) },
+        _ => match &mut event.answer {
+            Some(answer) if !answer.is_empty() => {
+                let item = random.under(answer.len());
+                answer[item] = if random.once_in(2) { (answer[item] + 1) % 65_536 } else { random.next() % 4 };
+            }
+            _ => {}
+        },
     }
 }
 
 /// Numbers near limits, and spellings that aren't numbers.
-const NUMBERS: [&str; 30] = [
+const NUMBERS: [&str; 34] = [
     "0", "1", "2", "6", "7", "8", "9", "15", "16", "17", "63", "64", "65", "255", "256", "65535", "65536", "65537", "131072",
     "4294967295", "4294967296", "4294967303", "18446744073709551615", "18446744073709551616", "18446744073709551623", "-", "",
-    "00", "07", "+1",
+    "00", "07", "+1", "?", "?,7", "7,?", "??",
 ];
 
-const BYTES: &[u8] = b"\n\n  ,,--0123456789\r\t\0\x0b.+?_aAeErzZ/:\x7f\x80\xff";
+const BYTES: &[u8] = b"\n\n  ,,--??0123456789\r\t\0\x0b.+_aAeErzZ/:\x7f\x80\xff";
 
 /// The starts of all lines, and the end.
 fn line_starts(text: &[u8]) -> Vec<usize> {
@@ -166,7 +176,7 @@ pub fn damage_text(random: &mut Random, text: &mut Vec<u8>) {
     let starts = line_starts(text);
     let lines = starts.len() - 1;
     let line_of = |number: usize| starts[number]..starts[number + 1];
-    match random.under(16) {
+    match random.under(17) {
         0 | 1 => text[place] = *random.pick(BYTES),
         2 => text[place] = random.next() as u8,
         3 => {
@@ -196,8 +206,8 @@ pub fn damage_text(random: &mut Random, text: &mut Vec<u8>) {
             *text = swapped;
         }
         9..=12 => {
-            // One of the text's numbers or `-` is changed.
-            let is_number = |byte: u8| byte.is_ascii_digit() || byte == b'-';
+            // One of the text's numbers, `-` or `?` is changed.
+            let is_number = |byte: u8| byte.is_ascii_digit() || byte == b'-' || byte == b'?';
             if let Some(at) = (place..text.len()).find(|at| is_number(text[*at])) {
                 let mut start = at;
                 while start > 0 && text[start - 1].is_ascii_digit() && text[at].is_ascii_digit() {
@@ -218,6 +228,16 @@ pub fn damage_text(random: &mut Random, text: &mut Vec<u8>) {
                 text.push(*random.pick(BYTES));
             }
         }
+        15 => {
+            // The last field of a line becomes `?`, or another one does.
+            let range = line_of(random.under(lines));
+            let spaces: Vec<usize> = range.clone().filter(|at| text[*at] == b' ').collect();
+            if let Some(last) = spaces.last() {
+                let space = if random.once_in(4) { *random.pick(&spaces) } else { *last };
+                let end = (space + 1..range.end).find(|at| matches!(text[*at], b' ' | 10)).unwrap_or(range.end);
+                text.splice(space + 1..end, *b"?");
+            }
+        }
         _ => {
             // A line moved to the end of the text.
             let range = line_of(random.under(lines));
@@ -232,7 +252,8 @@ pub fn random_bytes(random: &mut Random, limit: usize) -> Vec<u8> {
     let length = random.under(limit + 1);
     let words = [
         "object kind width\n", "event process object op value answer\n", "criterion weak\n", "criterion pram\n", "event past\n",
-        "view order\n", "0 queue -\n", "0 0 0 push 7 -\n", " ", "\n", ",", "-", "0", "1", "read", "window",
+        "view order\n", "0 queue -\n", "0 0 0 push 7 -\n", "0 0 0 pop - ?\n", " ", "\n", ",", "-", "?", "0", "1",
+        "read", "window",
     ];
     match random.under(3) {
         0 => (0..length).map(|_| random.next() as u8).collect(),

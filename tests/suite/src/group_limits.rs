@@ -5,7 +5,7 @@ use crate::compare::{Call, Comparer};
 use crate::history::{Event, History, HISTORY_LIMIT};
 use crate::objects::{Kind, Op};
 use crate::random::Random;
-use crate::samples::{object, q, window};
+use crate::samples::{object, q, window, with_lost};
 
 /// The history with the longest text.
 pub fn longest_history() -> History {
@@ -14,7 +14,8 @@ pub fn longest_history() -> History {
     let mut history = History { objects, events: vec![] };
     for number in 0..64 {
         let answer = vec![65_535 - number % 3; 8];
-        history.events.push(Event { process: number as usize % 8, object: 15, op: Op::Read, value: None, answer });
+        let process = number as usize % 8;
+        history.events.push(Event { process, object: 15, op: Op::Read, value: None, answer: Some(answer) });
     }
     history
 }
@@ -40,7 +41,8 @@ pub fn padded(text: &[u8], length: usize, pad: &[u8], last: &[u8]) -> Vec<u8> {
 pub fn limits(comparer: &mut Comparer, random: &mut Random, _: usize) {
     let history = q().text();
     let certificate: &[u8] = b"criterion sequential\nview order\n0 0,1\n";
-    let pads: [&[u8]; 10] = [b"7", b"7,", b"0", b",", b" ", b"\n", b"x", b"\0", b"2 0 0 push 7 -\n", b"1 0 0 pop - 7\n"];
+    let pads: [&[u8]; 11] =
+        [b"7", b"7,", b"0", b",", b" ", b"\n", b"x", b"?", b"\0", b"2 0 0 push 7 -\n", b"1 0 0 pop - 7\n"];
     for pad in pads {
         for last in [&b"\n"[..], b"", b"7\n"] {
             for more in 0..4 {
@@ -70,7 +72,7 @@ pub fn limits(comparer: &mut Comparer, random: &mut Random, _: usize) {
     }
     // Long numbers and long lists on a line, with every last item.
     for count in [3, 64, 65, 255, 256, 257, 4_000] {
-        for item in ["0", "7", "65535", "65536", "01", "-", ""] {
+        for item in ["0", "7", "65535", "65536", "01", "-", "", "?"] {
             for place in [0, count / 2, count - 1] {
                 let mut items = vec!["1"; count];
                 items[place] = item;
@@ -93,11 +95,19 @@ pub fn limits(comparer: &mut Comparer, random: &mut Random, _: usize) {
         // The lengths of the longest texts that are readable, counted by hand.
         assert_eq!((h.len(), c.len()), (4_289, 24_339), "the longest readable texts");
     }
-    comparer.check(&h, &c);
-    for (length, call) in [(h.len(), true), (c.len(), false)] {
-        for buffer in [0, 1, length - 1, length, length + 1, length + 1 + random.under(9)] {
-            let call = if call { Call::RewriteHistory { buffer } } else { Call::RewriteCertificate { buffer } };
-            comparer.compare(call, &h, &c);
+    let all: Vec<usize> = (0..64).collect();
+    let lost = with_lost(longest, &all).text();
+    if !comparer.until_first {
+        // A `?` for eight values of five digits with their commas, in each of 64 lines.
+        assert_eq!(lost.len(), h.len() - 64 * (8 * 6 - 2), "the text with every answer lost");
+    }
+    for h in [&h, &lost] {
+        comparer.check(h, &c);
+        for (length, call) in [(h.len(), true), (c.len(), false)] {
+            for buffer in [0, 1, length - 1, length, length + 1, length + 1 + random.under(9)] {
+                let call = if call { Call::RewriteHistory { buffer } } else { Call::RewriteCertificate { buffer } };
+                comparer.compare(call, h, &c);
+            }
         }
     }
 }

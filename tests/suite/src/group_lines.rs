@@ -30,6 +30,7 @@ fn spoilt(line: &str) -> Vec<String> {
         format!(" {line}"), format!("{line} "), format!("{line} -"), format!("{line}\r"), format!("{line}\t"), format!("{line}\0"),
         line.replacen(' ', "  ", 1), line.replacen(' ', "\t", 1), line.replacen(' ', "", 1), line.to_uppercase(), format!("0{line}"),
         format!("+{line}"), format!("{line},"), format!("{line},0"), format!("{line}\n"), format!("\n{line}"), String::new(),
+        format!("{line}?"), format!("?{line}"), format!("{line} ?"), format!("{line},?"),
     ];
     let fields: Vec<&str> = line.split(' ').collect();
     for place in 0..fields.len() {
@@ -42,9 +43,11 @@ fn spoilt(line: &str) -> Vec<String> {
         let mut without = fields.clone();
         without[place] = "";
         lines.push(without.join(" "));
-        let mut dash = fields.clone();
-        dash[place] = "-";
-        lines.push(dash.join(" "));
+        for other in ["-", "?", "?,7", "7,?", "??", "-?", "?-"] {
+            let mut changed = fields.clone();
+            changed[place] = other;
+            lines.push(changed.join(" "));
+        }
     }
     for place in 0..line.len() {
         lines.push(format!("{}{}", &line[..place], &line[place + 1..]));
@@ -63,7 +66,7 @@ pub fn objects(comparer: &mut Comparer, _: &mut Random, _: usize) {
     let kinds = ["register", "queue", "stack", "window", "windows", "Queue", "", "0", "-", "read"];
     let widths = [
         "-", "0", "1", "2", "8", "9", "10", "255", "256", "257", "65536", "65537", "4294967297", "18446744073709551617", "00", "01",
-        "+1", "-1", "--", "", "1,2", "x", "1x", "99999999999999999999999999999999",
+        "+1", "-1", "--", "", "1,2", "x", "1x", "99999999999999999999999999999999", "?",
     ];
     let many: String = (0..16).map(|number| format!("{number} stack -\n")).collect();
     let owns: [(&str, [&str; 6]); 3] = [
@@ -101,8 +104,11 @@ pub fn events(comparer: &mut Comparer, _: &mut Random, _: usize) {
     let processes = ["0", "7", "8", "256", "00", "-", "4294967296"];
     let objects = ["0", "1", "2", "3", "4", "65536", "-", "01"];
     let ops = ["write", "read", "push", "pop", "peek", "reads", ""];
-    let values = ["-", "0", "65535", "65536", "07", "18446744073709551616", "", "4294967297"];
-    let answers = ["-", "0", "65535", "65536", "1,2", "1,65536", "1,2,3", "1,", ",1", "01", "-,1", "", "18446744073709551616,1"];
+    let values = ["-", "0", "65535", "65536", "07", "18446744073709551616", "", "4294967297", "?"];
+    let answers = [
+        "-", "0", "65535", "65536", "1,2", "1,65536", "1,2,3", "1,", ",1", "01", "-,1", "", "18446744073709551616,1",
+        "?", "?,1", "1,?", "??", "-?",
+    ];
     let four = "0 register -\n1 queue -\n2 stack -\n3 window 2\n";
     let base = format!("{HEAD}{four}{EVENTS}");
     let wide = step(comparer, 11);
@@ -111,11 +117,14 @@ pub fn events(comparer: &mut Comparer, _: &mut Random, _: usize) {
         comparer.check(text.as_bytes(), b"");
     });
     let full: String = (0..64).map(|number| format!("{number} 1 1 peek - -\n")).collect();
-    products(&[&["64", "65", "63"], &["0", "8"], &["0", "3", "4"], &ops, &values, &["-", "0", "1,2", "1,", "65536"]], wide * 5, |line| {
+    let few = ["-", "0", "1,2", "1,", "65536", "?", "?,"];
+    products(&[&["64", "65", "63"], &["0", "8"], &["0", "3", "4"], &ops, &values, &few], wide * 5, |line| {
         let text = format!("{base}{full}{line}\n");
         comparer.check(text.as_bytes(), b"");
     });
-    for good in ["0 5 0 write 12 -", "0 5 3 read - 12,34", "0 0 1 pop - 12"] {
+    let recorded = ["0 5 0 write 12 -", "0 5 3 read - 12,34", "0 0 1 pop - 12"];
+    let lost = ["0 5 0 write 12 ?", "0 5 3 read - ?", "0 0 1 pop - ?"];
+    for good in recorded.into_iter().chain(lost) {
         for line in spoilt(good) {
             for end in ["\n", "", "\n1 0 0 read - 0\n"] {
                 let text = format!("{base}{line}{end}");
@@ -123,10 +132,11 @@ pub fn events(comparer: &mut Comparer, _: &mut Random, _: usize) {
             }
         }
     }
-    // Windows of every width with answers of every length near it.
+    // Windows of every width with answers of every length near it, and with a lost one alone and in a list.
     for width in 1..=8 {
-        for length in 0..=9 {
-            let answer = if length == 0 { "-".to_string() } else { vec!["3"; length].join(",") };
+        let lengths = (0..=9).map(|length| if length == 0 { "-".to_string() } else { vec!["3"; length].join(",") });
+        let lists = (1..=9).map(|length| [vec!["?"], vec!["0"; length - 1]].concat().join(","));
+        for answer in lengths.chain(lists) {
             for (op, value) in [("read", "-"), ("write", "3")] {
                 let text = format!("{HEAD}0 window {width}\n{EVENTS}0 0 0 {op} {value} {answer}\n");
                 comparer.check(text.as_bytes(), b"criterion sequential\nview order\n0 0\n");
@@ -135,10 +145,10 @@ pub fn events(comparer: &mut Comparer, _: &mut Random, _: usize) {
     }
 }
 
-const LISTS: [&str; 42] = [
+const LISTS: [&str; 45] = [
     "-", "0", "1", "2", "0,1", "1,0", "0,0", "1,2", "0,2", "2,1", "0,1,2", "2,1,0", "1,1,1", "0,1,2,0", "0,1,2,3", "3", "0,3", "3,0",
     "3,3,3,3", "64", "256", "65536", "4294967296", "4294967297,1", "18446744073709551616", "18446744073709551617,0", "", ",", "0,",
-    ",0", "0,,1", "-,0", "0,-", "00", "01", "+0", "0 1", "2,1,3", "1,0,x", "0;1", "1,01", "0,1,1",
+    ",0", "0,,1", "-,0", "0,-", "00", "01", "+0", "0 1", "2,1,3", "1,0,x", "0;1", "1,01", "0,1,1", "?", "0,?", "?,1",
 ];
 
 /// Lines of certificates of a history with three events by processes 2 and 5, in each place where one stands.

@@ -1,16 +1,20 @@
 //! Whether histories meet criteria: the brute force, the search and the checker must agree, and so must what document 01 says of its
-//! samples and document 004 of its Figure 3.
+//! samples and document 004 of its Figure 3. About a half of the random histories have lost answers.
 
 use crate::brute::{orderings, Brute};
 use crate::certificate::{Certificate, Criterion, List, CRITERIA};
+use crate::check::NONE;
 use crate::checker::Lent;
 use crate::compare::{Call, Comparer};
 use crate::damage::damage_history;
-use crate::history::History;
-use crate::make::{certified, random_answers, shape, Size};
+use crate::group_random::pair;
+use crate::history::{Event, History};
+use crate::make::{answers_of, certified, lose_now_and_then, lose_some, random_answer, random_answers, shape, Size};
+use crate::objects::{Kind, Object, KINDS, OPS};
 use crate::random::Random;
-use crate::samples::{certificate, claims, figure_3};
+use crate::samples::{certificate, claims, claims_of_lost, figure_3, updates_lost};
 use crate::search::find;
+use crate::weaken::is_pair;
 
 /// Goes through all ways to take one item from each list, until one suits.
 fn any_choice(lists: &[Vec<List>], suits: &mut dyn FnMut(&[List]) -> bool) -> bool {
@@ -89,7 +93,8 @@ fn some_accepted_by_turns(comparer: &mut Comparer, brute: &mut Brute, history: &
     })
 }
 
-/// A small random history: one object or two, few values, so that about half of them meet a criterion.
+/// A small random history: one object or two, few values, so that about half of them meet a criterion. A third of them
+/// has lost answers.
 fn small(random: &mut Random, events: usize) -> History {
     let objects = 1 + usize::from(random.once_in(3));
     let size = Size { events, objects, processes: 1 + random.under(3), values: 3, width: 2 };
@@ -103,13 +108,46 @@ fn small(random: &mut Random, events: usize) -> History {
             damage_history(random, &mut history);
         }
     }
+    lose_now_and_then(random, &mut history);
     history
 }
 
-/// Exhaustive: a history meets a criterion exactly when some certificate is accepted.
+/// A small random history with a lost answer, if it has events. Many of them break a criterion: there is one object,
+/// all values are different, and each answer is any that the event could get. Most of the lost ones are of writes and
+/// pushes, so that the others tell something.
+fn small_with_lost(random: &mut Random, events: usize) -> History {
+    let kind = random.pick(&KINDS).0;
+    let width = (kind == Kind::Window).then_some(2);
+    let mut history = History { objects: vec![Object { kind, width }], events: vec![] };
+    let processes = 2 + random.under(2);
+    while history.events.len() < events {
+        let op = random.pick(&OPS).0;
+        if kind.has(op) {
+            let value = op.takes_value().then_some(history.events.len() as u64 + 1);
+            history.events.push(Event { process: random.under(processes), object: 0, op, value, answer: None });
+        }
+    }
+    for e in 0..events {
+        if !random.once_in(if history.events[e].value.is_some() { 2 } else { 8 }) {
+            let answers = possible_answers(&history, e);
+            history.events[e].answer = Some(random.pick(&answers).clone());
+        }
+    }
+    if events > 0 && !history.has_lost() {
+        history.events[random.under(events)].answer = None;
+    }
+    history
+}
+
+/// One of the two ways to draw a small history.
+fn small_of_each(random: &mut Random, events: usize) -> History {
+    if random.once_in(3) { small_with_lost(random, events) } else { small(random, events) }
+}
+
+/// Exhaustive: a history meets a criterion exactly when some certificate is accepted, with lost answers or without.
 pub fn exhaustive(comparer: &mut Comparer, random: &mut Random, rounds: usize) {
     let mut brute = Brute::default();
-    let mut outcomes = [[0; 2]; 5];
+    let mut outcomes = [[[0; 2]; 2]; 5];
     for round in 0..rounds.div_ceil(5) {
         // Four or five events now and then: their certificates are many.
         let events = match round % 64 {
@@ -117,10 +155,10 @@ pub fn exhaustive(comparer: &mut Comparer, random: &mut Random, rounds: usize) {
             other if other % 8 == 7 => 4,
             _ => random.under(4),
         };
-        let history = small(random, events);
+        let history = small_of_each(random, events);
         for criterion in CRITERIA {
             let meets = brute.meets(&history, criterion);
-            outcomes[criterion as usize][usize::from(meets)] += 1;
+            outcomes[criterion as usize][usize::from(history.has_lost())][usize::from(meets)] += 1;
             let accepted = if events == 5 {
                 some_accepted_by_turns(comparer, &mut brute, &history, criterion)
             } else {
@@ -138,8 +176,40 @@ pub fn exhaustive(comparer: &mut Comparer, random: &mut Random, rounds: usize) {
     // Each criterion was met by some of the histories and broken by some, or the group says nothing.
     if rounds >= 500 {
         for criterion in CRITERIA {
-            let [broken, met] = outcomes[criterion as usize];
-            comparer.note(broken > 4 && met > 4, || format!("{criterion:?}: met by {met} histories, broken by {broken}"));
+            for (lost, [broken, met]) in outcomes[criterion as usize].into_iter().enumerate() {
+                let which = if lost == 1 { "with lost answers" } else { "with none lost" };
+                let say = || format!("{criterion:?}: met by {met} histories {which}, broken by {broken}");
+                comparer.note(broken > 4 && met > 4, say);
+            }
+        }
+    }
+}
+
+/// Lost answers leave the criteria apart: for each pair there are histories with lost answers that meet the weaker
+/// criterion and break the stronger one, and some certificate is accepted of the one and none of the other.
+pub fn apart(comparer: &mut Comparer, random: &mut Random, rounds: usize) {
+    let mut brute = Brute::default();
+    for (stronger, weaker) in CRITERIA.into_iter().flat_map(|given| CRITERIA.map(|wanted| (given, wanted))) {
+        if stronger == weaker || !is_pair(stronger, weaker) {
+            continue;
+        }
+        for _ in 0..rounds.div_ceil(800) {
+            let suits = |history: &History, brute: &mut Brute| {
+                !brute.meets(history, stronger) && brute.meets(history, weaker)
+            };
+            let drawn = (0..20_000).map(|_| small_with_lost(random, 4)).find(|history| suits(history, &mut brute));
+            comparer.note(drawn.is_some(), || format!("no history drawn meets {weaker:?} and not {stronger:?}"));
+            let Some(history) = drawn else { continue };
+            for (criterion, met) in [(stronger, false), (weaker, true)] {
+                let accepted = some_accepted(comparer, &mut brute, &history, criterion);
+                if comparer.done() {
+                    return;
+                }
+                comparer.note(accepted == met, || {
+                    let text = String::from_utf8_lossy(&history.text()).into_owned();
+                    format!("{criterion:?}: the history meets it: {met}; a certificate is accepted: {accepted}\n{text}")
+                });
+            }
         }
     }
 }
@@ -149,7 +219,7 @@ pub fn every_list(comparer: &mut Comparer, random: &mut Random, rounds: usize) {
     let mut brute = Brute::default();
     for _ in 0..rounds.div_ceil(50) {
         let events = 1 + random.under(2);
-        let history = small(random, events);
+        let history = small_of_each(random, events);
         let text = history.text();
         // All lists of up to as many entries as there are events, repeats too; and all sets for the pasts.
         let mut lists: Vec<List> = vec![vec![]];
@@ -182,9 +252,9 @@ pub fn every_list(comparer: &mut Comparer, random: &mut Random, rounds: usize) {
 /// The search agrees with the brute force on small histories, and what it finds is accepted.
 pub fn searched(comparer: &mut Comparer, random: &mut Random, rounds: usize) {
     let mut brute = Brute::default();
-    for round in 0..rounds.div_ceil(2) {
+    for round in 0..rounds {
         let events = if round % 100 == 99 { 5 } else { random.under(5) };
-        let history = small(random, events);
+        let history = small_of_each(random, events);
         for criterion in CRITERIA {
             let meets = brute.meets(&history, criterion);
             let found = find(&history, criterion);
@@ -214,11 +284,14 @@ fn accept(comparer: &mut Comparer, history: &History, certificate: &Certificate,
     });
 }
 
-/// What document 01 says of its samples, and what document 004 says of Figure 3.
+/// What document 01 says of its samples, what follows where some of their answers are lost, and what document 004 says
+/// of Figure 3.
 pub fn claimed(comparer: &mut Comparer, _: &mut Random, _: usize) {
     use Criterion::{Causal, Pram};
     let mut brute = Brute::default();
-    for (name, history, met, broken) in claims().into_iter().chain(figure_3()) {
+    let stated: Vec<_> = claims().into_iter().chain(figure_3()).collect();
+    let of_lost = claims_of_lost().into_iter().chain(updates_lost(&stated));
+    for (name, history, met, broken) in stated.clone().into_iter().chain(of_lost) {
         for (criteria, claim) in [(met, true), (broken, false)] {
             for criterion in criteria {
                 let found = find(&history, criterion);
@@ -258,4 +331,117 @@ pub fn claimed(comparer: &mut Comparer, _: &mut Random, _: usize) {
     accept(comparer, &of("e"), &certificate(&of("e"), Pram, &[], &views), "figure 3e");
     let views: [&[usize]; 2] = [&[0, 1, 2, 6, 7, 8, 3, 9, 10, 11, 4, 5], &[0, 1, 2, 6, 7, 8, 9, 3, 4, 5, 10, 11]];
     accept(comparer, &of("i"), &certificate(&of("i"), Pram, &[], &views), "figure 3i");
+}
+
+/// The view in which the answer of each event would be visible, and the answer that it gives there. Under causal there
+/// may be several such views; the one of the event itself is taken.
+fn answers_in_views(history: &History, certificate: &Certificate) -> Vec<(usize, Vec<u64>)> {
+    let in_order = |order: &[usize], e: usize| {
+        let place = order.iter().position(|event| *event == e).expect("the event is in its view");
+        answers_of(history, order).swap_remove(place)
+    };
+    let of_event = |e: usize| match certificate.criterion {
+        Criterion::Sequential => (0, in_order(&certificate.views[0].order, e)),
+        Criterion::Converge => {
+            let kept = |event: &usize| *event == e || certificate.pasts[e].contains(event);
+            let cut: List = certificate.views[0].order.iter().copied().filter(kept).collect();
+            (0, in_order(&cut, e))
+        }
+        Criterion::Weak | Criterion::Causal => (e, in_order(&certificate.views[e].order, e)),
+        Criterion::Pram => {
+            let process = history.events[e].process;
+            let view = certificate.views.iter().find(|view| view.number == process).expect("the process has a view");
+            (process, in_order(&view.order, e))
+        }
+    };
+    (0..history.events.len()).map(of_event).collect()
+}
+
+/// Lost answers filled in. Where an answer is visible in one view only, an accepted certificate stays accepted when a
+/// lost answer is filled in with what that view gives, and with any other it is refused with 16 at that view and event.
+/// So a history with lost answers meets such a criterion exactly when it does with some answers in their places.
+pub fn filled_in(comparer: &mut Comparer, random: &mut Random, rounds: usize) {
+    for _ in 0..rounds.div_ceil(2) {
+        let (mut history, certificate) = pair(random);
+        lose_some(random, &mut history);
+        let text = certificate.text();
+        let answer = comparer.check(&history.text(), &text);
+        if comparer.done() {
+            return;
+        }
+        comparer.note(answer == 0, || format!("{:?} with lost answers: {answer}", certificate.criterion));
+        let lost: List = (0..history.events.len()).filter(|e| history.events[*e].answer.is_none()).collect();
+        // Under causal the same answer is visible in later views of the process, too.
+        if lost.is_empty() || certificate.criterion == Criterion::Causal {
+            continue;
+        }
+        let given = answers_in_views(&history, &certificate);
+        let mut whole = history.clone();
+        for e in &lost {
+            whole.events[*e].answer = Some(given[*e].1.clone());
+        }
+        let answer = comparer.check(&whole.text(), &text);
+        if comparer.done() {
+            return;
+        }
+        comparer.note(answer == 0, || format!("{:?} with all filled in: {answer}", certificate.criterion));
+        // One filled in at random, the others lost or filled in rightly.
+        let e = *random.pick(&lost);
+        for mut changed in [history, whole] {
+            let other = random_answer(random, &changed, e, 3);
+            let stated = if other == given[e].1 { (0, NONE, NONE) } else { (16, given[e].0 as u32, e as u32) };
+            changed.events[e].answer = Some(other);
+            comparer.check(&changed.text(), &text);
+            if comparer.done() {
+                return;
+            }
+            let mut places = Lent::new(7, |_| 0);
+            let answer = comparer.checker.verdict(&changed.text(), &text, &mut places);
+            let said = (answer, places.part()[3], places.part()[4]);
+            comparer.note(said == stated, || {
+                format!("{:?}, {e} filled in: given {said:?}, stated {stated:?}", certificate.criterion)
+            });
+        }
+    }
+    let mut brute = Brute::default();
+    for _ in 0..rounds.div_ceil(8) {
+        let events = 1 + random.under(4);
+        let mut history = small_of_each(random, events);
+        let e = random.under(events);
+        history.events[e].answer = None;
+        let answers = possible_answers(&history, e);
+        for criterion in CRITERIA {
+            let meets = brute.meets(&history, criterion);
+            let filled = answers.iter().any(|answer| {
+                let mut whole = history.clone();
+                whole.events[e].answer = Some(answer.clone());
+                brute.meets(&whole, criterion)
+            });
+            // Under causal an answer in its place may ask for more.
+            let same = if criterion == Criterion::Causal { meets || !filled } else { meets == filled };
+            comparer.note(same, || {
+                let text = String::from_utf8_lossy(&history.text()).into_owned();
+                format!("{criterion:?}: met with {e} lost: {meets}; with some answer in its place: {filled}\n{text}")
+            });
+        }
+    }
+}
+
+/// All answers that an event could get: lists of the right lengths of 0 and the values that the history has.
+fn possible_answers(history: &History, e: usize) -> Vec<Vec<u64>> {
+    let mut values = vec![0];
+    values.extend(history.events.iter().filter_map(|event| event.value));
+    values.sort_unstable();
+    values.dedup();
+    let event = &history.events[e];
+    let mut found = vec![];
+    for length in history.objects[event.object].answer_lengths(event.op) {
+        let mut lists: Vec<Vec<u64>> = vec![vec![]];
+        for _ in 0..length {
+            let longer = |list: &Vec<u64>| values.iter().map(|value| [&list[..], &[*value]].concat()).collect();
+            lists = lists.iter().flat_map::<Vec<_>, _>(longer).collect();
+        }
+        found.extend(lists);
+    }
+    found
 }

@@ -3,10 +3,10 @@
 use crate::certificate::{Certificate, Criterion, List, CRITERIA};
 use crate::compare::Comparer;
 use crate::history::{Event, History};
-use crate::make::{certified, random_order, register_history, shape, Size};
+use crate::make::{certified, lose_now_and_then, lose_some, random_order, register_history, shape, Size};
 use crate::objects::{Kind, Op};
 use crate::random::Random;
-use crate::samples::{object, window};
+use crate::samples::{object, window, with_lost};
 
 /// A full history with a certificate of the criterion that is accepted.
 fn full(random: &mut Random, criterion: Criterion) -> (History, Certificate) {
@@ -14,6 +14,13 @@ fn full(random: &mut Random, criterion: Criterion) -> (History, Certificate) {
     let mut history = shape(random, size);
     let certificate = certified(random, &mut history, criterion);
     (history, certificate)
+}
+
+/// The text of a history as it is, and with some answers lost.
+fn two_texts(random: &mut Random, history: &History) -> [Vec<u8>; 2] {
+    let mut lost = history.clone();
+    lose_some(random, &mut lost);
+    [history.text(), lost.text()]
 }
 
 /// Each line of a text with a fault put on it, alone and with another one further down.
@@ -36,7 +43,7 @@ pub fn lines(comparer: &mut Comparer, random: &mut Random, _: usize) {
                 for (field, new) in [
                     (0, &b"99"[..]), (1, b"8"), (1, b"64"), (1, b"1,0"), (1, b"2,2"), (2, b"16"), (2, b"0"), (2, b"9"), (2, b"1"),
                     (2, b"-"), (3, b"push"), (3, b"write"), (4, b"5"), (4, b"-"), (4, b"65536"), (5, b"1,2,3,4,5,6,7,8,9"), (5, b"-"),
-                    (5, b"70000"),
+                    (5, b"70000"), (5, b"?"), (5, b"?,1"), (4, b"?"), (1, b"?"),
                 ] {
                     with(field, new);
                 }
@@ -69,7 +76,7 @@ pub fn lines(comparer: &mut Comparer, random: &mut Random, _: usize) {
 pub fn events(comparer: &mut Comparer, random: &mut Random, _: usize) {
     for criterion in [Criterion::Weak, Criterion::Causal, Criterion::Converge] {
         let (history, certificate) = full(random, criterion);
-        let text = history.text();
+        let texts = two_texts(random, &history);
         for e in 0..64 {
             let mut damaged: Vec<Certificate> = vec![];
             let mut add = |change: &dyn Fn(&mut List)| {
@@ -92,11 +99,12 @@ pub fn events(comparer: &mut Comparer, random: &mut Random, _: usize) {
                 }
             }
             for mut changed in damaged {
-                comparer.verdict(&text, &changed.text());
+                let text = &texts[usize::from(random.once_in(3))];
+                comparer.verdict(text, &changed.text());
                 if random.once_in(2) {
                     let later = e + random.under(64 - e);
                     changed.pasts[later] = vec![later];
-                    comparer.verdict(&text, &changed.text());
+                    comparer.verdict(text, &changed.text());
                 }
             }
             if comparer.done() {
@@ -110,8 +118,10 @@ pub fn events(comparer: &mut Comparer, random: &mut Random, _: usize) {
 pub fn views(comparer: &mut Comparer, random: &mut Random, _: usize) {
     for criterion in CRITERIA {
         let (history, certificate) = full(random, criterion);
-        let text = history.text();
-        comparer.verdict(&text, &certificate.text());
+        let texts = two_texts(random, &history);
+        for text in &texts {
+            comparer.verdict(text, &certificate.text());
+        }
         for place in 0..certificate.views.len() {
             let length = certificate.views[place].order.len();
             let mut damaged = vec![];
@@ -141,7 +151,8 @@ pub fn views(comparer: &mut Comparer, random: &mut Random, _: usize) {
             }
             for changed in damaged {
                 if random.once_in(if certificate.views.len() > 8 { 4 } else { 1 }) {
-                    comparer.verdict(&text, &changed.text());
+                    let text = &texts[usize::from(random.once_in(3))];
+                    comparer.verdict(text, &changed.text());
                 }
             }
             if comparer.done() {
@@ -150,24 +161,40 @@ pub fn views(comparer: &mut Comparer, random: &mut Random, _: usize) {
         }
         // One answer changed: 16 at each event that has one.
         for e in 0..64 {
-            for item in 0..history.events[e].answer.len() {
+            for item in 0..history.events[e].answer.as_ref().map_or(0, |answer| answer.len()) {
                 let mut changed = history.clone();
-                changed.events[e].answer[item] ^= 1;
+                flip(&mut changed, e, item, 1);
                 comparer.verdict(&changed.text(), &certificate.text());
                 let later = e + random.under(64 - e);
-                if let Some(value) = changed.events[later].answer.first_mut() {
-                    *value ^= 2;
-                }
+                flip(&mut changed, later, 0, 2);
                 comparer.verdict(&changed.text(), &certificate.text());
             }
+            // One answer lost, alone and now and then with another one changed.
+            let mut changed = with_lost(history.clone(), &[e]);
+            let answer = comparer.verdict(&changed.text(), &certificate.text());
+            if random.once_in(4) {
+                flip(&mut changed, random.under(64), 0, 1);
+                comparer.verdict(&changed.text(), &certificate.text());
+            }
+            if comparer.done() {
+                return;
+            }
+            comparer.note(answer == 0, || format!("{criterion:?}, the answer of {e} lost: {answer}"));
         }
+    }
+}
+
+/// Changes bits of one value of an event's answer, if it has that value.
+fn flip(history: &mut History, e: usize, item: usize, bits: u64) {
+    if let Some(value) = history.events[e].answer.as_mut().and_then(|answer| answer.get_mut(item)) {
+        *value ^= bits;
     }
 }
 
 /// Long replays: the answers that differ are at any place of a view, the last too, and in causal at events that don't number the
 /// view. One process reads what another one pushes or writes.
 pub fn replays(comparer: &mut Comparer, random: &mut Random, rounds: usize) {
-    for _ in 0..rounds.div_ceil(8) {
+    for _ in 0..rounds.div_ceil(5) {
         let events = 2 + random.under(20);
         let objects = vec![object(Kind::Register), object(Kind::Queue), object(Kind::Stack), window(1 + random.under(8))];
         let mut history = History { objects, events: vec![] };
@@ -181,10 +208,11 @@ pub fn replays(comparer: &mut Comparer, random: &mut Random, rounds: usize) {
                 (_, false) => if random.once_in(2) { Op::Pop } else { Op::Peek },
             };
             let value = update.then_some(number as u64 + 1);
-            history.events.push(Event { process: random.under(3), object: kind, op, value, answer: vec![] });
+            history.events.push(Event { process: random.under(3), object: kind, op, value, answer: Some(vec![]) });
         }
         for criterion in CRITERIA {
             let certificate = certified(random, &mut history, criterion);
+            lose_now_and_then(random, &mut history);
             comparer.check(&history.text(), &certificate.text());
             // Another view of the same set that extends the same order, at one place or at all.
             let mut changed = certificate.clone();
@@ -205,7 +233,7 @@ pub fn replays(comparer: &mut Comparer, random: &mut Random, rounds: usize) {
                 let mut other = history.clone();
                 for _ in 0..1 + random.under(4) {
                     let e = random.under(events);
-                    if let Some(value) = other.events[e].answer.last_mut() {
+                    if let Some(value) = other.events[e].answer.as_mut().and_then(|answer| answer.last_mut()) {
                         *value = random.under(events + 1) as u64;
                     }
                 }
@@ -224,9 +252,17 @@ pub fn replays(comparer: &mut Comparer, random: &mut Random, rounds: usize) {
     for e in (1..64).step_by(2) {
         for later in (e..64).step_by(2).skip(usize::from(e % 2 == 0)) {
             let mut changed = history.clone();
-            changed.events[e].answer[0] += 1;
-            changed.events[later].answer = vec![3];
+            flip(&mut changed, e, 0, 1);
+            changed.events[later].answer = Some(vec![3]);
             comparer.check(&changed.text(), &certificate.text());
+            // The first of them lost: only the later one is wrong, if it isn't the same.
+            let lost = with_lost(changed, &[e]);
+            let answer = comparer.check(&lost.text(), &certificate.text());
+            if comparer.done() {
+                return;
+            }
+            let stated = if later == e { 0 } else { 16 };
+            comparer.note(answer == stated, || format!("{e} lost, {later} wrong: given {answer}, stated {stated}"));
         }
     }
 }

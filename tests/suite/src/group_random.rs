@@ -4,15 +4,16 @@ use crate::certificate::{Certificate, CRITERIA};
 use crate::compare::{Call, Comparer};
 use crate::damage::{damage_certificate, damage_history, damage_text, random_bytes};
 use crate::history::History;
-use crate::make::{certified, random_answers, random_size, shape};
+use crate::make::{certified, lose_now_and_then, random_answers, random_size, shape};
 use crate::random::Random;
 
-/// A random history with a certificate that is accepted, and both texts.
+/// A random history, with lost answers or without, and a certificate that is accepted.
 pub fn pair(random: &mut Random) -> (History, Certificate) {
     let size = random_size(random);
     let mut history = shape(random, size);
     let criterion = *random.pick(&CRITERIA);
     let certificate = certified(random, &mut history, criterion);
+    lose_now_and_then(random, &mut history);
     (history, certificate)
 }
 
@@ -45,10 +46,11 @@ pub fn valid(comparer: &mut Comparer, random: &mut Random, rounds: usize) {
 
 /// Records with a few things changed: the faults of the check.
 pub fn records(comparer: &mut Comparer, random: &mut Random, rounds: usize) {
-    for _ in 0..rounds * 2 {
+    for _ in 0..rounds * 5 / 2 {
         let (mut history, mut certificate) = pair(random);
         if random.once_in(8) {
             random_answers(random, &mut history, 3);
+            lose_now_and_then(random, &mut history);
         }
         for _ in 0..1 + random.under(3) {
             if random.once_in(3) {
@@ -66,7 +68,7 @@ pub fn records(comparer: &mut Comparer, random: &mut Random, rounds: usize) {
 
 /// Texts with a few things changed: the reading refusals.
 pub fn texts(comparer: &mut Comparer, random: &mut Random, rounds: usize) {
-    for _ in 0..rounds {
+    for _ in 0..rounds + rounds / 4 {
         let (history, certificate) = pair(random);
         let (history, certificate) = (history.text(), certificate.text());
         for _ in 0..3 {

@@ -1,12 +1,13 @@
-//! What document 01 states outright: the sample dispensers with their answers and places, and texts whose fault its words name. The
-//! numbers are written here by hand, so that the model is held to them as well.
+//! What document 01 states outright: the sample dispensers with their answers and places, and texts whose fault its
+//! words name; and the same of lost answers, by T-01 of document 02. The numbers are written here by hand, so that the
+//! model is held to them as well.
 
 use crate::certificate::Criterion;
 use crate::check::{Document01, Rules, NONE};
 use crate::compare::{crop, Call, Comparer};
 use crate::history::History;
 use crate::random::Random;
-use crate::samples::{c, certificate, m, q, r, w};
+use crate::samples::{c, certificate, m, q, r, w, with_lost};
 
 /// Holds the checker and the model to a stated answer and its places: criterion, text, line, view, event, start, length.
 fn stated(comparer: &mut Comparer, name: &str, history: &[u8], certificate: &[u8], answer: u32, places: [u32; 7]) {
@@ -55,6 +56,54 @@ pub fn samples(comparer: &mut Comparer, _: &mut Random, _: usize) {
     say("M, p2's view 1,2,3,4,0", &m(), p2, 0, None, None);
     say("the empty history", &History::default(), certificate(&History::default(), Sequential, &[], &[&[]]), 0, None, None);
 
+    // Q with event 1's answer lost: the order that Q itself refuses is accepted, under every criterion.
+    let lost = with_lost(q(), &[1]);
+    say("Q lost, sequential 0,1", &lost, certificate(&lost, Sequential, &[], &[&[0, 1]]), 0, None, None);
+    say("Q lost, sequential 1,0", &lost, certificate(&lost, Sequential, &[], &[&[1, 0]]), 0, None, None);
+    say("Q lost, sequential 0", &lost, certificate(&lost, Sequential, &[], &[&[0]]), 14, Some(0), None);
+    say("Q lost, pram", &lost, certificate(&lost, Pram, &[], &[&[0, 1], &[1, 0]]), 0, None, None);
+    for criterion in [Weak, Causal] {
+        let of = |history: &History, pasts: &[&[usize]], views: &[&[usize]]| {
+            certificate(history, criterion, pasts, views)
+        };
+        say("Q lost, no pasts", &lost, of(&lost, &[&[], &[]], &[&[0], &[1]]), 0, None, None);
+        say("Q, no pasts", &q(), of(&q(), &[&[], &[]], &[&[0], &[1]]), 16, Some(1), Some(1));
+        say("Q lost, 1 in 0's past", &lost, of(&lost, &[&[1], &[]], &[&[1, 0], &[1]]), 0, None, None);
+        say("Q lost, not its set", &lost, of(&lost, &[&[], &[]], &[&[0], &[]]), 14, Some(1), None);
+        say("Q lost, against", &lost, of(&lost, &[&[1], &[]], &[&[0, 1], &[1]]), 15, Some(0), None);
+        say("Q lost, in its own past", &lost, of(&lost, &[&[], &[1]], &[&[0], &[1]]), 12, None, Some(1));
+    }
+    say("Q lost, converge", &lost, certificate(&lost, Converge, &[&[], &[]], &[&[0, 1]]), 0, None, None);
+    say("Q, converge", &q(), certificate(&q(), Converge, &[&[], &[]], &[&[0, 1]]), 16, Some(0), Some(1));
+    // The push's answer lost: it still takes effect, so all is as for Q.
+    let lost = with_lost(q(), &[0]);
+    say("Q, the push lost, 0,1", &lost, certificate(&lost, Sequential, &[], &[&[0, 1]]), 0, None, None);
+    say("Q, the push lost, 1,0", &lost, certificate(&lost, Sequential, &[], &[&[1, 0]]), 16, Some(0), Some(1));
+    // A lost pop takes its value, so a later one doesn't get it: only before it.
+    let mut twice = q();
+    twice.events.push(crate::samples::event(2, 0, crate::objects::Op::Pop, None, &[7]));
+    say("two pops of one value", &twice, certificate(&twice, Sequential, &[], &[&[0, 1, 2]]), 16, Some(0), Some(2));
+    let lost = with_lost(twice, &[1]);
+    say("a pop behind a lost one", &lost, certificate(&lost, Sequential, &[], &[&[0, 1, 2]]), 16, Some(0), Some(2));
+    say("a pop before a lost one", &lost, certificate(&lost, Sequential, &[], &[&[0, 2, 1]]), 0, None, None);
+    say("a lost pop first", &lost, certificate(&lost, Sequential, &[], &[&[1, 0, 2]]), 0, None, None);
+    let views: [&[usize]; 3] = [&[2, 1, 0], &[2, 1, 0], &[0, 1, 2]];
+    say("another process's lost pop", &lost, certificate(&lost, Pram, &[], &views), 16, Some(2), Some(2));
+    let cut = certificate(&lost, Converge, &[&[], &[0], &[0, 1]], &[&[0, 1, 2]]);
+    say("converge with a lost pop in the past", &lost, cut, 16, Some(0), Some(2));
+    let cut = certificate(&lost, Converge, &[&[], &[0], &[0]], &[&[0, 1, 2]]);
+    say("converge with a lost pop cut away", &lost, cut, 0, None, None);
+    // W with event 1's answer lost: its view may be the other order, but the view of event 3 may not.
+    let lost = with_lost(w(), &[1]);
+    let pasts: [&[usize]; 4] = [&[], &[0, 2], &[], &[0, 2]];
+    let views: [&[usize]; 4] = [&[0], &[0, 2, 1], &[2], &[0, 2, 3]];
+    say("W with the other order", &w(), certificate(&w(), Causal, &pasts, &views), 16, Some(1), Some(1));
+    say("W lost with the other order", &lost, certificate(&lost, Causal, &pasts, &views), 0, None, None);
+    let lacks = certificate(&lost, Causal, &[&[], &[2], &[], &[0, 2]], &views);
+    say("W lost, past of 1 as 2 only", &lost, lacks, 11, None, Some(1));
+    let views: [&[usize]; 4] = [&[0], &[0, 2, 1], &[2], &[2, 0, 3]];
+    say("W lost, 3 the other way", &lost, certificate(&lost, Causal, &pasts, &views), 16, Some(3), Some(3));
+
     let empty: &[u8] = b"criterion sequential\nview order\n0 -\n";
     let one: &[u8] = b"criterion sequential\nview order\n0 0\n";
     let accepted = carried(Sequential, None, None);
@@ -66,6 +115,27 @@ pub fn samples(comparer: &mut Comparer, _: &mut Random, _: usize) {
     };
     stated(comparer, "process 7", &process(7), one, 0, accepted);
     stated(comparer, "process 8", &process(8), one, 3, [NONE, 1, 4, NONE, NONE, 68, 15]);
+    // Each op with its answer lost, written out: accepted, and written back as it is.
+    for (kind, line) in [
+        ("register -", "0 0 0 write 7 ?"),
+        ("register -", "0 0 0 read - ?"),
+        ("queue -", "0 0 0 push 7 ?"),
+        ("queue -", "0 0 0 pop - ?"),
+        ("queue -", "0 0 0 peek - ?"),
+        ("stack -", "0 0 0 push 7 ?"),
+        ("stack -", "0 0 0 pop - ?"),
+        ("stack -", "0 0 0 peek - ?"),
+        ("window 3", "0 0 0 write 7 ?"),
+        ("window 3", "0 0 0 read - ?"),
+    ] {
+        let text = format!("object kind width\n0 {kind}\nevent process object op value answer\n{line}\n");
+        stated(comparer, line, text.as_bytes(), one, 0, accepted);
+        let mut buffer = crate::checker::Lent::new(text.len(), |_| 0u8);
+        let mut length = 0;
+        comparer.checker.rewrite_history(text.as_bytes(), &mut buffer, &mut length);
+        let same = buffer.part() == text.as_bytes() && length == text.len() as u64;
+        comparer.note(same, || format!("{line}: written back as \"{}\"", crop(buffer.part())));
+    }
 }
 
 const HEAD: &str = "object kind width\n";
@@ -90,7 +160,7 @@ fn history_cases() -> Vec<(String, u32, u32, String)> {
     add(format!("object kind width \n{EVENTS}"), 2, 1, "object kind width ");
     add(format!("object kind width\r\n{EVENTS}"), 2, 1, "object kind width\r");
     // The lines of objects.
-    let objects: [(&str, u32); 33] = [
+    let objects: [(&str, u32); 37] = [
         ("0 queue -", 0), ("0 register -", 0), ("0 stack -", 0), ("0 window 1", 0), ("0 window 8", 0),
         ("0 window -", 4), ("0 queue 1", 4), ("0 register 8", 4), ("0 stack 3", 4),
         ("0 queue 0", 3), ("0 queue 9", 3), ("0 window 0", 3), ("0 window 9", 3), ("0 window 256", 3), ("0 window 4294967297", 3),
@@ -98,6 +168,8 @@ fn history_cases() -> Vec<(String, u32, u32, String)> {
         ("0 queues -", 2), ("0 window 01", 2), ("0 window +1", 2), ("0 window", 2), ("0 window 1 ", 2), (" 0 window 1", 2),
         ("0  window 1", 2), ("0 window 1 1", 2), ("0 window --", 2), ("0 window 09", 2), ("0 queue 99x", 2), ("", 2),
         ("0 0 0 push 7 -", 2),
+        // `?` is an answer alone.
+        ("0 window ?", 2), ("0 queue ?", 2), ("? queue -", 2), ("0 ? -", 2),
     ];
     for (line, answer) in objects {
         let text = format!("{HEAD}{line}\n{EVENTS}");
@@ -111,7 +183,7 @@ fn history_cases() -> Vec<(String, u32, u32, String)> {
     }
     // The lines of events: object 0 a register, 1 a queue, 2 a stack, 3 a window of width 2.
     let four = "0 register -\n1 queue -\n2 stack -\n3 window 2\n";
-    let events: [(&str, u32); 62] = [
+    let events: [(&str, u32); 109] = [
         ("0 0 0 write 7 -", 0), ("0 0 0 read - 7", 0), ("0 0 1 push 7 -", 0), ("0 0 1 pop - 7", 0), ("0 0 1 pop - -", 0),
         ("0 0 1 peek - -", 0), ("0 7 2 peek - 65535", 0), ("0 0 2 push 65535 -", 0), ("0 0 3 write 0 -", 0), ("0 0 3 read - 0,0", 0),
         // 5: a length that the op can't give.
@@ -131,6 +203,22 @@ fn history_cases() -> Vec<(String, u32, u32, String)> {
         ("0 0 0 write 07 -", 2), ("0 0 0 write 7", 2), ("0 0 0 write 7 - -", 2), ("0 0 0 write 7 - ", 2), ("0 0 0 write  7 -", 2),
         ("0 8 9 read 65536 1,,2", 2), ("0 0 0 read - 7,", 2), ("0 0 0 read - ,7", 2), ("0 0 0 read - 7,-", 2), ("0 0 0 read - 00", 2),
         ("0 0 0 read - +7", 2), ("64 0 0 write 7 -", 2),
+        // A lost answer, of every op of every kind: 5 doesn't apply.
+        ("0 0 0 write 7 ?", 0), ("0 0 0 read - ?", 0), ("0 0 1 push 7 ?", 0), ("0 0 1 pop - ?", 0),
+        ("0 0 1 peek - ?", 0), ("0 7 2 push 65535 ?", 0), ("0 0 2 pop - ?", 0), ("0 0 2 peek - ?", 0),
+        ("0 0 3 write 0 ?", 0), ("0 0 3 read - ?", 0),
+        // 4, 3 and 2 apply as to other answers.
+        ("0 0 0 pop - ?", 4), ("0 0 0 push 7 ?", 4), ("0 0 1 write 7 ?", 4), ("0 0 2 read - ?", 4),
+        ("0 0 3 peek - ?", 4), ("0 0 0 write - ?", 4), ("0 0 0 read 7 ?", 4), ("0 0 1 push - ?", 4),
+        ("0 0 1 pop 7 ?", 4), ("0 0 2 peek 0 ?", 4),
+        ("0 8 0 write 7 ?", 3), ("0 0 4 write 7 ?", 3), ("0 0 0 write 65536 ?", 3), ("0 0 0 read 65536 ?", 3),
+        ("0 8 0 pop - ?", 3), ("1 0 0 write 7 ?", 2), ("0 0 0 writes 7 ?", 2), ("0 0 0 write 07 ?", 2),
+        // 2: `?` in a list, twice, with other bytes, or in another field.
+        ("0 0 3 read - ?,7", 2), ("0 0 3 read - 7,?", 2), ("0 0 3 read - ?,?", 2), ("0 0 0 read - ??", 2),
+        ("0 0 1 pop - -?", 2), ("0 0 1 pop - ?-", 2), ("0 0 1 pop - ?7", 2), ("0 0 1 pop - 7?", 2),
+        ("0 0 1 pop - ?,", 2), ("0 0 1 pop - ,?", 2), ("0 0 1 pop -  ?", 2), ("0 0 1 pop - ? ", 2),
+        ("0 0 1 pop - ?\r", 2), ("0 0 1 pop - ? ?", 2), ("0 0 1 pop ?", 2), ("0 0 1 pop ? ?", 2),
+        ("0 0 1 push ? -", 2), ("0 0 1 ? 7 -", 2), ("? 0 1 pop - ?", 2),
     ];
     for (line, answer) in events {
         let text = format!("{HEAD}{four}{EVENTS}{line}\n");
@@ -140,19 +228,29 @@ fn history_cases() -> Vec<(String, u32, u32, String)> {
     add(format!("{HEAD}{four}{EVENTS}0 0 0 write 7 -"), 2, 7, "0 0 0 write 7 -");
     add(format!("{HEAD}{four}{EVENTS}0 8 0 write 7 -"), 2, 7, "0 8 0 write 7 -");
     add(format!("{HEAD}{four}{EVENTS}0 8 0 write 7 -\n1 0 0"), 3, 7, "0 8 0 write 7 -");
+    add(format!("{HEAD}{four}{EVENTS}0 0 0 write 7 ?"), 2, 7, "0 0 0 write 7 ?");
+    add(format!("{HEAD}{four}{EVENTS}0 0 0 write 7 ?\n1 0 0 read - 7,7\n"), 5, 8, "1 0 0 read - 7,7");
+    add(format!("{HEAD}{four}{EVENTS}0 0 0 write 7 ?\n1 0 0 read - ?\n2 0 0 read - ??\n"), 2, 9, "2 0 0 read - ??");
     // The 65th event.
     let full: String = (0..64).map(|number| format!("{number} 0 0 write 7 -\n")).collect();
     add(format!("{HEAD}{four}{EVENTS}{full}"), 0, NONE, "");
-    for (line, answer) in
-        [("64 0 0 write 7 -", 3), ("64 0 0 pop 7 1,1", 3), ("64 0 0 write 7", 2), ("65 0 0 write 7 -", 2), ("63 0 0 write 7 -", 2)]
-    {
-        add(format!("{HEAD}{four}{EVENTS}{full}{line}\n"), answer, 71, line);
+    for (line, answer) in [
+        ("64 0 0 write 7 -", 3), ("64 0 0 pop 7 1,1", 3), ("64 0 0 write 7", 2), ("65 0 0 write 7 -", 2),
+        ("63 0 0 write 7 -", 2), ("64 0 0 write 7 ?", 3), ("64 0 0 pop 7 ?", 3), ("64 0 0 write 7 ?,7", 2),
+        ("65 0 0 write 7 ?", 2),
+    ] {
+        for full in [full.clone(), full.replace(" -", " ?")] {
+            add(format!("{HEAD}{four}{EVENTS}{full}{line}\n"), answer, 71, line);
+        }
     }
+    add(format!("{HEAD}{four}{EVENTS}{}", full.replace(" -", " ?")), 0, NONE, "");
     // Too long, whatever else.
     add("x".repeat(16_384), 2, 1, &"x".repeat(16_384));
     add("x".repeat(16_385), 1, 0, "");
     add(format!("{HEAD}{four}{EVENTS}0 0 0 read - {}\n", ["7"; 8134].join(",")), 5, 7, &format!("0 0 0 read - {}", ["7"; 8134].join(",")));
     add(format!("{HEAD}{four}{EVENTS}0 0 0 read - 7{}\n", "0".repeat(16_000)), 3, 7, &format!("0 0 0 read - 7{}", "0".repeat(16_000)));
+    let many = format!("0 0 0 read - {}", "?".repeat(16_000));
+    add(format!("{HEAD}{four}{EVENTS}{many}\n"), 2, 7, &many);
     cases
 }
 
@@ -182,6 +280,9 @@ fn certificate_cases() -> Vec<(String, u32, u32, String)> {
     add("criterion sequential\nview order\n0 18446744073709551616\n", 3, 3, "0 18446744073709551616");
     add("criterion sequential\nview order\n0 4294967296,1,2\n", 3, 3, "0 4294967296,1,2");
     add("criterion sequential\nview order\n0 -,1\n", 2, 3, "0 -,1");
+    add("criterion sequential\nview order\n0 ?\n", 2, 3, "0 ?");
+    add("criterion sequential\nview order\n0 0,?,2\n", 2, 3, "0 0,?,2");
+    add("criterion ?\n", 2, 1, "criterion ?");
     add("criterion sequential\nview order\n0\n", 2, 3, "0");
     add("criterion sequential\nview order\n0 \n", 2, 3, "0 ");
     add("criterion pram\nview order\n2 0,1,2\n5 0,1,2\n", 0, NONE, "");
@@ -192,6 +293,7 @@ fn certificate_cases() -> Vec<(String, u32, u32, String)> {
     let weak = "criterion weak\nevent past\n0 -\n1 -\n2 1\nview order\n0 0\n1 1\n2 1,2\n";
     add(weak, 0, NONE, "");
     add(&weak.replace("2 1\n", "2 1,0\n"), 6, 5, "2 1,0");
+    add(&weak.replace("2 1\n", "2 ?\n"), 2, 5, "2 ?");
     add(&weak.replace("2 1\n", "2 1,1\n"), 6, 5, "2 1,1");
     add(&weak.replace("2 1\n", "2 1,0,3\n"), 3, 5, "2 1,0,3");
     add(&weak.replace("2 1\n", "2 0,1,2,2\n"), 3, 5, "2 0,1,2,2");
@@ -301,6 +403,22 @@ fn weakening_cases() -> Vec<(History, String, u32, Result<String, u32>)> {
     add(&none, empty, 2, Ok("criterion causal\nevent past\nview order\n"));
     add(&none, empty, 3, Ok("criterion converge\nevent past\nview order\n0 -\n"));
     add(&none, empty, 4, Ok(empty));
+    // Lost answers: the same texts are made, where the check accepts what it would refuse else.
+    let lost = with_lost(q(), &[1]);
+    let pasts = "event past\n0 1\n1 -\nview order\n";
+    let turned = "criterion sequential\nview order\n0 1,0\n";
+    add(&lost, turned, 0, Ok("criterion pram\nview order\n0 1,0\n1 1,0\n"));
+    add(&lost, turned, 1, Ok(&format!("criterion weak\n{pasts}0 1,0\n1 1\n")));
+    add(&lost, turned, 2, Ok(&format!("criterion causal\n{pasts}0 1,0\n1 1\n")));
+    add(&lost, turned, 3, Ok(&format!("criterion converge\n{pasts}0 1,0\n")));
+    add(&lost, turned, 4, Ok(turned));
+    add(&lost, "criterion sequential\nview order\n0 1\n", 0, Err(14));
+    add(&with_lost(q(), &[0]), turned, 0, Err(16));
+    let other = causal.replace("1 2,0,1\n", "1 0,2,1\n");
+    add(&w(), &other, 0, Err(16));
+    add(&with_lost(w(), &[1]), &other, 0, Ok("criterion pram\nview order\n0 0,2,1,3\n1 0,2,3,1\n"));
+    add(&with_lost(w(), &[1]), &other, 1, Ok(&other.replace("causal", "weak")));
+    add(&with_lost(c(), &[2]), &converge, 1, Ok(&format!("criterion weak\n{past}0 0\n1 1\n2 1,2\n3 0,1,2,3\n")));
     // 17: not a pair, and none is wanted by a number past 4.
     let weak = format!("criterion weak\n{lists}");
     let pram = "criterion pram\nview order\n0 0,1\n1 0,1\n";

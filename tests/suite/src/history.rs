@@ -18,7 +18,8 @@ pub struct Event {
     pub object: usize,
     pub op: Op,
     pub value: Option<u64>,
-    pub answer: Vec<u64>,
+    /// None when it is lost: it was never recorded.
+    pub answer: Option<Vec<u64>>,
 }
 
 #[derive(Clone, PartialEq, Eq, Debug, Default)]
@@ -31,6 +32,11 @@ impl History {
     /// Program order: a comes before b when both are of one process and a has the smaller number.
     pub fn program_order(&self, a: usize, b: usize) -> bool {
         self.events[a].process == self.events[b].process && a < b
+    }
+
+    /// Is an answer lost?
+    pub fn has_lost(&self) -> bool {
+        self.events.iter().any(|event| event.answer.is_none())
     }
 
     /// The processes with events, rising.
@@ -47,7 +53,7 @@ impl History {
         text += &format!("{EVENT_HEADING}\n");
         for (number, event) in self.events.iter().enumerate() {
             let value = event.value.map_or("-".to_string(), |value| value.to_string());
-            let answer = list_text(&event.answer);
+            let answer = event.answer.as_ref().map_or("?".to_string(), |answer| list_text(answer));
             text += &format!("{number} {} {} {} {value} {answer}\n", event.process, event.object, event.op.word());
         }
         text.into_bytes()
@@ -68,10 +74,11 @@ pub struct EventFields {
     pub object: u64,
     pub op: Op,
     pub value: Option<u64>,
-    pub answer: Vec<u64>,
+    /// None when it is lost.
+    pub answer: Option<Vec<u64>>,
 }
 
-/// How a history text is read. A wrong checker overrides one of these; the defaults are document 01's.
+/// How a history text is read. A wrong checker overrides one of these; the defaults are those of the documents.
 pub trait HistoryRules: NumberRules {
     /// The fields of object line `next`, unless its layout is faulty.
     fn object_layout(&self, line: &[u8], next: u64) -> Option<ObjectFields> {
@@ -105,6 +112,14 @@ pub trait HistoryRules: NumberRules {
         Ok(Object { kind: fields.kind, width: fields.width.map(|width| width as usize) })
     }
 
+    /// `?` alone when the answer is lost, else a list. The outer None is a misspelling.
+    fn answer(&self, field: &[u8]) -> Option<Option<Vec<u64>>> {
+        if field == b"?" {
+            return Some(None);
+        }
+        self.list(field).map(Some)
+    }
+
     /// The fields of event line `next`, unless its layout is faulty.
     fn event_layout(&self, line: &[u8], next: u64) -> Option<EventFields> {
         let fields = fields_of(line);
@@ -114,7 +129,7 @@ pub trait HistoryRules: NumberRules {
         let object = self.number(object)?;
         let op = OPS.iter().find(|pair| pair.1.as_bytes() == op)?.0;
         let value = self.number_or_none(value)?;
-        let answer = self.list(answer)?;
+        let answer = self.answer(answer)?;
         (own == next).then_some(EventFields { own, process, object, op, value, answer })
     }
 
@@ -124,7 +139,7 @@ pub trait HistoryRules: NumberRules {
             || fields.process >= PROCESSES
             || fields.object >= objects.len() as u64
             || fields.value.is_some_and(|value| value > VALUE_LIMIT)
-            || fields.answer.iter().any(|value| *value > VALUE_LIMIT)
+            || fields.answer.iter().flatten().any(|value| *value > VALUE_LIMIT)
     }
 
     /// 4: an op that the kind lacks, a value where `-` belongs, or the reverse.
@@ -132,9 +147,9 @@ pub trait HistoryRules: NumberRules {
         !object.kind.has(fields.op) || fields.value.is_some() != fields.op.takes_value()
     }
 
-    /// 5: an answer of a length that the op can't give.
+    /// 5: an answer of a length that the op can't give. It doesn't apply to a lost one.
     fn event_answer(&self, fields: &EventFields, object: &Object) -> bool {
-        !object.answer_lengths(fields.op).contains(&fields.answer.len())
+        fields.answer.as_ref().is_some_and(|answer| !object.answer_lengths(fields.op).contains(&answer.len()))
     }
 
     /// The order of the faults on an event line, 2 aside.

@@ -1,5 +1,5 @@
-//! The test suite of the archive: a model written from document 01's words, a brute force for small histories, comparisons of the
-//! archive with both, and wrong checkers that the comparisons must find.
+//! The test suite of the archive: a model written from the words of document 01 and of T-01 in document 02, a brute
+//! force for small histories, comparisons of the archive with both, and wrong checkers that the comparisons must find.
 //!
 //! `cargo run --release --offline [-- SEED [ROUNDS]]`. The seed is printed, so that a run can be repeated. A line a group, and a last
 //! line with the sums. The exit status is 1 on any difference.
@@ -33,7 +33,7 @@ use std::process::ExitCode;
 use std::time::Instant;
 
 use checker::{Archive, Checker};
-use compare::Comparer;
+use compare::{Comparer, CHECK_OF_LOST};
 use random::Random;
 
 type Group = (&'static str, fn(&mut Comparer, &mut Random, usize));
@@ -67,11 +67,14 @@ const GROUPS: &[Group] = &[
     ("samples and figure 3", group_meets::claimed),
     ("slices that are NULL", group_memory::nulls),
     ("weakening too long texts", group_weaken::too_long),
+    ("lost answers filled in", group_meets::filled_in),
+    ("lost answers, criteria apart", group_meets::apart),
 ];
 
 /// The numbers that each function must have answered in a whole run.
 const EXPECTED: &[(&str, &[u32])] = &[
     ("check", &[0, 1, 2, 3, 4, 5, 6, 11, 12, 13, 14, 15, 16]),
+    (CHECK_OF_LOST, &[0, 1, 2, 3, 4, 5, 6, 11, 12, 13, 14, 15, 16]),
     ("verdict", &[0, 1, 2, 3, 4, 5, 6, 11, 12, 13, 14, 15, 16]),
     ("show", &[0, 1, 2, 3, 4, 5, 19]),
     ("rewrite_history", &[0, 1, 2, 3, 4, 5, 18]),

@@ -53,7 +53,7 @@ pub fn shape(random: &mut Random, size: Size) -> History {
             continue;
         }
         let value = op.takes_value().then(|| random.next() % size.values);
-        history.events.push(Event { process: *random.pick(&processes), object, op, value, answer: vec![] });
+        history.events.push(Event { process: *random.pick(&processes), object, op, value, answer: Some(vec![]) });
     }
     history
 }
@@ -106,7 +106,7 @@ pub fn random_pasts(random: &mut Random, history: &History) -> Vec<List> {
     pasts
 }
 
-/// Gives the history answers that meet the criterion, and the certificate that says so.
+/// Gives the history answers that meet the criterion, none of them lost, and the certificate that says so.
 pub fn certified(random: &mut Random, history: &mut History, criterion: Criterion) -> Certificate {
     let all: List = (0..history.events.len()).collect();
     let mut pasts = vec![];
@@ -115,7 +115,7 @@ pub fn certified(random: &mut Random, history: &mut History, criterion: Criterio
         Criterion::Sequential => {
             let order = random_order(random, &all, &|a, b| history.program_order(a, b));
             for (e, answer) in order.iter().zip(answers_of(history, &order)) {
-                history.events[*e].answer = answer;
+                history.events[*e].answer = Some(answer);
             }
             orders.push(order);
         }
@@ -124,7 +124,7 @@ pub fn certified(random: &mut Random, history: &mut History, criterion: Criterio
                 let order = random_order(random, &all, &|a, b| history.program_order(a, b));
                 for (e, answer) in order.iter().zip(answers_of(history, &order)) {
                     if history.events[*e].process == process {
-                        history.events[*e].answer = answer;
+                        history.events[*e].answer = Some(answer);
                     }
                 }
                 orders.push(order);
@@ -144,7 +144,7 @@ pub fn certified(random: &mut Random, history: &mut History, criterion: Criterio
                 };
                 // In both, e is where the order says; all of past(e) stands before it.
                 let place = order.iter().position(|event| *event == e).expect("e is in its view");
-                history.events[e].answer = answers_of(history, &order).swap_remove(place);
+                history.events[e].answer = Some(answers_of(history, &order).swap_remove(place));
                 orders.push(order);
             }
             if criterion == Criterion::Converge {
@@ -162,7 +162,7 @@ pub fn certified(random: &mut Random, history: &mut History, criterion: Criterio
                     let new: List = pasts[e].iter().copied().filter(|event| !order.contains(event)).collect();
                     order.extend(random_order(random, &new, &before));
                     order.push(e);
-                    history.events[e].answer = answers_of(history, &order).pop().expect("e is the last of its view");
+                    history.events[e].answer = answers_of(history, &order).pop();
                     orders[e] = order.clone();
                 }
             }
@@ -171,12 +171,34 @@ pub fn certified(random: &mut Random, history: &mut History, criterion: Criterio
     Certificate::new(history, criterion, pasts, orders)
 }
 
+/// An answer of a right length for an event, drawn at random.
+pub fn random_answer(random: &mut Random, history: &History, e: usize, values: u64) -> Vec<u64> {
+    let event = &history.events[e];
+    let length = *random.pick(&history.objects[event.object].answer_lengths(event.op));
+    (0..length).map(|_| random.next() % values).collect()
+}
+
 /// Answers of the right lengths, drawn at random.
 pub fn random_answers(random: &mut Random, history: &mut History, values: u64) {
     for e in 0..history.events.len() {
-        let event = &history.events[e];
-        let length = *random.pick(&history.objects[event.object].answer_lengths(event.op));
-        history.events[e].answer = (0..length).map(|_| random.next() % values).collect();
+        history.events[e].answer = Some(random_answer(random, history, e, values));
+    }
+}
+
+/// Loses answers: all of them, or one in two to six.
+pub fn lose_some(random: &mut Random, history: &mut History) {
+    let rarity = 1 + random.under(6);
+    for event in &mut history.events {
+        if random.once_in(rarity) {
+            event.answer = None;
+        }
+    }
+}
+
+/// Loses answers of every third history.
+pub fn lose_now_and_then(random: &mut Random, history: &mut History) {
+    if random.once_in(3) {
+        lose_some(random, history);
     }
 }
 
@@ -187,9 +209,9 @@ pub fn register_history(events: usize, processes: usize) -> History {
     for number in 0..events {
         let (op, value, answer) = if number % 2 == 0 {
             held = 100 + number as u64;
-            (Op::Write, Some(held), vec![])
+            (Op::Write, Some(held), Some(vec![]))
         } else {
-            (Op::Read, None, vec![held])
+            (Op::Read, None, Some(vec![held]))
         };
         history.events.push(Event { process: number % processes, object: 0, op, value, answer });
     }

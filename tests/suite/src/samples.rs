@@ -1,4 +1,4 @@
-//! The sample dispensers of document 01 and the histories of Figure 3 of document 004.
+//! The sample dispensers of document 01, the same with lost answers, and the histories of Figure 3 of document 004.
 
 use crate::certificate::{Certificate, Criterion, List};
 use crate::history::{Event, History};
@@ -14,7 +14,20 @@ pub fn window(width: usize) -> Object {
 
 /// An event on an object, written as in the samples: process, op, answer.
 pub fn event(process: usize, object: usize, op: Op, value: Option<u64>, answer: &[u64]) -> Event {
-    Event { process, object, op, value, answer: answer.to_vec() }
+    Event { process, object, op, value, answer: Some(answer.to_vec()) }
+}
+
+/// The event with its answer lost.
+pub fn lost(event: Event) -> Event {
+    Event { answer: None, ..event }
+}
+
+/// The history with the answers of these events lost.
+pub fn with_lost(mut history: History, events: &[usize]) -> History {
+    for e in events {
+        history.events[*e].answer = None;
+    }
+    history
 }
 
 fn write(process: usize, value: u64) -> Event {
@@ -61,8 +74,11 @@ pub fn m() -> History {
     History { objects: vec![object(Kind::Register); 2], events }
 }
 
+/// A history's name, the history, the criteria that it meets and those that it breaks.
+pub type Claim = (&'static str, History, Vec<Criterion>, Vec<Criterion>);
+
 /// What document 01 says of the criteria of each sample: those met, and those not met.
-pub fn claims() -> Vec<(&'static str, History, Vec<Criterion>, Vec<Criterion>)> {
+pub fn claims() -> Vec<Claim> {
     use Criterion::{Causal, Converge, Pram, Sequential, Weak};
     vec![
         // Q's certificates of sequential and pram are accepted; sequential can be weakened to all.
@@ -80,6 +96,60 @@ pub fn claims() -> Vec<(&'static str, History, Vec<Criterion>, Vec<Criterion>)> 
     ]
 }
 
+/// The samples with lost answers, and small histories of one process in which an op whose answer is lost takes effect.
+/// Each with the criteria that it meets and breaks, by the words of documents 01 and 02.
+pub fn claims_of_lost() -> Vec<Claim> {
+    use Criterion::{Causal, Converge, Pram, Sequential, Weak};
+    let all = || vec![Pram, Weak, Causal, Converge, Sequential];
+    // One process: the view of each event has all earlier ones before it, so a history meets all five criteria or none.
+    let alone = |object: Object, events: Vec<Event>| History { objects: vec![object], events };
+    let queue = || object(Kind::Queue);
+    let register = || object(Kind::Register);
+    let peek = |answer: &[u64]| event(0, 0, Op::Peek, None, answer);
+    let pops = |answer: &[u64]| {
+        alone(object(Kind::Stack), vec![push(0, 7), push(0, 8), lost(pop(0, &[])), pop(0, answer)])
+    };
+    vec![
+        ("Q, the pop's answer lost", with_lost(q(), &[1]), all(), vec![]),
+        ("Q, the push's answer lost", with_lost(q(), &[0]), all(), vec![]),
+        // With event 1's answer lost, only the order of the other read counts: 0,1,2,3.
+        ("W, a read's answer lost", with_lost(w(), &[1]), all(), vec![]),
+        // 1,2,0,3 with the last answer lost, 0,1,2,3 with the one before it lost.
+        ("C, the last answer lost", with_lost(c(), &[3]), all(), vec![]),
+        ("C, the answer before the last lost", with_lost(c(), &[2]), all(), vec![]),
+        // 0,2,3,4,1 with the second read lost; 1,3,0,4 with the first.
+        ("R, the second read's answer lost", with_lost(r(), &[3]), all(), vec![]),
+        ("R, the first read's answer lost", with_lost(r(), &[2]), all(), vec![]),
+        // 1,2,3,4,0: nothing shows that event 1 knew of the write.
+        ("M, event 1's answer lost", with_lost(m(), &[1]), all(), vec![]),
+        ("M, the last answer lost", with_lost(m(), &[4]), all(), vec![]),
+        // A lost pop removes, a lost push adds, a lost write is read, a lost peek or read changes nothing.
+        ("a pop after a lost pop", alone(queue(), vec![push(0, 7), lost(pop(0, &[])), pop(0, &[])]), all(), vec![]),
+        ("a lost pop left out", alone(queue(), vec![push(0, 7), lost(pop(0, &[])), pop(0, &[7])]), vec![], all()),
+        ("a stack's lost pop", pops(&[7]), all(), vec![]),
+        ("a stack's lost pop left out", pops(&[8]), vec![], all()),
+        ("a lost push", alone(queue(), vec![lost(push(0, 7)), pop(0, &[7])]), all(), vec![]),
+        ("a lost push left out", alone(queue(), vec![lost(push(0, 7)), pop(0, &[])]), vec![], all()),
+        ("a lost write", alone(register(), vec![lost(write(0, 7)), read(0, &[7])]), all(), vec![]),
+        ("a lost write left out", alone(register(), vec![lost(write(0, 7)), read(0, &[0])]), vec![], all()),
+        ("a window's lost write", alone(window(2), vec![lost(write(0, 7)), read(0, &[0, 7])]), all(), vec![]),
+        ("a window's lost write left out", alone(window(2), vec![lost(write(0, 7)), read(0, &[0, 0])]), vec![], all()),
+        ("a lost peek", alone(queue(), vec![push(0, 7), lost(peek(&[])), pop(0, &[7])]), all(), vec![]),
+        ("a lost peek that removes", alone(queue(), vec![push(0, 7), lost(peek(&[])), pop(0, &[])]), vec![], all()),
+        ("a wrong answer behind a lost one", alone(register(), vec![lost(read(0, &[])), read(0, &[1])]), vec![], all()),
+    ]
+}
+
+/// The same claims where the answers of all writes and pushes are lost: these answers are empty anyhow.
+pub fn updates_lost(claims: &[Claim]) -> Vec<Claim> {
+    let lost = |history: &History| {
+        let updates: List = (0..history.events.len()).filter(|e| history.events[*e].op.takes_value()).collect();
+        with_lost(history.clone(), &updates)
+    };
+    let with = |(name, history, met, broken): &Claim| (*name, lost(history), met.clone(), broken.clone());
+    claims.iter().map(with).collect()
+}
+
 /// A certificate written down: the history, criterion, pasts and views.
 pub fn certificate(history: &History, criterion: Criterion, pasts: &[&[usize]], views: &[&[usize]]) -> Certificate {
     let lists = |lists: &[&[usize]]| lists.iter().map(|list| list.to_vec()).collect::<Vec<List>>();
@@ -90,7 +160,7 @@ pub fn certificate(history: &History, criterion: Criterion, pasts: &[&[usize]], 
 /// (pipelined) is pram, WCC is weak, CC is causal, CCv is converge. Each with the criteria that it meets and breaks: what the text
 /// says is in quotes, and what follows from it by the strength of the criteria goes with it. The drawing itself is not in the text, so
 /// where an event or a claim is ours the comment says so.
-pub fn figure_3() -> Vec<(&'static str, History, Vec<Criterion>, Vec<Criterion>)> {
+pub fn figure_3() -> Vec<Claim> {
     use Criterion::{Causal, Converge, Pram, Sequential, Weak};
     let memory = |process: usize, register: char, value: Option<u64>, answer: &[u64]| {
         let op = if value.is_some() { Op::Write } else { Op::Read };

@@ -1,8 +1,9 @@
 //! Looks for a certificate of a history that is too large for the brute force: Figure 3 of document 004 has up to twelve events.
 //! Events are placed one by one in an order that extends the causal order, and each gets its past out of those already placed.
 //!
-//! A write or a push always gives the empty answer, so it needs no more in its past than its process's earlier events and their
-//! pasts: a smaller past puts fewer demands on every other event. All other events try every past there is.
+//! A write or a push always gives the empty answer, so it needs no more in its past than its process's earlier events
+//! and their pasts: a smaller past puts fewer demands on every other event. The same holds of an event whose answer is
+//! lost. All other events try every past there is.
 
 use std::collections::HashSet;
 
@@ -41,7 +42,7 @@ fn view_of(history: &History, set: Set, before: &dyn Fn(usize) -> Set, visible: 
             let mut next = states.to_vec();
             let object = &search.history.objects[event.object];
             let answer = Document01.act(object, &mut next[event.object], event.op, event.value);
-            if (search.visible)(e) && answer != event.answer {
+            if (search.visible)(e) && event.answer.is_some() && event.answer != Some(answer) {
                 continue;
             }
             view.push(e);
@@ -69,7 +70,7 @@ impl Causal<'_> {
     fn pasts_of(&self, e: usize, placed: &[usize], pasts: &[Option<Set>]) -> Vec<Set> {
         let closure = |f: usize| pasts[f].expect("it is placed") | 1 << f;
         let own = placed.iter().filter(|f| self.history.program_order(**f, e)).fold(0, |set, f| set | closure(*f));
-        if self.history.events[e].op.takes_value() {
+        if self.history.events[e].op.takes_value() || self.history.events[e].answer.is_none() {
             return vec![own];
         }
         let mut found = vec![own];
@@ -91,8 +92,8 @@ impl Causal<'_> {
         if self.criterion == Criterion::Converge {
             let mut cut: List = placed.iter().copied().filter(|f| past >> f & 1 == 1).collect();
             cut.push(e);
-            let answers = crate::make::answers_of(self.history, &cut);
-            return answers.last() == Some(&self.history.events[e].answer);
+            let Some(recorded) = &self.history.events[e].answer else { return true };
+            return crate::make::answers_of(self.history, &cut).last() == Some(recorded);
         }
         view_of(self.history, set, &before, &|f| self.visible(e, f)).is_some()
     }

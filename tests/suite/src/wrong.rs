@@ -4,7 +4,7 @@
 use crate::certificate::{Certificate, CertificateRules, Criterion, View};
 use crate::check::{CheckRules, Document01, Fault, Rules, NONE};
 use crate::checker::{Archive, Checker, Lent, Model, Shown};
-use crate::history::{EventFields, History, HistoryRules};
+use crate::history::{Event, EventFields, History, HistoryRules};
 use crate::objects::{Kind, Object, ObjectRules, Op, State};
 use crate::texts::{Line, NumberRules, Refusal};
 
@@ -108,7 +108,8 @@ wrong_rules!(TwelveFirst CheckRules {
 wrong_rules!(LastWrong CheckRules {
     fn replay(&self, history: &History, order: &[usize], visible: &dyn Fn(usize) -> bool) -> Option<usize> {
         let answers = crate::make::answers_of(history, order);
-        let wrong = |place: &usize| visible(order[*place]) && answers[*place] != history.events[order[*place]].answer;
+        let differs = |place: usize| self.differs(&history.events[order[place]], &answers[place]);
+        let wrong = |place: &usize| visible(order[*place]) && differs(*place);
         (0..order.len()).rev().find(wrong).map(|place| order[place])
     }
 });
@@ -116,7 +117,8 @@ wrong_rules!(LastWrong CheckRules {
 wrong_rules!(LowestWrong CheckRules {
     fn replay(&self, history: &History, order: &[usize], visible: &dyn Fn(usize) -> bool) -> Option<usize> {
         let answers = crate::make::answers_of(history, order);
-        let wrong = |place: &usize| visible(order[*place]) && answers[*place] != history.events[order[*place]].answer;
+        let differs = |place: usize| self.differs(&history.events[order[place]], &answers[place]);
+        let wrong = |place: &usize| visible(order[*place]) && differs(*place);
         (0..order.len()).filter(wrong).map(|place| order[place]).min()
     }
 });
@@ -303,6 +305,99 @@ wrong_rules!(CertificateFirst Rules {
     }
 });
 
+// Lost answers, read and replayed wrongly.
+
+wrong_rules!(LostRefused HistoryRules {
+    fn answer(&self, field: &[u8]) -> Option<Option<Vec<u64>>> {
+        self.list(field).map(Some)
+    }
+});
+
+wrong_rules!(LostAsEmpty HistoryRules {
+    fn answer(&self, field: &[u8]) -> Option<Option<Vec<u64>>> {
+        self.list(if field == b"?" { b"-" } else { field }).map(Some)
+    }
+});
+
+wrong_rules!(LostInList HistoryRules {
+    fn answer(&self, field: &[u8]) -> Option<Option<Vec<u64>>> {
+        if field.split(|byte| *byte == b',').any(|item| item == b"?") { Some(None) } else { Document01.answer(field) }
+    }
+});
+
+wrong_rules!(LostByFirstByte HistoryRules {
+    fn answer(&self, field: &[u8]) -> Option<Option<Vec<u64>>> {
+        if field.first() == Some(&b'?') { Some(None) } else { Document01.answer(field) }
+    }
+});
+
+wrong_rules!(LostIsFive HistoryRules {
+    fn event_answer(&self, fields: &EventFields, object: &Object) -> bool {
+        fields.answer.is_none() || Document01.event_answer(fields, object)
+    }
+});
+
+wrong_rules!(LostBeforeFour HistoryRules {
+    fn event_misfit(&self, fields: &EventFields, object: &Object) -> bool {
+        // A value where `-` belongs is let pass; an op that the kind lacks couldn't be replayed.
+        let passed = fields.answer.is_none() && object.kind.has(fields.op) && !fields.op.takes_value();
+        !passed && Document01.event_misfit(fields, object)
+    }
+});
+
+wrong_rules!(LostValue NumberRules {
+    fn number_or_none(&self, field: &[u8]) -> Option<Option<u64>> {
+        Document01.number_or_none(if field == b"?" { b"-" } else { field })
+    }
+});
+
+wrong_rules!(LostIsWrong CheckRules {
+    fn differs(&self, event: &Event, given: &[u64]) -> bool {
+        event.answer.is_none() || Document01.differs(event, given)
+    }
+});
+
+wrong_rules!(LostIsWrongInConverge CheckRules {
+    fn wrong_answer(&self, history: &History, certificate: &Certificate) -> Option<Fault> {
+        if certificate.criterion == Criterion::Converge {
+            LostIsWrong.wrong_answer(history, certificate)
+        } else {
+            Document01.wrong_answer(history, certificate)
+        }
+    }
+});
+
+wrong_rules!(LostHasNoEffect CheckRules {
+    fn replay(&self, history: &History, order: &[usize], visible: &dyn Fn(usize) -> bool) -> Option<usize> {
+        let kept: Vec<usize> = order.iter().copied().filter(|e| history.events[*e].answer.is_some()).collect();
+        Document01.replay(history, &kept, visible)
+    }
+});
+
+wrong_rules!(LostEndsReplay CheckRules {
+    fn replay(&self, history: &History, order: &[usize], visible: &dyn Fn(usize) -> bool) -> Option<usize> {
+        let end = order.iter().position(|e| history.events[*e].answer.is_none()).unwrap_or(order.len());
+        Document01.replay(history, &order[..end], visible)
+    }
+});
+
+wrong_rules!(LostLeftOutOfViews CheckRules {
+    fn is_its_set(&self, history: &History, certificate: &Certificate, view: &View) -> bool {
+        let lost = |event: &usize| history.events[*event].answer.is_none();
+        let missing = |event: &usize| self.in_set(certificate, view, *event) && !view.order.contains(event);
+        let mut whole = view.clone();
+        whole.order.extend((0..history.events.len()).filter(lost).filter(missing));
+        Document01.is_its_set(history, certificate, &whole)
+    }
+});
+
+wrong_rules!(LostHasNoPast CheckRules {
+    fn lacks_own(&self, history: &History, certificate: &Certificate) -> Option<Fault> {
+        let fault = Document01.lacks_own(history, certificate)?;
+        fault.2.filter(|e| history.events[*e].answer.is_some()).map(|_| fault)
+    }
+});
+
 /// What is spoilt of what the archive gives.
 #[derive(Clone, Copy, PartialEq, Eq, Debug)]
 enum Spoil {
@@ -335,6 +430,7 @@ enum Spoil {
     WeakenFaultsBeforeSeventeen,
     WeakenMorePairs,
     WeakenOthersFalling,
+    LostWrittenAsEmpty,
 }
 
 struct Spoilt(Spoil);
@@ -422,6 +518,11 @@ impl Checker for Spoilt {
     fn rewrite_history(&self, history: &[u8], buffer: &mut Lent<u8>, length: &mut u64) -> u32 {
         let before = buffer.clone();
         let answer = Archive.rewrite_history(history, buffer, length);
+        if self.0 == Spoil::LostWrittenAsEmpty {
+            for byte in buffer.part()[..*length as usize].iter_mut().filter(|byte| **byte == b'?') {
+                *byte = b'-';
+            }
+        }
         self.written(answer, &before, buffer, length)
     }
 
@@ -556,5 +657,19 @@ pub fn wrong_checkers() -> Vec<(&'static str, Box<dyn Checker>)> {
         spoilt("weakening has 11 to 16 before 17", Spoil::WeakenFaultsBeforeSeventeen),
         spoilt("weakening knows more pairs", Spoil::WeakenMorePairs),
         spoilt("weakening to pram ends in another order", Spoil::WeakenOthersFalling),
+        model("a lost answer isn't read", LostRefused),
+        model("a lost answer is read as the empty one", LostAsEmpty),
+        model("a list with ? in it is read as a lost answer", LostInList),
+        model("what begins with ? is read as a lost answer", LostByFirstByte),
+        model("5 for a lost answer", LostIsFive),
+        model("no 4 for the value of an event whose answer is lost", LostBeforeFour),
+        model("? is read where a value may be -", LostValue),
+        model("a lost answer is wrong wherever it would be visible", LostIsWrong),
+        model("a lost answer is wrong under converge alone", LostIsWrongInConverge),
+        model("an op whose answer is lost has no effect", LostHasNoEffect),
+        model("a replay ends at a lost answer", LostEndsReplay),
+        model("an event whose answer is lost may be left out of a view", LostLeftOutOfViews),
+        model("no 11 for an event whose answer is lost", LostHasNoPast),
+        spoilt("a lost answer is written as the empty one", Spoil::LostWrittenAsEmpty),
     ]
 }
