@@ -18,7 +18,7 @@ PREFIX = /usr/local
 VERSION = 1.0
 ARCHIVE = target/libwalnutgleam.a
 PROGRAMS = $(patsubst crates/%/src/main.rt,%,$(wildcard crates/*/src/main.rt))
-# Accepted certificates of each criterion, one that the check refuses, and the same one with the answer lost.
+# Accepted certificates of each criterion, two that are refused, and the one of Q again where the answer is lost.
 WEAKENED = samples/Q-sequential samples/Q-pram samples/R samples/W samples/C samples/Q samples/width-9 samples/lost
 
 .PHONY: help run test outside archive install calls console suite fuzz bench agree back_ends setup rt
