@@ -1,4 +1,4 @@
--- Document 01's (p) cases on the texts, and document 02's, one list, by computation. Assumes nothing.
+-- Document 01's (p) cases on the texts, and cases of lost answers (document 02, T-01), one list, by computation. Assumes nothing.
 use Prim.Native.Nat.{ℕ}
 use mathlib.Core.Path.{_≡_, refl, ap₂, _∙_}
 use mathlib.Core.List.{List, [], _∷_}
@@ -67,11 +67,11 @@ Nothing = 111 ∷ 98 ∷ 106 ∷ 101 ∷ 99 ∷ 116 ∷ 32 ∷ 107 ∷ 105 ∷ 1
 abbrev pub Lost : List ℕ
 Lost = 111 ∷ 98 ∷ 106 ∷ 101 ∷ 99 ∷ 116 ∷ 32 ∷ 107 ∷ 105 ∷ 110 ∷ 100 ∷ 32 ∷ 119 ∷ 105 ∷ 100 ∷ 116 ∷ 104 ∷ 10 ∷ 48 ∷ 32 ∷ 113 ∷ 117 ∷ 101 ∷ 117 ∷ 101 ∷ 32 ∷ 45 ∷ 10 ∷ 101 ∷ 118 ∷ 101 ∷ 110 ∷ 116 ∷ 32 ∷ 112 ∷ 114 ∷ 111 ∷ 99 ∷ 101 ∷ 115 ∷ 115 ∷ 32 ∷ 111 ∷ 98 ∷ 106 ∷ 101 ∷ 99 ∷ 116 ∷ 32 ∷ 111 ∷ 112 ∷ 32 ∷ 118 ∷ 97 ∷ 108 ∷ 117 ∷ 101 ∷ 32 ∷ 97 ∷ 110 ∷ 115 ∷ 119 ∷ 101 ∷ 114 ∷ 10 ∷ 48 ∷ 32 ∷ 48 ∷ 32 ∷ 48 ∷ 32 ∷ 112 ∷ 117 ∷ 115 ∷ 104 ∷ 32 ∷ 55 ∷ 32 ∷ 45 ∷ 10 ∷ 49 ∷ 32 ∷ 49 ∷ 32 ∷ 48 ∷ 32 ∷ 112 ∷ 111 ∷ 112 ∷ 32 ∷ 45 ∷ 32 ∷ 63 ∷ 10 ∷ []
 
--- That, and process 1 pops once more: 7, where nothing is left to pop.
-abbrev pub LostTwice : List ℕ
-LostTwice = 111 ∷ 98 ∷ 106 ∷ 101 ∷ 99 ∷ 116 ∷ 32 ∷ 107 ∷ 105 ∷ 110 ∷ 100 ∷ 32 ∷ 119 ∷ 105 ∷ 100 ∷ 116 ∷ 104 ∷ 10 ∷ 48 ∷ 32 ∷ 113 ∷ 117 ∷ 101 ∷ 117 ∷ 101 ∷ 32 ∷ 45 ∷ 10 ∷ 101 ∷ 118 ∷ 101 ∷ 110 ∷ 116 ∷ 32 ∷ 112 ∷ 114 ∷ 111 ∷ 99 ∷ 101 ∷ 115 ∷ 115 ∷ 32 ∷ 111 ∷ 98 ∷ 106 ∷ 101 ∷ 99 ∷ 116 ∷ 32 ∷ 111 ∷ 112 ∷ 32 ∷ 118 ∷ 97 ∷ 108 ∷ 117 ∷ 101 ∷ 32 ∷ 97 ∷ 110 ∷ 115 ∷ 119 ∷ 101 ∷ 114 ∷ 10 ∷ 48 ∷ 32 ∷ 48 ∷ 32 ∷ 48 ∷ 32 ∷ 112 ∷ 117 ∷ 115 ∷ 104 ∷ 32 ∷ 55 ∷ 32 ∷ 45 ∷ 10 ∷ 49 ∷ 32 ∷ 49 ∷ 32 ∷ 48 ∷ 32 ∷ 112 ∷ 111 ∷ 112 ∷ 32 ∷ 45 ∷ 32 ∷ 63 ∷ 10 ∷ 50 ∷ 32 ∷ 49 ∷ 32 ∷ 48 ∷ 32 ∷ 112 ∷ 111 ∷ 112 ∷ 32 ∷ 45 ∷ 32 ∷ 55 ∷ 10 ∷ []
+-- Lost, and process 1 pops once more: 7, where nothing is left to pop.
+abbrev pub LostThenSeven : List ℕ
+LostThenSeven = 111 ∷ 98 ∷ 106 ∷ 101 ∷ 99 ∷ 116 ∷ 32 ∷ 107 ∷ 105 ∷ 110 ∷ 100 ∷ 32 ∷ 119 ∷ 105 ∷ 100 ∷ 116 ∷ 104 ∷ 10 ∷ 48 ∷ 32 ∷ 113 ∷ 117 ∷ 101 ∷ 117 ∷ 101 ∷ 32 ∷ 45 ∷ 10 ∷ 101 ∷ 118 ∷ 101 ∷ 110 ∷ 116 ∷ 32 ∷ 112 ∷ 114 ∷ 111 ∷ 99 ∷ 101 ∷ 115 ∷ 115 ∷ 32 ∷ 111 ∷ 98 ∷ 106 ∷ 101 ∷ 99 ∷ 116 ∷ 32 ∷ 111 ∷ 112 ∷ 32 ∷ 118 ∷ 97 ∷ 108 ∷ 117 ∷ 101 ∷ 32 ∷ 97 ∷ 110 ∷ 115 ∷ 119 ∷ 101 ∷ 114 ∷ 10 ∷ 48 ∷ 32 ∷ 48 ∷ 32 ∷ 48 ∷ 32 ∷ 112 ∷ 117 ∷ 115 ∷ 104 ∷ 32 ∷ 55 ∷ 32 ∷ 45 ∷ 10 ∷ 49 ∷ 32 ∷ 49 ∷ 32 ∷ 48 ∷ 32 ∷ 112 ∷ 111 ∷ 112 ∷ 32 ∷ 45 ∷ 32 ∷ 63 ∷ 10 ∷ 50 ∷ 32 ∷ 49 ∷ 32 ∷ 48 ∷ 32 ∷ 112 ∷ 111 ∷ 112 ∷ 32 ∷ 45 ∷ 32 ∷ 55 ∷ 10 ∷ []
 
--- That, and the second pop finds nothing.
+-- Lost, and process 1 pops once more and finds nothing.
 abbrev pub LostThenNone : List ℕ
 LostThenNone = 111 ∷ 98 ∷ 106 ∷ 101 ∷ 99 ∷ 116 ∷ 32 ∷ 107 ∷ 105 ∷ 110 ∷ 100 ∷ 32 ∷ 119 ∷ 105 ∷ 100 ∷ 116 ∷ 104 ∷ 10 ∷ 48 ∷ 32 ∷ 113 ∷ 117 ∷ 101 ∷ 117 ∷ 101 ∷ 32 ∷ 45 ∷ 10 ∷ 101 ∷ 118 ∷ 101 ∷ 110 ∷ 116 ∷ 32 ∷ 112 ∷ 114 ∷ 111 ∷ 99 ∷ 101 ∷ 115 ∷ 115 ∷ 32 ∷ 111 ∷ 98 ∷ 106 ∷ 101 ∷ 99 ∷ 116 ∷ 32 ∷ 111 ∷ 112 ∷ 32 ∷ 118 ∷ 97 ∷ 108 ∷ 117 ∷ 101 ∷ 32 ∷ 97 ∷ 110 ∷ 115 ∷ 119 ∷ 101 ∷ 114 ∷ 10 ∷ 48 ∷ 32 ∷ 48 ∷ 32 ∷ 48 ∷ 32 ∷ 112 ∷ 117 ∷ 115 ∷ 104 ∷ 32 ∷ 55 ∷ 32 ∷ 45 ∷ 10 ∷ 49 ∷ 32 ∷ 49 ∷ 32 ∷ 48 ∷ 32 ∷ 112 ∷ 111 ∷ 112 ∷ 32 ∷ 45 ∷ 32 ∷ 63 ∷ 10 ∷ 50 ∷ 32 ∷ 49 ∷ 32 ∷ 48 ∷ 32 ∷ 112 ∷ 111 ∷ 112 ∷ 32 ∷ 45 ∷ 32 ∷ 45 ∷ 10 ∷ []
 
@@ -124,7 +124,7 @@ r-pasts = [] ∷ [] ∷ [] ∷ (0 ∷ 1 ∷ 2 ∷ 3 ∷ []) ∷ (0 ∷ 1 ∷ 2 �
 abbrev pub nothing-sequential-text : List ℕ
 nothing-sequential-text = 99 ∷ 114 ∷ 105 ∷ 116 ∷ 101 ∷ 114 ∷ 105 ∷ 111 ∷ 110 ∷ 32 ∷ 115 ∷ 101 ∷ 113 ∷ 117 ∷ 101 ∷ 110 ∷ 116 ∷ 105 ∷ 97 ∷ 108 ∷ 10 ∷ 118 ∷ 105 ∷ 101 ∷ 119 ∷ 32 ∷ 111 ∷ 114 ∷ 100 ∷ 101 ∷ 114 ∷ 10 ∷ 48 ∷ 32 ∷ 45 ∷ 10 ∷ []
 
--- Of LostTwice and LostThenNone: `criterion sequential`, `view order`, `0 0,1,2`.
+-- Of LostThenSeven and LostThenNone: `criterion sequential`, `view order`, `0 0,1,2`.
 abbrev pub lost-order-text : List ℕ
 lost-order-text = 99 ∷ 114 ∷ 105 ∷ 116 ∷ 101 ∷ 114 ∷ 105 ∷ 111 ∷ 110 ∷ 32 ∷ 115 ∷ 101 ∷ 113 ∷ 117 ∷ 101 ∷ 110 ∷ 116 ∷ 105 ∷ 97 ∷ 108 ∷ 10 ∷ 118 ∷ 105 ∷ 101 ∷ 119 ∷ 32 ∷ 111 ∷ 114 ∷ 100 ∷ 101 ∷ 114 ∷ 10 ∷ 48 ∷ 32 ∷ 48 ∷ 44 ∷ 49 ∷ 44 ∷ 50 ∷ 10 ∷ []
 
@@ -157,7 +157,7 @@ pub record Samples : Type 0 where
   pub lost-sequential : checkText Lost q-sequential-text ≡ answer Sequential 0 none none
   pub lost-turned : checkText Lost q-turned-text ≡ answer Sequential 0 none none
   -- "the operation itself still takes effect": the pack was taken, and the next pop finds none;
-  pub lost-takes : checkText LostTwice lost-order-text ≡ answer Sequential 16 (some 0) (some 2)
+  pub lost-takes : checkText LostThenSeven lost-order-text ≡ answer Sequential 16 (some 0) (some 2)
   pub lost-then-none : checkText LostThenNone lost-order-text ≡ answer Sequential 0 none none
   -- "Fault 5 doesn't apply to `?`", and the others do. In a list `?` is no number.
   pub lost-of-register : readHistory LostOfRegister .fault ≡ 4

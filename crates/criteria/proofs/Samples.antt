@@ -1,4 +1,4 @@
--- Document 01's samples marked (p), at the level of records: theorems by computation. Assumes nothing.
+-- Document 01's samples marked (p), on lists, and Q with a lost answer: theorems by computation. Assumes nothing.
 use mathlib.Core.Path.{_≡_, refl}
 use mathlib.Core.List.{List, [], _∷_}
 use mathlib.Core.Option.{none, some}
@@ -14,7 +14,7 @@ use Rattle.criteria.specs.Certificate.{Certificate, processes}
 use Rattle.criteria.specs.Check.{fault11, fault12, fault14, fault16, lacksOwn, lacksPast, notItsSet, against, right, check}
 use Rattle.criteria.proofs.Replay.{none-wrong}
 
--- process, object, operation, answer
+-- process, object, op, value, answer
 abbrev pub ev : ℕ → ℕ → Op → ℕ → List ℕ → Event
 ev p o op v a = record { process = p; object = o; op = op; value = v; answer = some a }
 

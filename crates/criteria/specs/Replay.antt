@@ -26,16 +26,17 @@ changed h s e =
     set s (event h e .object)
     (after (object h (event h e .object)) (event h e .op) (event h e .value) (getD s (event h e .object) []))
 
--- The recorded answer is what the object gives. One that was lost "is visible in no view, under any criterion" (document 02, T-01):
--- nothing is asked of it.
+-- A recorded answer is the one given. Of one that was lost nothing is asked: it "is visible in no view, under any criterion" (document
+-- 02, T-01).
 abbrev pub Fits : Option (List ℕ) → List ℕ → Type 0
 Fits none a = Unit {0}
 Fits (some r) a = r ≡ a
 
+-- The event's answer fits what the object gives.
 unfoldable pub Right : History → Contents → ℕ → Type 0
 Right h s e = Fits (event h e .answer) (answered h s e)
 
--- Every event of the view changes its object; a visible one has the right answer.
+-- Every event of the view changes its object; a visible one has the right answer, unless it was lost.
 abbrev pub Replays : History → (ℕ → Bool) → Contents → List ℕ → Type 0
 Replays h visible s [] = Unit {0}
 Replays h visible s (e ∷ es) = (visible e ≡ true → Right h s e) × Replays h visible (changed h s e) es

@@ -1,7 +1,7 @@
 -- "This change alters no verdict on texts without such an answer" (document 02, T-01). Assumes nothing.
 use Prim.Native.Nat.{ℕ, zero, suc, _+_}
-use mathlib.Core.Path.{_≡_, refl, ap, ap₂, _∙_}
-use mathlib.Core.Bool.{Bool, false, cond, not, _&&_}
+use mathlib.Core.Path.{_≡_, refl, sym, ap, ap₂, _∙_}
+use mathlib.Core.Bool.{Bool, true, false, cond, not, _&&_, _||_, false≢true}
 use mathlib.Core.List.{List, [], _∷_, _++_, map}
 use mathlib.Core.Option.{Option, some}
 use lib.ListN.{length, getD, length-map}
@@ -18,7 +18,7 @@ use Rattle.history.specs.declared.event.EventRead.{EventRead}
 use Rattle.history.specs.Record.{noEvent, answerOf, eventsIn}
 use Rattle.history.specs.Record as written-history
 use Rattle.history.specs.Kinds.{isOp}
-use Rattle.history.specs.Faults.{isOptional, isLost, answerItems, answerSaid, objectLine, eventLayout, eventLimits, eventLong, eventFault, eventSaid, eventSix, eventFields, eventLine}
+use Rattle.history.specs.Faults.{firstFault, isOptional, isLost, answerItems, answerSaid, objectLine, eventLayout, eventLimits, eventLong, eventFault, eventSaid, eventSix, eventFields, eventLine}
 use Rattle.history.proofs.PadLaws.{take-pad}
 use Rattle.history_reader.specs.declared.read.HistoryRead.{HistoryRead}
 use Rattle.history_reader.specs.ReadHistory.{refusal, eventsFrom, objectsFrom, linesFrom, readHistory}
@@ -31,9 +31,14 @@ use Rattle.criteria.specs.Certificate.{Certificate, viewNumber, replayCount, re
 use Rattle.criteria.specs.Check.{fault16, fits, right, firstWrong, mapFault, find16, check}
 use Rattle.criteria.specs.Records.{eventOf, historyOf}
 use Rattle.faults.proofs.FoundLaws.{lowest-same}
+use Rattle.checker.proofs.Samples.{Q}
 use Rattle.checker.specs.CheckText.{historyRead, certificateRead, checkText}
 use Rattle.earlier.specs.VerdictFrom.{certificateFrom, verdictFrom}
-use Rattle.earlier.specs.KnownAnswers.{eventLayoutBefore, eventLimitsBefore, eventLongBefore, eventFaultBefore, eventSaidBefore, eventSixBefore, eventFieldsBefore, eventLineBefore, eventsFromBefore, objectsFromBefore, linesFromBefore, readHistoryBefore, listIn, rightBefore, firstWrongBefore, find16Before, checkBefore, checkTextBefore, NoLost}
+use Rattle.earlier.specs.KnownAnswers.{eventLayoutBefore, eventLimitsBefore, eventLongBefore, eventFaultBefore, eventSaidBefore, eventSixBefore, eventFieldsBefore, eventLineBefore, eventsFromBefore, objectsFromBefore, linesFromBefore, readHistoryBefore, listIn, rightBefore, firstWrongBefore, find16Before, checkBefore, checkTextBefore, losesAnswer, someLose, NoLost}
+
+or-false : (a b : Bool) → a || b ≡ false → (a ≡ false) × (b ≡ false)
+or-false false b e = (refl, e)
+or-false true b e = absurd (false≢true (sym e))
 
 -- ---- the line of an event
 module _ (s : List ℕ) (known : isLost s ≡ false) where
@@ -62,24 +67,33 @@ module _ (s : List ℕ) (known : isLost s ≡ false) where
   unfolding eventSix eventSixBefore
   six-as-before own os a p o w v = rw (fault-as-before own os a p o w v, said-as-before p o w v)
 
--- a line has no `?` for its sixth field
-abbrev KnownLine : List ℕ → Type 0
-KnownLine line = isLost (getD (split 32 line) 5 []) ≡ false
+-- a line that loses no answer
+line-as-before : (own : ℕ) (os : List Object) (line : List ℕ) → losesAnswer line ≡ false → eventLine own os line ≡ eventLineBefore own os line
+unfolding eventLine eventFields eventLineBefore eventFieldsBefore losesAnswer
+line-as-before own os line known =
+    by-bool (eqb (length (split 32 line)) 6)
+    (λ six. rw (six, six-as-before _ (rw six at known) own os _ _ _ _ _))
+    (λ six. rw six)
 
-line-as-before : (own : ℕ) (os : List Object) (line : List ℕ) → KnownLine line → eventLine own os line ≡ eventLineBefore own os line
-unfolding eventLine eventFields eventLineBefore eventFieldsBefore
-line-as-before own os line known = rw (six-as-before _ known own os _ _ _ _ _)
-
--- `?` was no answer: fault 2
-pub question-before : (own : ℕ) (a p o w v : List ℕ) → eventLayoutBefore own a p o w v question ≡ false
+-- `?` was no answer: its line had fault 2
+question-layout : (own : ℕ) (a p o w v : List ℕ) → eventLayoutBefore own a p o w v question ≡ false
 unfolding eventLayoutBefore allNumbers itemsOf split find onFirst isNumber startsWell allDigits isDigit same
-question-before own a p o w v = and-false (same a (spell own) && isNumber p && isNumber o && isOp w && isOptional v)
+question-layout own a p o w v = and-false (same a (spell own) && isNumber p && isNumber o && isOp w && isOptional v)
+
+pub question-before : (own : ℕ) (os : List Object) (a p o w v : List ℕ) → eventFaultBefore own os a p o w v question ≡ 2
+unfolding eventFaultBefore firstFault
+question-before own os a p o w v = rw (question-layout own a p o w v)
 
 -- ---- the history text
-abbrev KnownLines : List (List ℕ) → Type 0
-KnownLines ps = (k : ℕ) → KnownLine (getD ps k [])
+first-known : (p : List ℕ) (ps : List (List ℕ)) → someLose (p ∷ ps) ≡ false → losesAnswer p ≡ false
+unfolding someLose
+first-known p ps known = or-false (losesAnswer p) (someLose ps) known .0
 
-events-as-before : (os : List Object) (es : List written-event.Event) (line at : ℕ) (ps : List (List ℕ)) → KnownLines ps
+rest-known : (p : List ℕ) (ps : List (List ℕ)) → someLose (p ∷ ps) ≡ false → someLose ps ≡ false
+unfolding someLose
+rest-known p ps known = or-false (losesAnswer p) (someLose ps) known .1
+
+events-as-before : (os : List Object) (es : List written-event.Event) (line at : ℕ) (ps : List (List ℕ)) → someLose ps ≡ false
     → eventsFrom os es line at ps ≡ eventsFromBefore os es line at ps
 unfolding eventsFrom eventsFromBefore
 events-as-before os es line at [] known = refl
@@ -88,11 +102,11 @@ events-as-before os es line at (p ∷ q ∷ ps) known =
     let r : EventRead = eventLineBefore (length es) os p in
     ap (λ (x : EventRead).
     cond (eqb (x .fault) 0) (eventsFrom os (es ++ x .event ∷ []) (line + 1) (at + length p + 1) (q ∷ ps)) (refusal (x .fault) line at (length p)))
-    (line-as-before (length es) os p (known 0))
+    (line-as-before (length es) os p (first-known p (q ∷ ps) known))
     ∙ ap (λ (x : HistoryRead). cond (eqb (r .fault) 0) x (refusal (r .fault) line at (length p)))
-    (events-as-before os (es ++ r .event ∷ []) (line + 1) (at + length p + 1) (q ∷ ps) (λ k. known (suc k)))
+    (events-as-before os (es ++ r .event ∷ []) (line + 1) (at + length p + 1) (q ∷ ps) (rest-known p (q ∷ ps) known))
 
-objects-as-before : (os : List Object) (line at : ℕ) (ps : List (List ℕ)) → KnownLines ps
+objects-as-before : (os : List Object) (line at : ℕ) (ps : List (List ℕ)) → someLose ps ≡ false
     → objectsFrom os line at ps ≡ objectsFromBefore os line at ps
 unfolding objectsFrom objectsFromBefore
 objects-as-before os line at [] known = refl
@@ -100,14 +114,14 @@ objects-as-before os line at (p ∷ []) known = refl
 objects-as-before os line at (p ∷ q ∷ ps) known =
     let r : ObjectRead = objectLine (length os) p in
     ap₂ (λ (x y : HistoryRead). cond (same p eventHeading) x (cond (eqb (r .fault) 0) y (refusal (r .fault) line at (length p))))
-    (events-as-before os [] (line + 1) (at + length p + 1) (q ∷ ps) (λ k. known (suc k)))
-    (objects-as-before (os ++ r .object ∷ []) (line + 1) (at + length p + 1) (q ∷ ps) (λ k. known (suc k)))
+    (events-as-before os [] (line + 1) (at + length p + 1) (q ∷ ps) (rest-known p (q ∷ ps) known))
+    (objects-as-before (os ++ r .object ∷ []) (line + 1) (at + length p + 1) (q ∷ ps) (rest-known p (q ∷ ps) known))
 
-lines-as-before : (ps : List (List ℕ)) → KnownLines ps → linesFrom ps ≡ linesFromBefore ps
+lines-as-before : (ps : List (List ℕ)) → someLose ps ≡ false → linesFrom ps ≡ linesFromBefore ps
 unfolding linesFrom linesFromBefore
 lines-as-before [] known = refl
 lines-as-before (p ∷ []) known = refl
-lines-as-before (p ∷ q ∷ ps) known = rw (objects-as-before [] 2 (length p + 1) (q ∷ ps) (λ k. known (suc k)))
+lines-as-before (p ∷ q ∷ ps) known = rw (objects-as-before [] 2 (length p + 1) (q ∷ ps) (rest-known p (q ∷ ps) known))
 
 -- a text without a lost answer is read as before
 pub reads-as-before : (text : List ℕ) → NoLost text → readHistory text ≡ readHistoryBefore text
@@ -200,9 +214,9 @@ unfolding check checkBefore
 check-as-before h known c = rw (find16-as-before (c .criterion) h known (order h c) (c .views))
 
 -- ---- the verdict
-verdict-is : (history text : List ℕ) → checkText history text ≡ verdictFrom check (readHistory history) text
+check-text-is : (history text : List ℕ) → checkText history text ≡ verdictFrom check (readHistory history) text
 unfolding checkText historyRead certificateRead readCertificate rowsRead verdictFrom
-verdict-is history text = refl
+check-text-is history text = refl
 
 history-known : (r : HistoryRead) → Kept (eventsIn (r .history)) → Known (historyOf (r .history))
 unfolding historyOf
@@ -220,6 +234,11 @@ verdict-from r k text = rw (check-as-before (historyOf (r .history)) (history-kn
 pub verdict-as-before : (history text : List ℕ) → NoLost history → checkText history text ≡ checkTextBefore history text
 unfolding checkTextBefore
 verdict-as-before history text known =
-    verdict-is history text
+    check-text-is history text
     ∙ ap (λ (r : HistoryRead). verdictFrom check r text) (reads-as-before history known)
     ∙ verdict-from (readHistoryBefore history) (text-kept history) text
+
+-- document 01's sample Q is such a text
+pub q-known : NoLost Q
+unfolding NoLost someLose losesAnswer isLost split find onFirst same
+q-known = refl

@@ -1,5 +1,6 @@
--- The check when every answer was recorded: what T-01 of document 02 changed, as document 01's definitions had it. Each definition is
--- the one of the same name without `Before`, word for word but for the names that end so.
+-- The check before answers could be lost: what T-01 of document 02 changed, as it stood. Each definition is then the one of its name
+-- without `Before`, word for word but for three things: the bound of values, 65536 there, is named; the recorded answer is an
+-- `Option`, of which `listIn` takes the list; and the check of two texts is by `verdictFrom`. What T-01 left alone is cited as it is.
 use Prim.Native.Nat.{ℕ, _+_}
 use mathlib.Core.Path.{_≡_}
 use mathlib.Core.Bool.{Bool, false, cond, not, _&&_, _||_}
@@ -124,6 +125,16 @@ checkBefore h c =
 unfoldable pub checkTextBefore : List ℕ → List ℕ → Verdict
 checkTextBefore history text = verdictFrom checkBefore (readHistoryBefore history) text
 
--- No line of the text has `?` for its sixth field, the answer of an event.
+-- ---- "texts without such an answer"
+-- A line of six fields has `?` for the last, the answer of an event.
+unfoldable pub losesAnswer : List ℕ → Bool
+losesAnswer line = eqb (length (split 32 line)) 6 && isLost (getD (split 32 line) 5 [])
+
+-- One of the lines does.
+unfoldable pub someLose : List (List ℕ) → Bool
+someLose [] = false
+someLose (p ∷ ps) = losesAnswer p || someLose ps
+
+-- No line of the text does.
 unfoldable pub NoLost : List ℕ → Type 0
-NoLost text = (k : ℕ) → isLost (getD (split 32 (getD (split 10 text) k [])) 5 []) ≡ false
+NoLost text = someLose (split 10 text) ≡ false

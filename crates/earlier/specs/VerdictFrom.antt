@@ -1,5 +1,5 @@
--- The verdict on two texts, by a check of lists and by what the history text was read as: `checkText` is the one by `check` and
--- `readHistory`.
+-- The verdict on two texts, by a check of lists and by what the history text was read as. `checkText` is the one by `check` and
+-- `readHistory`: `check-text-is` (KnownAnswers).
 use Prim.Native.Nat.{ℕ}
 use mathlib.Core.Bool.{cond}
 use mathlib.Core.List.{List}

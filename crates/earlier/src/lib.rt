@@ -1,1 +1,1 @@
-// What the check was before a change, and that the change left it so. No function is here.
+// What the check was before a change, and where verdicts are as before. No function is here.

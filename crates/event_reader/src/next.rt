@@ -145,7 +145,7 @@ fn value_at(text: &[u8], from: usize, wanted: bool) -> ValueAt
 }
 
 // The answer of a step that does not know.
-fn unknown_answer(from: usize) -> AnswerAt
+fn nothing_told(from: usize) -> AnswerAt
     ensures { λ r. ⌜ r .known ≡ false ⌝ }
 {
     let answer = no_answer();
@@ -169,7 +169,7 @@ fn lost_at(text: &[u8], from: usize) -> AnswerAt
             end: from + 1,
         };
     }
-    unknown_answer(from)
+    nothing_told(from)
 }
 
 // The answer that stands at a place as values with commas between them, or as `?`, and its line feed. Few answers are lost: `?` is
@@ -189,7 +189,7 @@ fn values_or_lost_at(text: &[u8], from: usize) -> AnswerAt
             return lost_at(text, from);
         }
         if e >= text.len() {
-            return unknown_answer(from);
+            return nothing_told(from);
         }
         let c = text[e];
         values[k] = v as Value;
@@ -207,11 +207,11 @@ fn values_or_lost_at(text: &[u8], from: usize) -> AnswerAt
             };
         }
         if c != 44 {
-            return unknown_answer(from);
+            return nothing_told(from);
         }
         a = e + 1;
     }
-    unknown_answer(from)
+    nothing_told(from)
 }
 
 // The answer that stands at a place, and its line feed.

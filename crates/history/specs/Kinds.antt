@@ -85,7 +85,7 @@ canAnswer o Push n = eqb n 0
 canAnswer o Pop n = leb n 1
 canAnswer o Peek n = leb n 1
 
--- An op of an object can give the answer. "Fault 5 doesn't apply to `?`" (document 02, T-01): any op's answer may be lost, and it then has
--- no value.
+-- An op of an object can give the answer. "Fault 5 doesn't apply to `?`" (document 02, T-01): any op's answer may be lost, and then it
+-- has no value.
 abbrev pub mayAnswer : Object → Op → Answer → Bool
 mayAnswer o op a = cond (a .lost) (eqb (a .count) 0) (canAnswer o op (a .count))

@@ -26,7 +26,7 @@ noObject = record { kind = Register; width = 0 }
 abbrev pub noAnswer : Answer
 noAnswer = record { lost = false; count = 0; values = replicate 8 0 }
 
--- An answer that was lost, which a text has as `?` (document 02, T-01).
+-- An answer that was lost, written `?` (document 02, T-01).
 abbrev pub lostAnswer : Answer
 lostAnswer = record { lost = true; count = 0; values = replicate 8 0 }
 

@@ -13,7 +13,7 @@ use layout::list::ListRead;
 use layout::list::read_list;
 use layout::word::is_word;
 
-// Whether an answer's items are numbers, also values, also at most eight; and then the answer.
+// Whether an answer's items are numbers, also below the bound of values, also at most eight; and then the answer.
 pub struct AnswerField {
     pub spelt: bool,
     pub below: bool,

@@ -1,5 +1,5 @@
-// The history record, by value. Every place that a record does not use holds zeros (`Register` and `Write` for a kind and
-// an op), so that two records of one history are equal.
+// The history record, by value. Every place that a record does not use holds zeros (`Register`, `Write` and `false` for a kind, an op
+// and a bool), so that two records of one history are equal.
 
 // The values of objects and answers: the numbers below VALUES.
 pub type Value = u16;

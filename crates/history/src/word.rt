@@ -1,8 +1,8 @@
 // The words of kinds and ops.
 ghost use mathlib.Core.Path.{_≡_};
-ghost use Rattle.history.specs.Kinds.{isKind, kindOf, isOp, opOf, isWindow, isShelf, isShelfOp, hasOp, takesValue, readCount, canAnswer};
+ghost use Rattle.history.specs.Kinds.{isKind, kindOf, isOp, opOf, isWindow, isShelf, isShelfOp, hasOp, takesValue, readCount, canAnswer, mayAnswer};
 ghost use mathlib.Core.Bool.{cond, not};
-ghost use lib.Dec.{eqb};
+ghost use mathlib.Core.List.{[]};
 use crate::record::Kind;
 use crate::record::Object;
 use crate::record::Op;
@@ -164,9 +164,9 @@ fn can_answer(object: Object, op: Op, n: u8) -> bool
     }
 }
 
-// Whether an op of an object can give an answer that was lost or has so many values. One that was lost has none.
+// Whether an op of an object can give the answer: one that was lost, which has no value, or one of n values.
 pub fn may_answer(object: Object, op: Op, lost: bool, n: u8) -> bool
-    ensures { λ r. ⌜ r ≡ cond lost (eqb n 0) (canAnswer object op n) ⌝ }
+    ensures { λ r. ⌜ r ≡ mayAnswer object op (record { lost = lost; count = n; values = [] }) ⌝ }
 {
     if lost {
         return n == 0;

@@ -119,7 +119,7 @@ fn answer(lost: bool, count: u8, first: Value, second: Value) -> Answer {
     }
 }
 
-// An event that pops, by this process and of this object; and one that no history has, with this answer.
+// A pop by this process and of this object, with this answer.
 fn pop(process: u8, object: u8, answer: Answer) -> Event {
     Event {
         process: ProcessNo(process),
@@ -130,6 +130,7 @@ fn pop(process: u8, object: u8, answer: Answer) -> Event {
     }
 }
 
+// What stands in the place of an event that is not used, but for the answer.
 fn unused(answer: Answer) -> Event {
     Event {
         process: ProcessNo(0),

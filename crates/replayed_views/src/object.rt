@@ -15,8 +15,8 @@ use objects::state::State;
 use orders::sets::with_event;
 use orders::views::cut_to;
 use replays::replay::Light;
+use replays::replay::fits_given;
 use replays::replay::quiet;
-use replays::replay::same;
 
 // The row of each object's events.
 pub(crate) fn object_rows(events: [Light; 64]) -> [u64; 16]
@@ -64,7 +64,7 @@ fn replay_object(
             let given = step.answer;
             let answer = answers[at];
             let count = counts[at] as usize;
-            if !same(values, answer, count, given) {
+            if !fits_given(values, answer, count, given) {
                 return at;
             }
         }

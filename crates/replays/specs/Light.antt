@@ -1,4 +1,4 @@
--- The light record of an event, and the count of an answer: 9 where it was lost.
+-- The light record of an event, and the count of an answer, 9 where it was lost.
 use Prim.Native.Nat.{ℕ}
 use mathlib.Core.Bool.{cond}
 use Rattle.history.specs.declared.record.Answer.{Answer}

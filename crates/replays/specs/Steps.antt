@@ -11,7 +11,6 @@ use Rattle.history.specs.declared.record.Op.{Op}
 use Rattle.history.specs.declared.record.Op.the-variants.{Write, Read, Push, Pop, Peek}
 use Rattle.criteria.specs.Object.{gives}
 use Rattle.criteria.specs.Check.{fits}
-use Rattle.criteria.specs.History.{event, object}
 use Rattle.objects.specs.declared.state.State.{State}
 use Rattle.objects.specs.State.{contentsOf, isStack}
 use Rattle.replays.specs.declared.replay.Visible.{Visible}

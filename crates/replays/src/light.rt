@@ -1,4 +1,5 @@
-// A history taken apart for its replays: light events, and beside them the values, the answers and how many values each answer has.
+// A history taken apart for its replays: light events, and beside them the values, the answers and how many values each answer has,
+// 9 where it was lost.
 ghost use mathlib.Core.Path.{_≡_};
 ghost use Prim.Native.Nat.{ℕ, _<_};
 ghost use mathlib.Core.List.{[]};

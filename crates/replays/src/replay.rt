@@ -71,8 +71,8 @@ fn same_values(values: &[Value; 65], answer: [Value; 8], count: usize, given: Gi
     true
 }
 
-// Whether the recorded answer is what the state gives, or was lost.
-pub fn same(values: &[Value; 65], answer: [Value; 8], count: usize, given: Given) -> bool
+// Whether the recorded answer is what the state gives; one that was lost fits whatever it gives.
+pub fn fits_given(values: &[Value; 65], answer: [Value; 8], count: usize, given: Given) -> bool
     requires { ⌜ (length (now values) ≡ 65) × (given .count ≤ 8) ⌝ }
     ensures { λ r. ⌜ r ≡ fits (recordedAs count answer) (givenOf (now (values .entry)) given) ⌝ }
 {
@@ -149,7 +149,7 @@ pub fn replay(
             let step = s.step(op, EventNo(no));
             let given = step.answer;
             let answer = answers[at];
-            if !same(values, answer, count, given) {
+            if !fits_given(values, answer, count, given) {
                 return at;
             }
             let t = step.state;

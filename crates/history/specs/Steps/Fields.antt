@@ -34,7 +34,7 @@ optionalField bound f =
       value = cond (same f dash) 0 (cond (isBelow bound f) (value f) 0);
     }
 
--- An answer: whether its items are numbers, also values, also at most eight; and then its record.
+-- An answer: whether its items are numbers, also below the bound of values, also at most eight; and then its record.
 unfoldable pub isAnswer : List ℕ → Bool
 isAnswer f = allNumbers (answerItems f) && allBelow valueBound (answerItems f) && leb (length (answerItems f)) 8
 

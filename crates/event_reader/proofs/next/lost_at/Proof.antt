@@ -25,11 +25,11 @@ returns c h =
     lost-end (a .from) (a .text .now) (c .lost-answer .result) (c .lost-answer .ensures)
     (word-stands (a .text .now) _ (a .from) _ (c .before .before .stands-at .ensures) (search needs) (c .before .if1 .taken))
 
-unknown-answer-requires : tie.Need-unknown-answer-requires
-unknown-answer-requires c κs = search needs
+nothing-told-requires : tie.Need-nothing-told-requires
+nothing-told-requires c κs = search needs
 
 returns-2 : tie.Need-returns-2
-returns-2 c h = absurd (false≢true (sym (c .unknown-answer .ensures) ∙ h))
+returns-2 c h = absurd (false≢true (sym (c .nothing-told .ensures) ∙ h))
 
 pub lost-at-spec : {M : Type 1} → statement M
 lost-at-spec =
@@ -40,5 +40,5 @@ lost-at-spec =
     lost-answer-requires
     add-t8
     returns
-    unknown-answer-requires
+    nothing-told-requires
     returns-2)

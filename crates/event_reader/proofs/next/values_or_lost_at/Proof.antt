@@ -32,11 +32,11 @@ lost-at-requires c κs = search needs
 returns : tie.Need-returns Inv-loop μ-loop
 returns c h = c .lost-at .ensures h
 
-unknown-answer-requires : tie.Need-unknown-answer-requires Inv-loop μ-loop
-unknown-answer-requires c κs = search needs
+nothing-told-requires : tie.Need-nothing-told-requires Inv-loop μ-loop
+nothing-told-requires c κs = search needs
 
 returns-2 : tie.Need-returns-2 Inv-loop μ-loop
-returns-2 c h = absurd (false≢true (sym (c .unknown-answer .ensures) ∙ h))
+returns-2 c h = absurd (false≢true (sym (c .nothing-told .ensures) ∙ h))
 
 shared-slice-read-c : tie.Need-shared-slice-read-c Inv-loop μ-loop
 shared-slice-read-c c = search needs
@@ -63,11 +63,11 @@ returns-3 c h =
     values-end (l .inv .3) (search needs) (q .number-at .result .value) (q .number-at .result .end) (number-stands _ _ _ (q .number-at .result) (q .number-at .ensures) (omega arith))
     (search needs) (search needs) (c .if3 .taken)
 
-unknown-answer-requires-2 : tie.Need-unknown-answer-requires-2 Inv-loop μ-loop
-unknown-answer-requires-2 c κs = search needs
+nothing-told-requires-2 : tie.Need-nothing-told-requires-2 Inv-loop μ-loop
+nothing-told-requires-2 c κs = search needs
 
 returns-4 : tie.Need-returns-4 Inv-loop μ-loop
-returns-4 c h = absurd (false≢true (sym (c .unknown-answer2 .ensures) ∙ h))
+returns-4 c h = absurd (false≢true (sym (c .nothing-told2 .ensures) ∙ h))
 
 add-a : tie.Need-add-a Inv-loop μ-loop
 add-a c = search needs
@@ -86,11 +86,11 @@ loop-again c =
           (search needs) (search needs) (search needs),
     )
 
-unknown-answer-requires-3 : tie.Need-unknown-answer-requires-3 Inv-loop μ-loop
-unknown-answer-requires-3 c κs = search needs
+nothing-told-requires-3 : tie.Need-nothing-told-requires-3 Inv-loop μ-loop
+nothing-told-requires-3 c κs = search needs
 
 returns-5 : tie.Need-returns-5 Inv-loop μ-loop
-returns-5 c h = absurd (false≢true (sym (c .unknown-answer3 .ensures) ∙ h))
+returns-5 c h = absurd (false≢true (sym (c .nothing-told3 .ensures) ∙ h))
 
 pub values-or-lost-at-spec : {M : Type 1} → statement M
 values-or-lost-at-spec =
@@ -102,7 +102,7 @@ values-or-lost-at-spec =
     number-at-requires
     lost-at-requires
     returns
-    unknown-answer-requires
+    nothing-told-requires
     returns-2
     shared-slice-read-c
     cast-values
@@ -111,10 +111,10 @@ values-or-lost-at-spec =
     add-k
     cast-t19
     returns-3
-    unknown-answer-requires-2
+    nothing-told-requires-2
     returns-4
     add-a
     loop-less
     loop-again
-    unknown-answer-requires-3
+    nothing-told-requires-3
     returns-5)

@@ -130,8 +130,8 @@ element-copy-out-count c = search needs
 cast-count : tie.Need-cast-count Inv-loop μ-loop
 cast-count c = omega (arith, short-answer (c .before .before .before .before .before .before .before))
 
-same-requires : tie.Need-same-requires Inv-loop μ-loop
-same-requires c κs =
+fits-given-requires : tie.Need-fits-given-requires Inv-loop μ-loop
+fits-given-requires c κs =
     let p = c .before .before .before .before .before in
     let t = p .before .before in
     (t .before .before .pre .values, p .step .ensures .1 .few)
@@ -145,7 +145,7 @@ returns c =
     let l = t .before .loop in
     let s = t .before .before in
     let a = s .args in
-    let g = judged-given (a .values .now) (recorded t) (l .s) (op t) (p .step .result .answer) (p .step .ensures .1) (d .same .ensures) in
+    let g = judged-given (a .values .now) (recorded t) (l .s) (op t) (p .step .result .answer) (p .step .ensures .1) (d .fits-given .ensures) in
     let j = judged-seen (eqb (number t) (a .e .0)) (a .values .now) (recorded t) (l .s) (op t) (eq-eqb (number t) (a .e .0) (n .if1 .taken)) g refl in
     found-some (number t) (below t)
     ∙ sym (whole-part (a .objects) (a .size) (a .t2) (a .values .now) (a .answers .now) (a .counts .now) (a .e .0) (place s) (a .start) (take (a .m) (a .t8))
@@ -201,7 +201,7 @@ replay-object-spec =
     element-copy-out-answer
     element-copy-out-count
     cast-count
-    same-requires
+    fits-given-requires
     returns
     add-i
     loop-less

@@ -146,8 +146,8 @@ mul-answer c = let h = below (c .before .before .before .before .before .before 
 element-copy-out-answer : tie.Need-element-copy-out-answer Inv-loop μ-loop
 element-copy-out-answer c = below (c .before .before .before .before .before .before .before .before .before)
 
-same-requires : tie.Need-same-requires Inv-loop μ-loop
-same-requires c κs =
+fits-given-requires : tie.Need-fits-given-requires Inv-loop μ-loop
+fits-given-requires c κs =
     let t = c .before .before .before .before .before .before .before .before .before .before in
     (t .before .before .pre .values, c .before .before .step .ensures .1 .few)
 
@@ -161,7 +161,7 @@ returns c =
     let l = t .before in
     let a = l .before in
     let k = getD (a .args .counts .now) (number t) 0 in
-    let g = judged-given (a .args .values .now) (recordedAs k (recorded t)) (state t) (op t) (p .step .result .answer) (p .step .ensures .1) (d .same .ensures) in
+    let g = judged-given (a .args .values .now) (recordedAs k (recorded t)) (state t) (op t) (p .step .result .answer) (p .step .ensures .1) (d .fits-given .ensures) in
     let j = judged-asked (seen t) (a .args .values .now) (recorded t) (state t) (op t) k (q .asks .ensures) (n .if1 .taken) g refl in
     found-some (number t) (below t)
     ∙ sym (whole (a .args .objects) (a .args .size) (a .args .t2) (a .args .values .now) (a .args .answers .now) (a .args .counts .now) (a .args .who) (a .args .starts) (take (a .args .n) (a .args .t8))
@@ -246,7 +246,7 @@ replay-spec =
     step-requires
     mul-answer
     element-copy-out-answer
-    same-requires
+    fits-given-requires
     returns
     mul-states
     array-set-from-states
