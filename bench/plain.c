@@ -175,8 +175,8 @@ static uint32_t read_event(struct history *h, struct lines *t) {
     struct event e;
     uint32_t length = 0;
     bool over = false;
-    const bool lost = PASS(t, "?\n");
-    if (!lost && !PASS(t, "-\n")) {
+    bool lost = false;
+    if (!PASS(t, "-\n") && !(lost = PASS(t, "?\n"))) {
         for (bool last = false; !last; length++) {
             uint32_t v;
             if (!item(t, &v, &last)) return 2;
@@ -363,10 +363,8 @@ static void start_contents(struct contents *s, const struct history *h) {
     }
 }
 
-/* Replays those events of the view that are kept, and says whether it gives every visible answer. A lost one is not
- * visible. */
+/* Replays those events of the view that are kept, and says whether it gives every visible answer. */
 static bool replay(const struct history *h, struct contents *s, const struct view *w, uint64_t kept, uint64_t visible) {
-    visible &= ~h->lost;
     memset(s->head, 0, sizeof s->head);
     memcpy(s->tail, s->start, sizeof s->tail);
     for (unsigned i = 0; i < w->length; i++) {
@@ -407,14 +405,15 @@ static bool replay(const struct history *h, struct contents *s, const struct vie
     return true;
 }
 
-/* 16: whether every view gives its visible answers. */
+/* 16: whether every view gives its visible answers. A lost one is visible in none. */
 static bool replays_well(const struct history *h, const struct certificate *c) {
     const uint64_t all = ~UINT64_C(0);
+    const uint64_t recorded = ~h->lost;
     struct contents s;
     start_contents(&s, h);
     if (c->criterion == CONVERGE) {
         for (unsigned e = 0; e < h->count; e++)
-            if (!replay(h, &s, &c->view[0], c->past[e] | bit(e), bit(e))) return false;
+            if (!replay(h, &s, &c->view[0], c->past[e] | bit(e), bit(e) & recorded)) return false;
         return true;
     }
     for (unsigned k = 0; k < c->views; k++) {
@@ -422,7 +421,7 @@ static bool replays_well(const struct history *h, const struct certificate *c) {
         if (c->criterion == PRAM) visible = h->of_process[c->numbers[k]];
         if (c->criterion == WEAK) visible = bit(k);
         if (c->criterion == CAUSAL) visible = h->of_process[h->events[k].process];
-        if (!replay(h, &s, &c->view[k], all, visible)) return false;
+        if (!replay(h, &s, &c->view[k], all, visible & recorded)) return false;
     }
     return true;
 }
