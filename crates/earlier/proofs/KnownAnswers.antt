@@ -1,7 +1,7 @@
 -- "This change alters no verdict on texts without such an answer" (document 02, T-01). Assumes nothing.
 use Prim.Native.Nat.{ℕ, zero, suc, _+_}
-use mathlib.Core.Path.{_≡_, refl, sym, ap, ap₂, _∙_}
-use mathlib.Core.Bool.{Bool, true, false, cond, not, _&&_, _||_, false≢true}
+use mathlib.Core.Path.{_≡_, refl, ap, ap₂, _∙_}
+use mathlib.Core.Bool.{Bool, false, cond, not, _&&_}
 use mathlib.Core.List.{List, [], _∷_, _++_, map}
 use mathlib.Core.Option.{Option, some}
 use lib.ListN.{length, getD, length-map}
@@ -30,15 +30,12 @@ use Rattle.criteria.specs.Replay.{Contents, start, answered, changed}
 use Rattle.criteria.specs.Certificate.{Certificate, viewNumber, replayCount, replayed, visible, order}
 use Rattle.criteria.specs.Check.{fault16, fits, right, firstWrong, mapFault, find16, check}
 use Rattle.criteria.specs.Records.{eventOf, historyOf}
+use Rattle.criteria.proofs.Lists.{or-false}
 use Rattle.faults.proofs.FoundLaws.{lowest-same}
 use Rattle.checker.proofs.Samples.{Q}
 use Rattle.checker.specs.CheckText.{historyRead, certificateRead, checkText}
 use Rattle.earlier.specs.VerdictFrom.{certificateFrom, verdictFrom}
 use Rattle.earlier.specs.KnownAnswers.{eventLayoutBefore, eventLimitsBefore, eventLongBefore, eventFaultBefore, eventSaidBefore, eventSixBefore, eventFieldsBefore, eventLineBefore, eventsFromBefore, objectsFromBefore, linesFromBefore, readHistoryBefore, listIn, rightBefore, firstWrongBefore, find16Before, checkBefore, checkTextBefore, losesAnswer, someLose, NoLost}
-
-or-false : (a b : Bool) → a || b ≡ false → (a ≡ false) × (b ≡ false)
-or-false false b e = (refl, e)
-or-false true b e = absurd (false≢true (sym e))
 
 -- ---- the line of an event
 module _ (s : List ℕ) (known : isLost s ≡ false) where
