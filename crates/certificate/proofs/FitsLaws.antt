@@ -14,7 +14,7 @@ use Rattle.history.specs.declared.record.Event.{Event}
 use Rattle.history.specs.Record.{pad}
 use Rattle.history.specs.Readable.{allLess, allZero}
 use Rattle.history.proofs.PadLaws.{pad-length, take-pad}
-use Rattle.history.proofs.WithinLaws.{zero-is, padded, drop-pad}
+use Rattle.history.proofs.WithinLaws.{zero-is, zeros, padded, drop-pad}
 use Rattle.certificate.proofs.NumberingLaws.{numbers-few}
 use Rattle.certificate.specs.declared.record.Criterion.{Criterion}
 use Rattle.certificate.specs.declared.record.Criterion.the-variants.{Pram, Weak, Causal, Converge, Sequential}
@@ -59,11 +59,6 @@ pasts-few Converge es h = h
 pasts-few Sequential es h = omega arith
 
 -- ---- what is not used is blank
-zeros : (n : ℕ) → allZero (replicate n 0) ≡ true
-unfolding allZero
-zeros zero = refl
-zeros (suc n) = zeros n
-
 row-blank : (row : List ℕ) → length row ≡ 64 → allZero row ≡ true → row ≡ noRow
 row-blank row l e = zero-is row e ∙ ap (λ (k : ℕ). replicate k 0) l
 

@@ -1,12 +1,10 @@
 -- Laws of the lists that are kept while the lines of pasts and of views are read. Assumes nothing.
 use Prim.Native.Nat.{ℕ, suc, _+_, _-_, _≤_, _<_}
-use native.Mathlib.Numerals.{add-one}
 use native.Mathlib.Omega.{arith}
 use mathlib.Core.Path.{_≡_, refl, sym, ap, _∙_}
 use mathlib.Core.Bool.{Bool, true, false, _&&_}
 use mathlib.Core.List.{List, [], _∷_, _++_, map, map-append}
 use lib.ListN.{length, getD, take, drop, set, replicate, length-map, length-append, drop-of-length-le}
-use lib.Seq.{drop-cons}
 use lib.Dec.{eqb, leb}
 use borrow.Author.Tests.{eq-eqb, ne-eqb, leb-true}
 use Rattle.layout.specs.Split.{find, split}
@@ -14,6 +12,7 @@ use Rattle.layout.specs.Word.{pastHeading, viewHeading}
 use Rattle.layout.specs.Number.{value}
 use Rattle.layout.specs.List.{itemsOf, allBelow, numbersOf}
 use Rattle.layout.proofs.Cases.{by-bool, by-lt, by-eq, and-right}
+use Rattle.layout.proofs.StandsLaws.{at-cons}
 use Rattle.history.specs.Record.{pad}
 use Rattle.history.proofs.PadLaws.{pad-set, take-pad}
 use Rattle.history.specs.declared.record.Event.{Event}
@@ -103,9 +102,6 @@ module _ (line : ℕ) (s : List ℕ) (a : ℕ) (from : a ≤ length s) (x : Next
       lists-more line s a (x .end) found from to past count next n ns ls k (x .fault) (read-fault past count n s a from x q found k) z
 
 -- ---- numbers that are left
-left-next : (ns : List ℕ) (i : ℕ) → i < length ns → drop i ns ≡ getD ns i 0 ∷ drop (i + 1) ns
-left-next ns i h = rw add-one (drop-cons ns i 0 h)
-
 count-next : (i n : ℕ) → i < n → countFrom i (n - i) ≡ i ∷ countFrom (i + 1) (n - (i + 1))
 unfolding countFrom
 count-next i n h = let k : n - i ≡ suc (n - (i + 1)) = omega arith in rw k
@@ -149,7 +145,7 @@ module _ (c : Criterion) (count : ℕ) (numbers : List ℕ) (pasts : List (List 
           ≡ listsFrom false count (afterViews c pasts) (getD numbers i 0 ∷ drop (i + 1) numbers) (v .views) line a (split 10 (drop a s))
       next-is =
           v .is
-          ∙ ap (λ (ns : List ℕ). listsFrom false count (afterViews c pasts) ns (v .views) line a (split 10 (drop a s))) (left-next numbers i h)
+          ∙ ap (λ (ns : List ℕ). listsFrom false count (afterViews c pasts) ns (v .views) line a (split 10 (drop a s))) (at-cons numbers i h)
 
       pub views-bad : (x .fault ≡ 0 → ⊥) → whole ≡ refusal (x .fault) line a (x .end - a)
       views-bad z =

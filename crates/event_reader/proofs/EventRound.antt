@@ -1,11 +1,11 @@
 -- An event's line reads as its event, and a line that reads as an event is that event's line. Assumes nothing.
-use Prim.Native.Nat.{ℕ, zero, suc, _-_, _≤_, _<_}
+use Prim.Native.Nat.{ℕ, _-_, _≤_, _<_}
 use native.Mathlib.Omega.{arith}
 use mathlib.Core.Path.{_≡_, refl, sym, ap, _∙_}
 use mathlib.Core.Bool.{Bool, true, false, cond, not, _&&_, _||_, false≢true}
 use mathlib.Core.List.{List, [], _∷_, map}
 use lib.ListN.{length, getD, drop, replicate, length-drop, length-map, take-append-drop}
-use lib.Seq.{length-take-le, drop-append-seam}
+use lib.Seq.{length-take-le}
 use lib.Dec.{eqb, leb, ltb}
 use borrow.Author.Tests.{ne-eqb, lt-ltb, ltb-true, le-leb, leb-true, eq-eqb, eqb-true, not-true}
 use Rattle.layout.specs.declared.list.ListRead.the-variants.{Listed}
@@ -18,8 +18,8 @@ use Rattle.layout.proofs.SplitLaws.{without, allWithout, split-join, join-split
 use Rattle.layout.proofs.WordLaws.{same-true, same-refl}
 use Rattle.layout.proofs.NumberLaws.{digit-low}
 use Rattle.layout.proofs.SpellLaws.{number-spell, value-spell, spell-value}
-use Rattle.layout.proofs.RoundTrips.{items-text, numbers-written, written-read}
-use Rattle.history.proofs.WithinLaws.{zero-is}
+use Rattle.layout.proofs.RoundTrips.{items-text, spells-numbers, numbers-written, written-read}
+use Rattle.history.proofs.WithinLaws.{zero-is, zeros, drop-pad}
 use Rattle.history.specs.declared.record.Op.{Op}
 use Rattle.history.specs.declared.record.Op.the-variants.{Write, Read, Push, Pop, Peek}
 use Rattle.history.specs.declared.record.Object.{Object}
@@ -122,11 +122,6 @@ event-clean own e =
     (fields-without 10 (digit-low 10 (omega arith)) (λ q. omega arith) (λ q. omega arith) (λ q. omega arith) own e (op-without (e .op) .1))
 
 -- ---- the places of an answer
-zeros-all : (n : ℕ) → allZero (replicate n 0) ≡ true
-unfolding allZero
-zeros-all zero = refl
-zeros-all (suc n) = zeros-all n
-
 -- what a good answer says
 record GoodAnswer (object : Object) (op : Op) (a : Answer) : Type 0 where
   few : a .count ≤ 8
@@ -211,28 +206,18 @@ module _ {object : Object} {op : Op} {a : Answer} (g : GoodAnswer object op a) w
   answer-can =
       rw (answer-items, length-map (valuesIn a) spell, answer-count, le-leb (a .count) 8 (g .few), answer-said) (g .can)
 
-drop-pad : (xs : List ℕ) → drop (length xs) (pad 8 0 xs) ≡ replicate (8 - length xs) 0
-unfolding pad
-drop-pad xs = drop-append-seam xs (replicate (8 - length xs) 0)
-
 -- the answer of a few small values is good
 pub made-good : (object : Object) (op : Op) (xs : List ℕ) → length xs ≤ 8 → canAnswer object op (length xs) ≡ true
     → allLess valueBound xs ≡ true → goodAnswer object op (answerOf xs) ≡ true
 unfolding goodAnswer answerOf
 made-good object op xs h c s =
-    let z : drop (length xs) (pad 8 0 xs) ≡ replicate (8 - length xs) 0 = drop-pad xs in
-    rw (le-leb (length xs) 8 h, c, take-pad 8 0 xs, s, pad-length 8 0 xs h, z) (zeros-all (8 - length xs))
+    rw (le-leb (length xs) 8 h, c, take-pad 8 0 xs, s, pad-length 8 0 xs h, drop-pad 8 0 xs) (zeros (8 - length xs))
 
 pub made-lost : (object : Object) (op : Op) → goodAnswer object op lostAnswer ≡ true
 unfolding goodAnswer allLess allZero
 made-lost object op = refl
 
 -- ---- the values of an answer, as they are spelt
-spells-numbers : (xs : List ℕ) → allNumbers (map spell xs) ≡ true
-unfolding allNumbers
-spells-numbers [] = refl
-spells-numbers (x ∷ xs) = rw (number-spell x) (spells-numbers xs)
-
 spells-below : (bound : ℕ) (xs : List ℕ) → allLess bound xs ≡ true → allBelow bound (map spell xs) ≡ true
 unfolding allBelow allLess
 spells-below bound [] e = refl

@@ -27,6 +27,11 @@ zero-is [] e = refl
 zero-is (x ∷ xs) e =
     ap₂ {C = List ℕ} _∷_ (eqb-true x 0 (and-left (eqb x 0) (allZero xs) e)) (zero-is xs (and-right (eqb x 0) (allZero xs) e))
 
+pub zeros : (n : ℕ) → allZero (replicate n 0) ≡ true
+unfolding allZero
+zeros zero = refl
+zeros (suc n) = zeros n
+
 register-is : (k : Kind) → isRegister k ≡ true → k ≡ Register
 register-is Register e = refl
 register-is Queue e = absurd (false≢true e)

@@ -69,7 +69,7 @@ values-spells : (xs : List ℕ) → map value (map spell xs) ≡ xs
 values-spells [] = refl
 values-spells (x ∷ xs) = ap₂ {C = List ℕ} _∷_ (value-spell x) (values-spells xs)
 
-spells-numbers : (xs : List ℕ) → allNumbers (map spell xs) ≡ true
+pub spells-numbers : (xs : List ℕ) → allNumbers (map spell xs) ≡ true
 unfolding allNumbers
 spells-numbers [] = refl
 spells-numbers (x ∷ xs) = rw (number-spell x) (spells-numbers xs)

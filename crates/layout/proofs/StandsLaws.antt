@@ -28,7 +28,7 @@ stands-between s from end p q =
           ∙ ap (λ (l : List ℕ). take (end - from) (drop from s) ++ l) (drop-drop (end - from) from s ∙ ap (λ (i : ℕ). drop i s) k);
     }
 
--- the byte at a place
+-- what stands at a place, and the rest behind it
 pub at-cons : (s : List ℕ) (a : ℕ) → a < length s → drop a s ≡ getD s a 0 ∷ drop (a + 1) s
 at-cons s a h = rw add-one (drop-cons s a 0 h)
 
