@@ -48,6 +48,11 @@ fn accepted() {
         b"criterion converge\nevent past\n0 -\n1 -\n2 1\n3 0,1,2\nview order\n0 0,1,2,3\n",
     );
     case(
+        b"accepted, a full channel",
+        b"object kind width\n0 channel 1\nevent process object op value answer\n0 0 0 push 5 -\n1 1 0 push 6 6\n2 0 0 pop - 5\n",
+        b"criterion sequential\nview order\n0 0,1,2\n",
+    );
+    case(
         b"accepted, no events",
         b"object kind width\nevent process object op value answer\n",
         b"criterion sequential\nview order\n0 -\n",
@@ -160,6 +165,16 @@ fn replay_faults() {
         b"16, converge, the lowest event",
         b"object kind width\n0 window 2\nevent process object op value answer\n0 0 0 write 4 -\n1 1 0 write 9 -\n2 1 0 read - 4,9\n3 1 0 read - 4,9\n",
         b"criterion converge\nevent past\n0 -\n1 -\n2 1\n3 0,1,2\nview order\n0 0,1,2,3\n",
+    );
+    case(
+        b"16, a full channel that answers nothing",
+        b"object kind width\n0 channel 1\nevent process object op value answer\n0 0 0 push 5 -\n1 1 0 push 6 -\n2 0 0 pop - 5\n",
+        b"criterion sequential\nview order\n0 0,1,2\n",
+    );
+    case(
+        b"16, the last slot of a channel",
+        b"object kind width\n0 channel 1\nevent process object op value answer\n0 0 0 push 5 5\n1 1 0 push 6 6\n2 0 0 pop - 5\n",
+        b"criterion sequential\nview order\n0 0,1,2\n",
     );
 }
 

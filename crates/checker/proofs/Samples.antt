@@ -1,7 +1,8 @@
--- Document 01's (p) cases on the texts, and cases of lost answers (document 02, T-01), one list, by computation. Assumes nothing.
+-- Document 01's (p) cases on the texts, and cases of lost answers and of channels (document 02, T-01, T-02), one list, by computation.
+-- Assumes nothing.
 use Prim.Native.Nat.{ℕ}
 use mathlib.Core.Path.{_≡_, refl, ap₂, _∙_}
-use mathlib.Core.List.{List, [], _∷_}
+use mathlib.Core.List.{List, [], _∷_, _++_}
 use mathlib.Core.Option.{Option, none, some}
 use Rattle.certificate.specs.declared.record.Criterion.{Criterion}
 use Rattle.certificate.specs.declared.record.Criterion.the-variants.{Pram, Weak, Causal, Converge, Sequential}
@@ -18,6 +19,7 @@ use Rattle.checker.specs.CheckText.{Verdict, checked, historyRead, certi
 use Rattle.checker.proofs.TextTheorems.{checked-as}
 use Rattle.layout.specs.Split as layout-split
 use Rattle.layout.specs.Word as layout-word
+use Rattle.layout.specs.Word.{dash, queueWord, channelWord}
 use Rattle.layout.specs.Number as layout-number
 use Rattle.layout.specs.List as layout-list
 use Rattle.history.specs.Record as history-record
@@ -83,6 +85,15 @@ LostOfRegister = 111 ∷ 98 ∷ 106 ∷ 101 ∷ 99 ∷ 116 ∷ 32 ∷ 107 ∷ 10
 abbrev pub LostInList : List ℕ
 LostInList = 111 ∷ 98 ∷ 106 ∷ 101 ∷ 99 ∷ 116 ∷ 32 ∷ 107 ∷ 105 ∷ 110 ∷ 100 ∷ 32 ∷ 119 ∷ 105 ∷ 100 ∷ 116 ∷ 104 ∷ 10 ∷ 48 ∷ 32 ∷ 113 ∷ 117 ∷ 101 ∷ 117 ∷ 101 ∷ 32 ∷ 45 ∷ 10 ∷ 101 ∷ 118 ∷ 101 ∷ 110 ∷ 116 ∷ 32 ∷ 112 ∷ 114 ∷ 111 ∷ 99 ∷ 101 ∷ 115 ∷ 115 ∷ 32 ∷ 111 ∷ 98 ∷ 106 ∷ 101 ∷ 99 ∷ 116 ∷ 32 ∷ 111 ∷ 112 ∷ 32 ∷ 118 ∷ 97 ∷ 108 ∷ 117 ∷ 101 ∷ 32 ∷ 97 ∷ 110 ∷ 115 ∷ 119 ∷ 101 ∷ 114 ∷ 10 ∷ 48 ∷ 32 ∷ 48 ∷ 32 ∷ 48 ∷ 32 ∷ 112 ∷ 117 ∷ 115 ∷ 104 ∷ 32 ∷ 55 ∷ 32 ∷ 45 ∷ 10 ∷ 49 ∷ 32 ∷ 49 ∷ 32 ∷ 48 ∷ 32 ∷ 112 ∷ 111 ∷ 112 ∷ 32 ∷ 45 ∷ 32 ∷ 63 ∷ 44 ∷ 55 ∷ 10 ∷ []
 
+-- A channel of capacity 1; process 0 pushes 5, answer a, process 1 pushes 6, answer b, process 0 pops 5. Each of the two answers is one
+-- byte.
+abbrev pub OneSlot : ℕ → ℕ → List ℕ
+OneSlot a b = 111 ∷ 98 ∷ 106 ∷ 101 ∷ 99 ∷ 116 ∷ 32 ∷ 107 ∷ 105 ∷ 110 ∷ 100 ∷ 32 ∷ 119 ∷ 105 ∷ 100 ∷ 116 ∷ 104 ∷ 10 ∷ 48 ∷ 32 ∷ 99 ∷ 104 ∷ 97 ∷ 110 ∷ 110 ∷ 101 ∷ 108 ∷ 32 ∷ 49 ∷ 10 ∷ 101 ∷ 118 ∷ 101 ∷ 110 ∷ 116 ∷ 32 ∷ 112 ∷ 114 ∷ 111 ∷ 99 ∷ 101 ∷ 115 ∷ 115 ∷ 32 ∷ 111 ∷ 98 ∷ 106 ∷ 101 ∷ 99 ∷ 116 ∷ 32 ∷ 111 ∷ 112 ∷ 32 ∷ 118 ∷ 97 ∷ 108 ∷ 117 ∷ 101 ∷ 32 ∷ 97 ∷ 110 ∷ 115 ∷ 119 ∷ 101 ∷ 114 ∷ 10 ∷ 48 ∷ 32 ∷ 48 ∷ 32 ∷ 48 ∷ 32 ∷ 112 ∷ 117 ∷ 115 ∷ 104 ∷ 32 ∷ 53 ∷ 32 ∷ a ∷ 10 ∷ 49 ∷ 32 ∷ 49 ∷ 32 ∷ 48 ∷ 32 ∷ 112 ∷ 117 ∷ 115 ∷ 104 ∷ 32 ∷ 54 ∷ 32 ∷ b ∷ 10 ∷ 50 ∷ 32 ∷ 48 ∷ 32 ∷ 48 ∷ 32 ∷ 112 ∷ 111 ∷ 112 ∷ 32 ∷ 45 ∷ 32 ∷ 53 ∷ 10 ∷ []
+
+-- One object of a kind and a width, and no event.
+abbrev pub OneObject : List ℕ → List ℕ → List ℕ
+OneObject kind width = 111 ∷ 98 ∷ 106 ∷ 101 ∷ 99 ∷ 116 ∷ 32 ∷ 107 ∷ 105 ∷ 110 ∷ 100 ∷ 32 ∷ 119 ∷ 105 ∷ 100 ∷ 116 ∷ 104 ∷ 10 ∷ 48 ∷ 32 ∷ (kind ++ (32 ∷ (width ++ (10 ∷ 101 ∷ 118 ∷ 101 ∷ 110 ∷ 116 ∷ 32 ∷ 112 ∷ 114 ∷ 111 ∷ 99 ∷ 101 ∷ 115 ∷ 115 ∷ 32 ∷ 111 ∷ 98 ∷ 106 ∷ 101 ∷ 99 ∷ 116 ∷ 32 ∷ 111 ∷ 112 ∷ 32 ∷ 118 ∷ 97 ∷ 108 ∷ 117 ∷ 101 ∷ 32 ∷ 97 ∷ 110 ∷ 115 ∷ 119 ∷ 101 ∷ 114 ∷ 10 ∷ []))))
+
 -- ---- the certificates
 -- Of Q: `criterion sequential`, `view order`, `0 0,1`.
 abbrev pub q-sequential-text : List ℕ
@@ -124,9 +135,9 @@ r-pasts = [] ∷ [] ∷ [] ∷ (0 ∷ 1 ∷ 2 ∷ 3 ∷ []) ∷ (0 ∷ 1 ∷ 2 �
 abbrev pub nothing-sequential-text : List ℕ
 nothing-sequential-text = 99 ∷ 114 ∷ 105 ∷ 116 ∷ 101 ∷ 114 ∷ 105 ∷ 111 ∷ 110 ∷ 32 ∷ 115 ∷ 101 ∷ 113 ∷ 117 ∷ 101 ∷ 110 ∷ 116 ∷ 105 ∷ 97 ∷ 108 ∷ 10 ∷ 118 ∷ 105 ∷ 101 ∷ 119 ∷ 32 ∷ 111 ∷ 114 ∷ 100 ∷ 101 ∷ 114 ∷ 10 ∷ 48 ∷ 32 ∷ 45 ∷ 10 ∷ []
 
--- Of LostThenSeven and LostThenNone: `criterion sequential`, `view order`, `0 0,1,2`.
-abbrev pub lost-order-text : List ℕ
-lost-order-text = 99 ∷ 114 ∷ 105 ∷ 116 ∷ 101 ∷ 114 ∷ 105 ∷ 111 ∷ 110 ∷ 32 ∷ 115 ∷ 101 ∷ 113 ∷ 117 ∷ 101 ∷ 110 ∷ 116 ∷ 105 ∷ 97 ∷ 108 ∷ 10 ∷ 118 ∷ 105 ∷ 101 ∷ 119 ∷ 32 ∷ 111 ∷ 114 ∷ 100 ∷ 101 ∷ 114 ∷ 10 ∷ 48 ∷ 32 ∷ 48 ∷ 44 ∷ 49 ∷ 44 ∷ 50 ∷ 10 ∷ []
+-- Of LostThenSeven, LostThenNone and OneSlot: `criterion sequential`, `view order`, `0 0,1,2`.
+abbrev pub three-order-text : List ℕ
+three-order-text = 99 ∷ 114 ∷ 105 ∷ 116 ∷ 101 ∷ 114 ∷ 105 ∷ 111 ∷ 110 ∷ 32 ∷ 115 ∷ 101 ∷ 113 ∷ 117 ∷ 101 ∷ 110 ∷ 116 ∷ 105 ∷ 97 ∷ 108 ∷ 10 ∷ 118 ∷ 105 ∷ 101 ∷ 119 ∷ 32 ∷ 111 ∷ 114 ∷ 100 ∷ 101 ∷ 114 ∷ 10 ∷ 48 ∷ 32 ∷ 48 ∷ 44 ∷ 49 ∷ 44 ∷ 50 ∷ 10 ∷ []
 
 pub record Samples : Type 0 where
   -- "(p) sequential view 0,1 accepted."
@@ -157,11 +168,22 @@ pub record Samples : Type 0 where
   pub lost-sequential : checkText Lost q-sequential-text ≡ answer Sequential 0 none none
   pub lost-turned : checkText Lost q-turned-text ≡ answer Sequential 0 none none
   -- "the operation itself still takes effect": the pack was taken, and the next pop finds none;
-  pub lost-takes : checkText LostThenSeven lost-order-text ≡ answer Sequential 16 (some 0) (some 2)
-  pub lost-then-none : checkText LostThenNone lost-order-text ≡ answer Sequential 0 none none
+  pub lost-takes : checkText LostThenSeven three-order-text ≡ answer Sequential 16 (some 0) (some 2)
+  pub lost-then-none : checkText LostThenNone three-order-text ≡ answer Sequential 0 none none
   -- "Fault 5 doesn't apply to `?`", and the others do. In a list `?` is no number.
   pub lost-of-register : readHistory LostOfRegister .fault ≡ 4
   pub lost-in-list : readHistory LostInList .fault ≡ 2
+  -- Document 02, T-02: "capacity 1 takes one pack", and "a push onto a full channel changes nothing and answers the pushed value";
+  pub channel-sequential : checkText (OneSlot 45 54) three-order-text ≡ answer Sequential 0 none none
+  pub channel-full : checkText (OneSlot 45 45) three-order-text ≡ answer Sequential 16 (some 0) (some 1)
+  pub channel-last : checkText (OneSlot 53 54) three-order-text ≡ answer Sequential 16 (some 0) (some 0)
+  -- "limits on width fall under 3, 64 for a channel and 8 on any other kind"; `-` on a channel is 4, a width on a queue too.
+  pub channel-64 : readHistory (OneObject channelWord (54 ∷ 52 ∷ [])) .fault ≡ 0
+  pub channel-65 : readHistory (OneObject channelWord (54 ∷ 53 ∷ [])) .fault ≡ 3
+  pub channel-0 : readHistory (OneObject channelWord (48 ∷ [])) .fault ≡ 3
+  pub channel-dash : readHistory (OneObject channelWord dash) .fault ≡ 4
+  pub queue-9 : readHistory (OneObject queueWord (57 ∷ [])) .fault ≡ 3
+  pub queue-8 : readHistory (OneObject queueWord (56 ∷ [])) .fault ≡ 4
 
 -- a certificate is its criterion, its pasts and its views
 certificate-is : (c : Certificate) (w : Criterion) (ps : List (List ℕ)) → c .criterion ≡ w → c .pasts ≡ ps → c ≡ lists.claim w ps (c .views)
@@ -198,4 +220,13 @@ samples =
       lost-then-none = refl;
       lost-of-register = refl;
       lost-in-list = refl;
+      channel-sequential = refl;
+      channel-full = refl;
+      channel-last = refl;
+      channel-64 = refl;
+      channel-65 = refl;
+      channel-0 = refl;
+      channel-dash = refl;
+      queue-9 = refl;
+      queue-8 = refl;
     }

@@ -5,5 +5,6 @@ pub mod Check
 pub mod Meeting
 pub mod Weaken
 pub mod Loops
+pub mod Object
 pub mod RecordLaws
 pub mod Samples

@@ -9,9 +9,9 @@ use native.Mathlib.Omega.{arith}
 use lib.Dec.{eqb}
 use lib.ListN.{length, getD, take}
 use lib.Seq.{take-suc}
-use Rattle.criteria.specs.Tests.{lowest, keepIf, keep, more, mem}
+use Rattle.criteria.specs.Tests.{lowest, keepIf, keep, mem}
 use Rattle.criteria.specs.History.{History}
-use Rattle.criteria.specs.Replay.{Contents, changed}
+use Rattle.criteria.specs.Replay.{Contents, changed, afterAll}
 use Rattle.criteria.specs.Check.{right, firstWrong}
 use Rattle.criteria.proofs.Lists.{below-suc, none-lowest, mem-append, keep-append}
 
@@ -29,14 +29,9 @@ mem-take-suc e v i l = ap (mem e) (take-suc v i 0 l) ∙ mem-append e (take i v)
 pub keep-take-suc : (f : ℕ → Bool) (v : List ℕ) (i : ℕ) → i < length v → keep f (take (suc i) v) ≡ keep f (take i v) ++ keepIf (f (getD v i 0)) (getD v i 0) []
 keep-take-suc f v i l = ap (keep f) (take-suc v i 0 l) ∙ keep-append f (take i v) (getD v i 0 ∷ [])
 
--- what the objects hold after a list of events
-abbrev pub after-all : History → Contents → List ℕ → Contents
-after-all h s [] = s
-after-all h s (e ∷ v) = after-all h (changed h s e) v
-
 -- "16 a visible answer that the replay doesn't give, at the first such event in the view": what `firstWrong` finds
 abbrev pub wrongAt : History → (ℕ → Bool) → Contents → List ℕ → ℕ → Bool
-wrongAt h vis s v i = vis (getD v i 0) && not (right h (after-all h s (take i v)) (getD v i 0))
+wrongAt h vis s v i = vis (getD v i 0) && not (right h (afterAll h s (take i v)) (getD v i 0))
 
 pub wrong-found : (h : History) (vis : ℕ → Bool) (s : Contents) (v : List ℕ) (i : ℕ) → i < length v
     → ((j : ℕ) → j < i → wrongAt h vis s v j ≡ false) → wrongAt h vis s v i ≡ true → firstWrong h vis s v ≡ some (getD v i 0)

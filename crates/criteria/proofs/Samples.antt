@@ -1,9 +1,10 @@
--- Document 01's samples marked (p), on lists, and Q with a lost answer: theorems by computation. Assumes nothing.
+-- Document 01's samples marked (p), on lists, Q with a lost answer, and a channel that gets full: theorems by computation. Assumes
+-- nothing.
 use mathlib.Core.Path.{_≡_, refl}
 use mathlib.Core.List.{List, [], _∷_}
 use mathlib.Core.Option.{none, some}
 use Prim.Native.Nat.{ℕ}
-use Rattle.history.specs.declared.record.Kind.the-variants.{Register, Queue, Window}
+use Rattle.history.specs.declared.record.Kind.the-variants.{Register, Queue, Window, Channel}
 use Rattle.history.specs.declared.record.Op.{Op}
 use Rattle.history.specs.declared.record.Op.the-variants.{Write, Read, Push, Pop}
 use Rattle.certificate.specs.declared.record.Criterion.{Criterion}
@@ -115,6 +116,26 @@ M = record {
 pub M-replays : Replays M (own M 2) (start M) (1 ∷ 2 ∷ 3 ∷ 4 ∷ 0 ∷ [])
 unfolding right
 M-replays = none-wrong M (own M 2) (start M) (1 ∷ 2 ∷ 3 ∷ 4 ∷ 0 ∷ []) refl
+
+-- a channel of capacity 1, where processes 0 and 1 push 5 and 6, with these answers, and process 0 pops 5: it "takes one pack", and a
+-- push onto the full channel "answers the pushed value"
+abbrev pub oneSlot : List ℕ → List ℕ → History
+oneSlot a b = record {
+  objects = record { kind = Channel; width = 1 } ∷ [];
+  events = ev 0 0 Push 5 a ∷ ev 1 0 Push 6 b ∷ ev 0 0 Pop 0 (5 ∷ []) ∷ [];
+}
+
+pub channel-sequential : check (oneSlot [] (6 ∷ [])) (claim Sequential [] ((0 ∷ 1 ∷ 2 ∷ []) ∷ [])) ≡ none
+unfolding lacksOwn lacksPast notItsSet against right check programOrder processes
+channel-sequential = refl
+
+pub channel-full : check (oneSlot [] []) (claim Sequential [] ((0 ∷ 1 ∷ 2 ∷ []) ∷ [])) ≡ some (fault16 0 1)
+unfolding lacksOwn lacksPast notItsSet against right check programOrder processes
+channel-full = refl
+
+pub channel-last : check (oneSlot (5 ∷ []) (6 ∷ [])) (claim Sequential [] ((0 ∷ 1 ∷ 2 ∷ []) ∷ [])) ≡ some (fault16 0 0)
+unfolding lacksOwn lacksPast notItsSet against right check programOrder processes
+channel-last = refl
 
 pub empty-sequential : check record { objects = []; events = [] } (claim Sequential [] ([] ∷ [])) ≡ none
 unfolding lacksOwn lacksPast notItsSet against right check programOrder processes

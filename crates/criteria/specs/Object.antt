@@ -1,53 +1,65 @@
--- The four kinds of object (document 01, "Objects"): what one holds at first, what an op makes of it and what it answers. What it
+-- The five kinds of object (documents 01 and 02): what one holds at first, what an op makes of it and what it answers. What it
 -- holds is a list of values, oldest first.
 use mathlib.Core.List.{List, [], _∷_, _++_}
+use mathlib.Core.Bool.{Bool, cond, _&&_}
 use Prim.Native.Nat.{ℕ, _-_}
 use lib.ListN.{length, take, drop, replicate}
+use lib.Dec.{leb}
 use Rattle.history.specs.declared.record.Kind.{Kind}
-use Rattle.history.specs.declared.record.Kind.the-variants.{Register, Queue, Stack, Window}
+use Rattle.history.specs.declared.record.Kind.the-variants.{Register, Queue, Stack, Window, Channel}
 use Rattle.history.specs.declared.record.Op.{Op}
 use Rattle.history.specs.declared.record.Op.the-variants.{Write, Read, Push, Pop, Peek}
 use Rattle.history.specs.declared.record.Object.{Object}
+use Rattle.history.specs.Kinds.{isChannel}
 
--- "register: starts at 0", "queue, stack: start empty", "window of width k: starts as k zeros".
+-- "register: starts at 0", "queue, stack: start empty", "window of width k: starts as k zeros". A channel is a
+-- queue.
 abbrev pub freshOf : Kind → ℕ → List ℕ
 freshOf Register width = 0 ∷ []
 freshOf Queue width = []
 freshOf Stack width = []
 freshOf Window width = replicate width 0
+freshOf Channel width = []
 
 abbrev pub fresh : Object → List ℕ
 fresh o = freshOf (o .kind) (o .width)
 
 -- "The oldest in a queue, the newest in a stack": the value that pop takes, as a list of one, or none of an empty object; and
--- what is left without it. (Registers and windows have no pop.)
+-- what is left without it. (Registers and windows have no pop.) A channel is a queue.
 abbrev pub top : Kind → List ℕ → List ℕ
 top Register s = take 1 s
 top Queue s = take 1 s
 top Stack s = drop (length s - 1) s
 top Window s = take 1 s
+top Channel s = take 1 s
 
 abbrev pub untop : Kind → List ℕ → List ℕ
 untop Register s = drop 1 s
 untop Queue s = drop 1 s
 untop Stack s = take (length s - 1) s
 untop Window s = drop 1 s
+untop Channel s = drop 1 s
+
+-- "a queue with a capacity of 1 to 64 in the width field"; "The last slot is usable": full is to hold as many values as the width says.
+abbrev pub full : Object → List ℕ → Bool
+full o s = isChannel (o .kind) && leb (o .width) (length s)
 
 -- What an op with its value makes of what the object holds. `write v`: "drops the oldest value and adds v"; of a register, which
--- holds one value, that is the new value. `push v` adds v. `pop`: "removes one value"; "on an empty object" it "changes nothing".
--- `read` and `peek` change nothing.
+-- holds one value, that is the new value. `push v` adds v; "onto a full channel" it "changes nothing". `pop`: "removes one value"; "on
+-- an empty object" it "changes nothing". `read` and `peek` change nothing.
 abbrev pub after : Object → Op → ℕ → List ℕ → List ℕ
 after o Write v s = drop 1 s ++ (v ∷ [])
-after o Push v s = s ++ (v ∷ [])
+after o Push v s = cond (full o s) s (s ++ (v ∷ []))
 after o Read v s = s
 after o Pop v s = untop (o .kind) s
 after o Peek v s = s
 
--- What an op answers. `write` and `push`: "the empty list". `read`: "the one value held", "the k values, oldest first". `pop` and
--- `peek`: one value, or "the empty list" on an empty object.
-abbrev pub gives : Object → Op → List ℕ → List ℕ
-gives o Write s = []
-gives o Push s = []
-gives o Read s = s
-gives o Pop s = top (o .kind) s
-gives o Peek s = top (o .kind) s
+-- What an op with its value answers. `write`: "the empty list". `push v` onto a full channel "answers the pushed value; otherwise
+-- its answer is empty". `read`: "the one value held", "the k values, oldest first". `pop` and `peek`: one value, or "the empty list"
+-- on an empty object.
+abbrev pub gives : Object → Op → ℕ → List ℕ → List ℕ
+gives o Write v s = []
+gives o Push v s = cond (full o s) (v ∷ []) []
+gives o Read v s = s
+gives o Pop v s = top (o .kind) s
+gives o Peek v s = top (o .kind) s

@@ -19,12 +19,18 @@ start h = map fresh (h .objects)
 
 -- What event e's object gives, and what the objects hold after e.
 abbrev pub answered : History → Contents → ℕ → List ℕ
-answered h s e = gives (object h (event h e .object)) (event h e .op) (getD s (event h e .object) [])
+answered h s e =
+    gives (object h (event h e .object)) (event h e .op) (event h e .value) (getD s (event h e .object) [])
 
 abbrev pub changed : History → Contents → ℕ → Contents
 changed h s e =
     set s (event h e .object)
     (after (object h (event h e .object)) (event h e .op) (event h e .value) (getD s (event h e .object) []))
+
+-- What the objects hold after a list of events.
+abbrev pub afterAll : History → Contents → List ℕ → Contents
+afterAll h s [] = s
+afterAll h s (e ∷ v) = afterAll h (changed h s e) v
 
 -- A recorded answer is the one given. Of one that was lost nothing is asked: it "is visible in no view, under any criterion" (document
 -- 02, T-01).

@@ -2,17 +2,17 @@
 use Prim.Native.Nat.{ℕ, _≤_, _<_}
 use native.Mathlib.Omega.{arith}
 use mathlib.Core.Path.{_≡_, refl, ap, _∙_}
-use mathlib.Core.Bool.{Bool, true, false, cond, _&&_}
+use mathlib.Core.Bool.{true}
 use mathlib.Core.List.{List}
 use lib.ListN.{length, getD, List·getD-eq-default}
-use lib.Dec.{eqb, ltb}
-use borrow.Author.Tests.{eqb-true, ltb-true}
+use lib.Dec.{leb, ltb}
+use borrow.Author.Tests.{leb-true}
 use Rattle.layout.proofs.Cases.{by-lt, and-right}
 use Rattle.history.specs.declared.record.Object.{Object}
 use Rattle.history.specs.declared.record.Event as written-event
 use Rattle.history.specs.declared.record.History as written-history
 use Rattle.history.specs.Record.{pad, noObject, noEvent, historyOf, objectsIn, eventsIn}
-use Rattle.history.specs.Kinds.{isWindow}
+use Rattle.history.specs.declared.record.Kind.the-variants.{Window}
 use Rattle.history.specs.Readable.{goodObject, within}
 use Rattle.history.proofs.PadLaws.{pad-length, getD-pad}
 use Rattle.history.proofs.WithinLaws.{within-limits}
@@ -30,14 +30,10 @@ events-of : (os : List Object) (es : List written-event.Event) → historyOf os 
 unfolding historyOf
 events-of os es = refl
 
--- no object is wider than eight
-width-small : (o : Object) → goodObject o ≡ true → o .width ≤ 8
+-- no window is wider than eight
+width-small : (o : Object) → goodObject o ≡ true → o .kind ≡ Window → o .width ≤ 8
 unfolding goodObject
-width-small o g = go (isWindow (o .kind)) g
-  where
-    go : (b : Bool) → cond b (ltb 0 (o .width) && ltb (o .width) 9) (eqb (o .width) 0) ≡ true → o .width ≤ 8
-    go true t = let l = ltb-true (o .width) 9 (and-right (ltb 0 (o .width)) (ltb (o .width) 9) t) in omega (arith, l)
-    go false t = let q = eqb-true (o .width) 0 t in omega (arith, q)
+width-small o g k = leb-true (o .width) 8 (and-right (ltb 0 (o .width)) (leb (o .width) 8) (rw k at g))
 
 module _ (h : written-history.History) (w : within h ≡ true) where
   objects-are : h .objects ≡ pad 16 noObject (objectsIn h)
@@ -57,12 +53,19 @@ module _ (h : written-history.History) (w : within h ≡ true) where
       ap length events-are ∙ pad-length 64 noEvent (eventsIn h) (omega (arith, within-limits h w .count, within-limits h w .all))
 
   -- an object that is not declared is blank, and so is an event past the last
-  pub widths-small : (o : ℕ) → getD (h .objects) o noObject .width ≤ 8
+  pub widths-small : (o : ℕ) → getD (h .objects) o noObject .kind ≡ Window → getD (h .objects) o noObject .width ≤ 8
   widths-small o =
       rw (objects-agree o)
       (by-lt o (length (objectsIn h))
       (λ l. width-small (getD (objectsIn h) o noObject) (within-sound h w .object o (omega (arith, l, within-limits h w .few))))
-      (λ l. rw (List·getD-eq-default (objectsIn h) noObject {n = o} l) (omega arith)))
+      (λ l. rw (List·getD-eq-default (objectsIn h) noObject {n = o} l) (λ k. omega arith)))
+
+  pub objects-small : (e : ℕ) → getD (h .events) e noEvent .object < 16
+  objects-small e =
+      rw (events-agree e)
+      (by-lt e (length (eventsIn h))
+      (λ l. omega (arith, within-sound h w .event e (omega (arith, l, within-limits h w .all)) .declared, within-limits h w .few, within-limits h w .declared))
+      (λ l. rw (List·getD-eq-default (eventsIn h) noEvent {n = e} l) (omega arith)))
 
   pub answers-small : (e : ℕ) → getD (h .events) e noEvent .answer .count ≤ 8
   answers-small e =

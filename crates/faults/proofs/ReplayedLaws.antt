@@ -130,7 +130,7 @@ faultOf c h R vs k = mapFault (fault16 (viewNumber c h k)) (firstWrong h (visibl
 
 -- ---- a history taken apart
 pub record Taken (h : written-history.History) (ls : List Light) (vs : List ℕ) (answers : List (List ℕ)) (cs : List ℕ) (states : List State) : Type 0 where
-  pub lights : Made lightOf noEvent noLight (h .events) ls 64
+  pub lights : Made (lightOf (h .objects)) noEvent noLight (h .events) ls 64
   pub values : (getD vs 64 0 ≡ 0) × Made (λ (x : written-event.Event). x .value) noEvent 0 (h .events) vs 64
   pub answered-as : Made (λ (x : written-event.Event). x .answer .values) noEvent [] (h .events) answers 64
   pub counts : Made (λ (x : written-event.Event). countOf (x .answer)) noEvent 0 (h .events) cs 64

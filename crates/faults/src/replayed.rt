@@ -54,7 +54,7 @@ pub(crate) fn replay_fault(
     let objects = h.objects;
     let all = h.events;
     let size = h.count;
-    let events = light_events(all);
+    let events = light_events(objects, all);
     let values = values_of(all);
     let answers = answers_of(all);
     let counts = counts_of(all);

@@ -10,7 +10,7 @@ use lib.Dec.{eqb, leb}
 use borrow.Author.Tests.{eqb-true, leb-true, le-leb, not-true}
 use Rattle.layout.proofs.Cases.{and-left, and-right}
 use Rattle.history.specs.declared.record.Kind.{Kind}
-use Rattle.history.specs.declared.record.Kind.the-variants.{Register, Queue, Stack, Window}
+use Rattle.history.specs.declared.record.Kind.the-variants.{Register, Queue, Stack, Window, Channel}
 use Rattle.history.specs.declared.record.Op.{Op}
 use Rattle.history.specs.declared.record.Op.the-variants.{Write, Read, Push, Pop, Peek}
 use Rattle.history.specs.declared.record.Object.{Object}
@@ -37,6 +37,7 @@ register-is Register e = refl
 register-is Queue e = absurd (false≢true e)
 register-is Stack e = absurd (false≢true e)
 register-is Window e = absurd (false≢true e)
+register-is Channel e = absurd (false≢true e)
 
 write-is : (op : Op) → isWrite op ≡ true → op ≡ Write
 write-is Write e = refl

@@ -1,4 +1,4 @@
--- The faults of a line of a history text (document 01, "Read a history"): on a line the first of 2, 3, 4 and 5.
+-- The faults of a line of a history text (document 01, "Read a history"; document 02, T-01, T-02): on a line the first of 2, 3, 4 and 5.
 use Prim.Native.Nat.{ℕ}
 use mathlib.Core.Bool.{Bool, true, cond, not, _&&_, _||_}
 use mathlib.Core.List.{List, []}
@@ -9,7 +9,7 @@ use Rattle.layout.specs.Word.{same, dash, question}
 use Rattle.layout.specs.Number.{isNumber, value, spell}
 use Rattle.layout.specs.List.{itemsOf, allNumbers, allBelow, numbersOf}
 use Rattle.history.specs.Record.{valueBound, noObject, noEvent, lostAnswer, answerOf}
-use Rattle.history.specs.Kinds.{isKind, kindOf, isOp, opOf, isWindow, hasOp, takesValue, mayAnswer}
+use Rattle.history.specs.Kinds.{isKind, kindOf, isOp, opOf, hasWidth, widthLimit, hasOp, takesValue, mayAnswer}
 use Rattle.history.specs.declared.record.Object.{Object}
 use Rattle.history.specs.declared.record.Answer.{Answer}
 use Rattle.history.specs.declared.record.Event.{Event}
@@ -29,18 +29,18 @@ isOptional f = same f dash || isNumber f
 unfoldable pub optional : List ℕ → ℕ
 optional f = cond (same f dash) 0 (value f)
 
--- ---- the line of an object: its number, kind word, width, or `-` for all kinds but window
+-- ---- the line of an object: its number, kind word, width, or `-` for all kinds but window and channel
 -- The layout of the three fields of the object whose number is `own`.
 unfoldable pub objectLayout : ℕ → List ℕ → List ℕ → List ℕ → Bool
 objectLayout own a k w = same a (spell own) && isKind k && isOptional w
 
--- No 17th object, and no width of 0 or over 8 on any kind.
-unfoldable pub objectLimits : ℕ → List ℕ → Bool
-objectLimits own w = ltb own 16 && (same w dash || (ltb 0 (value w) && ltb (value w) 9))
+-- No 17th object, no width of 0, and none over 64 on a channel and 8 on any other kind.
+unfoldable pub objectLimits : ℕ → List ℕ → List ℕ → Bool
+objectLimits own k w = ltb own 16 && (same w dash || (ltb 0 (value w) && leb (value w) (widthLimit (kindOf k))))
 
--- A width on a window and on nothing else.
+-- A width on a window and a channel and on nothing else.
 unfoldable pub objectFits : List ℕ → List ℕ → Bool
-objectFits k w = cond (isWindow (kindOf k)) (not (same w dash)) (same w dash)
+objectFits k w = cond (hasWidth (kindOf k)) (not (same w dash)) (same w dash)
 
 abbrev pub faultyObject : ℕ → ObjectRead
 faultyObject fault = record { fault = fault; object = noObject }
@@ -49,7 +49,7 @@ abbrev pub objectWith : ℕ → Object → ObjectRead
 objectWith fault o = cond (eqb fault 0) (record { fault = 0; object = o }) (faultyObject fault)
 
 unfoldable pub objectFault : ℕ → List ℕ → List ℕ → List ℕ → ℕ
-objectFault own a k w = firstFault (objectLayout own a k w) (objectLimits own w) (objectFits k w) true
+objectFault own a k w = firstFault (objectLayout own a k w) (objectLimits own k w) (objectFits k w) true
 
 -- What three fields are as the line of an object.
 unfoldable pub objectThree : ℕ → List ℕ → List ℕ → List ℕ → ObjectRead

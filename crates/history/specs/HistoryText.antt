@@ -7,7 +7,7 @@ use Rattle.layout.specs.Word.{dash, question, objectHeading, eventHeading}
 use Rattle.layout.specs.Number.{spell}
 use Rattle.layout.specs.List.{listText}
 use Rattle.history.specs.Record.{valuesIn, objectsIn, eventsIn}
-use Rattle.history.specs.Kinds.{kindWord, opWord, isWindow, takesValue}
+use Rattle.history.specs.Kinds.{kindWord, opWord, hasWidth, takesValue}
 use Rattle.history.specs.declared.record.Object.{Object}
 use Rattle.history.specs.declared.record.Answer.{Answer}
 use Rattle.history.specs.declared.record.Event.{Event}
@@ -18,10 +18,10 @@ unfoldable pub linesText : List (List ℕ) → List ℕ
 linesText [] = []
 linesText (l ∷ ls) = l ++ 10 ∷ linesText ls
 
--- The line of an object: its number, kind word, width, or `-` for all kinds but window.
+-- The line of an object: its number, kind word, width, or `-` for all kinds but window and channel.
 unfoldable pub objectText : ℕ → Object → List ℕ
 objectText own o =
-    join 32 (spell own ∷ kindWord (o .kind) ∷ cond (isWindow (o .kind)) (spell (o .width)) dash ∷ [])
+    join 32 (spell own ∷ kindWord (o .kind) ∷ cond (hasWidth (o .kind)) (spell (o .width)) dash ∷ [])
 
 -- An answer: its values joined by commas, `-` when empty, `?` where it was lost.
 unfoldable pub answerText : Answer → List ℕ

@@ -6,10 +6,10 @@ use mathlib.Core.List.{List, [], _∷_}
 use lib.ListN.{length, getD, drop}
 use lib.Dec.{eqb, leb, ltb}
 use Rattle.history.specs.Record.{valueBound, noObject, valuesIn, objectsIn, eventsIn}
-use Rattle.history.specs.Kinds.{isWindow, hasOp, takesValue, mayAnswer}
+use Rattle.history.specs.Kinds.{hasWidth, widthLimit, hasOp, takesValue, mayAnswer}
 use Rattle.history.specs.HistoryText.{historyText}
 use Rattle.history.specs.declared.record.Kind.{Kind}
-use Rattle.history.specs.declared.record.Kind.the-variants.{Register, Queue, Stack, Window}
+use Rattle.history.specs.declared.record.Kind.the-variants.{Register, Queue, Stack, Window, Channel}
 use Rattle.history.specs.declared.record.Op.{Op}
 use Rattle.history.specs.declared.record.Op.the-variants.{Write, Read, Push, Pop, Peek}
 use Rattle.history.specs.declared.record.Object.{Object}
@@ -18,9 +18,9 @@ use Rattle.history.specs.declared.record.Event.{Event}
 use Rattle.history.specs.declared.record.History.{History}
 
 -- ---- what is used
--- A window has a width of 1 to 8, and no other kind has one.
+-- A window has a width of 1 to 8 and a channel one of 1 to 64, and no other kind has one.
 unfoldable pub goodObject : Object → Bool
-goodObject o = cond (isWindow (o .kind)) (ltb 0 (o .width) && ltb (o .width) 9) (eqb (o .width) 0)
+goodObject o = cond (hasWidth (o .kind)) (ltb 0 (o .width) && leb (o .width) (widthLimit (o .kind))) (eqb (o .width) 0)
 
 unfoldable pub goodObjects : List Object → Bool
 goodObjects [] = true
@@ -60,6 +60,7 @@ isRegister Register = true
 isRegister Queue = false
 isRegister Stack = false
 isRegister Window = false
+isRegister Channel = false
 
 abbrev pub isWrite : Op → Bool
 isWrite Write = true

@@ -6,8 +6,9 @@ use crate::field::optional_field;
 use crate::record::Kind;
 use crate::record::Object;
 use crate::word::fits_dash;
-use crate::word::is_window;
+use crate::word::has_width;
 use crate::word::read_kind;
+use crate::word::width_bound;
 use layout::number::is_spelling;
 use layout::split::find_from;
 
@@ -35,13 +36,14 @@ fn read_three(a: &[u8], k: &[u8], w: &[u8], own: u32) -> ObjectRead
 {
     let numbered = is_spelling(a, own);
     let word = read_kind(k);
-    let width = optional_field(w, 9);
     let kind = word.kind;
+    let bound = width_bound(kind);
+    let width = optional_field(w, bound);
     let dash = width.dash;
-    let window = is_window(kind);
+    let wide = has_width(kind);
     let layout = numbered & word.known & width.spelt;
     let limits = (own < 16) & width.below & (dash | (0 < width.value));
-    let fits = fits_dash(window, dash);
+    let fits = fits_dash(wide, dash);
     let fault = first_fault(layout, limits, fits, true);
     if fault != 0 {
         return faulty_object(fault);

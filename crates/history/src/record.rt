@@ -15,6 +15,7 @@ pub enum Kind {
     Queue,
     Stack,
     Window,
+    Channel,
 }
 
 pub enum Op {
@@ -25,7 +26,7 @@ pub enum Op {
     Peek,
 }
 
-// A width is 0 but for a window.
+// A width is 0 but for a window and a channel, whose width is its capacity.
 pub struct Object {
     pub kind: Kind,
     pub width: u8,

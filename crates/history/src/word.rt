@@ -1,6 +1,7 @@
 // The words of kinds and ops.
 ghost use mathlib.Core.Path.{_≡_};
-ghost use Rattle.history.specs.Kinds.{isKind, kindOf, isOp, opOf, isWindow, isShelf, isShelfOp, hasOp, takesValue, readCount, canAnswer, mayAnswer};
+ghost use Prim.Native.Nat.{_+_, _≤_};
+ghost use Rattle.history.specs.Kinds.{isKind, kindOf, isOp, opOf, isChannel, hasWidth, widthLimit, isShelf, isShelfOp, hasOp, takesValue, readCount, pushCanAnswer, canAnswer, mayAnswer};
 ghost use mathlib.Core.Bool.{cond, not};
 ghost use mathlib.Core.List.{[]};
 use crate::record::Kind;
@@ -39,6 +40,12 @@ pub fn read_kind(field: &[u8]) -> KindRead
         return KindRead {
             known: true,
             kind: Kind::Window,
+        };
+    }
+    if is_word(field, b"channel") {
+        return KindRead {
+            known: true,
+            kind: Kind::Channel,
         };
     }
     let known = is_word(field, b"register");
@@ -82,15 +89,40 @@ pub fn read_op(field: &[u8]) -> OpRead
     }
 }
 
-pub fn is_window(kind: Kind) -> bool
-    ensures { λ r. ⌜ r ≡ isWindow kind ⌝ }
+// Whether the kind is a queue with a capacity.
+pub fn is_channel(kind: Kind) -> bool
+    ensures { λ r. ⌜ r ≡ isChannel kind ⌝ }
+{
+    match kind {
+        Kind::Register => false,
+        Kind::Queue => false,
+        Kind::Stack => false,
+        Kind::Window => false,
+        Kind::Channel => true,
+    }
+}
+
+// Whether objects of the kind have a width.
+pub fn has_width(kind: Kind) -> bool
+    ensures { λ r. ⌜ r ≡ hasWidth kind ⌝ }
 {
     match kind {
         Kind::Register => false,
         Kind::Queue => false,
         Kind::Stack => false,
         Kind::Window => true,
+        Kind::Channel => true,
     }
+}
+
+// What a width that stands with the kind must be below.
+pub fn width_bound(kind: Kind) -> u64
+    ensures { λ r. ⌜ (r ≡ widthLimit kind + 1) × (r ≤ 65) ⌝ }
+{
+    if is_channel(kind) {
+        return 65;
+    }
+    9
 }
 
 fn is_shelf(kind: Kind) -> bool
@@ -101,6 +133,7 @@ fn is_shelf(kind: Kind) -> bool
         Kind::Queue => true,
         Kind::Stack => true,
         Kind::Window => false,
+        Kind::Channel => true,
     }
 }
 
@@ -147,7 +180,18 @@ fn read_count(kind: Kind, width: u8) -> u8
         Kind::Queue => 1,
         Kind::Stack => 1,
         Kind::Window => width,
+        Kind::Channel => 1,
     }
+}
+
+// Whether a push on an object of the kind can answer so many values.
+fn push_can_answer(kind: Kind, n: u8) -> bool
+    ensures { λ r. ⌜ r ≡ pushCanAnswer kind n ⌝ }
+{
+    if is_channel(kind) {
+        return n <= 1;
+    }
+    n == 0
 }
 
 // Whether an op of an object can answer so many values.
@@ -158,7 +202,7 @@ fn can_answer(object: Object, op: Op, n: u8) -> bool
     match op {
         Op::Write => n == 0,
         Op::Read => n == read_count(kind, object.width),
-        Op::Push => n == 0,
+        Op::Push => push_can_answer(kind, n),
         Op::Pop => n <= 1,
         Op::Peek => n <= 1,
     }

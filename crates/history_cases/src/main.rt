@@ -141,18 +141,14 @@ fn unused(answer: Answer) -> Event {
     }
 }
 
-// The record of one queue and one event; `next` stands in the place of the second event, which is not used.
-fn record(event: Event, next: Event) -> History {
+// The record of one object and one event; `next` stands in the place of the second event, which is not used.
+fn record_of(object: Object, event: Event, next: Event) -> History {
     let no_object = Object {
         kind: Kind::Register,
         width: 0,
     };
-    let queue = Object {
-        kind: Kind::Queue,
-        width: 0,
-    };
     let mut objects = [no_object; 16];
-    objects[0] = queue;
+    objects[0] = object;
     let no_event = unused(answer(false, 0, 0, 0));
     let mut events = [no_event; 64];
     events[0] = event;
@@ -163,6 +159,22 @@ fn record(event: Event, next: Event) -> History {
         events,
         count: 1,
     }
+}
+
+// The record of a queue.
+fn record(event: Event, next: Event) -> History {
+    let queue = Object {
+        kind: Kind::Queue,
+        width: 0,
+    };
+    record_of(queue, event, next)
+}
+
+// The record of an object of this kind and width, from which 7 was popped.
+fn record_with(kind: Kind, width: u8) -> History {
+    let object = Object { kind, width };
+    let none = unused(answer(false, 0, 0, 0));
+    record_of(object, pop(7, 0, answer(false, 1, 7, 0)), none)
 }
 
 // Writes a record into a buffer of 96, and shows the whole buffer.
@@ -212,6 +224,14 @@ fn records_with_lost_answers() {
         b"a lost answer in an event that is not used",
         record(pop(7, 0, seven), unused(lost)),
     );
+}
+
+// A channel with the most slots, and with one more, with none, and a queue with a width.
+fn records_with_channels() {
+    say_record(b"a channel of 64", record_with(Kind::Channel, 64));
+    say_record(b"a channel of 65", record_with(Kind::Channel, 65));
+    say_record(b"a channel of 0", record_with(Kind::Channel, 0));
+    say_record(b"a queue of 8", record_with(Kind::Queue, 8));
 }
 
 // Texts of line feeds alone: as many as a history may have bytes, and one more.
@@ -308,6 +328,42 @@ fn of_objects() {
     case(
         b"window without a width",
         b"object kind width\n0 window -\nevent process object op value answer\n",
+    );
+}
+
+// Capacities of channels beside widths of the other kinds, and answers of pushes.
+fn of_channels() {
+    case(
+        b"channel of 64",
+        b"object kind width\n0 channel 64\nevent process object op value answer\n0 0 0 push 5 -\n1 0 0 push 6 6\n2 1 0 pop - 5\n",
+    );
+    case(
+        b"channel of 65",
+        b"object kind width\n0 channel 65\nevent process object op value answer\n",
+    );
+    case(
+        b"channel of 0",
+        b"object kind width\n0 channel 0\nevent process object op value answer\n",
+    );
+    case(
+        b"channel without a width",
+        b"object kind width\n0 channel -\nevent process object op value answer\n",
+    );
+    case(
+        b"width 9 of a queue",
+        b"object kind width\n0 queue 9\nevent process object op value answer\n",
+    );
+    case(
+        b"width 8 of a queue",
+        b"object kind width\n0 queue 8\nevent process object op value answer\n",
+    );
+    case(
+        b"two values of a push",
+        b"object kind width\n0 channel 1\nevent process object op value answer\n0 0 0 push 5 5,5\n",
+    );
+    case(
+        b"value of a push on a queue",
+        b"object kind width\n0 queue -\nevent process object op value answer\n0 0 0 push 5 5\n",
     );
 }
 
@@ -427,6 +483,7 @@ fn of_writing() {
 
 fn main() {
     of_objects();
+    of_channels();
     of_events();
     of_lost_answers();
     of_answers_and_layout();
@@ -449,4 +506,5 @@ fn main() {
     of_writing();
     records();
     records_with_lost_answers();
+    records_with_channels();
 }

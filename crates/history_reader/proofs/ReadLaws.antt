@@ -3,14 +3,13 @@ use Prim.Native.Nat.{ℕ, _+_, _-_, _≤_, _<_}
 use native.Mathlib.Nat.{not-suc-le-zero}
 use native.Mathlib.Omega.{arith}
 use mathlib.Core.Path.{_≡_, refl, sym, ap, _∙_}
-use mathlib.Core.Bool.{true, false, cond, _&&_, _||_}
+use mathlib.Core.Bool.{true, false, cond}
 use mathlib.Core.List.{List, [], _∷_, _++_}
 use lib.ListN.{length, take, drop, drop-of-length-le}
 use lib.Dec.{eqb, ltb}
 use borrow.Author.Tests.{eq-eqb, ne-eqb, eqb-false, ltb-true, le-leb, lt-leb}
 use Rattle.layout.specs.Split.{find, split}
-use Rattle.layout.specs.Word.{same, dash, objectHeading, eventHeading}
-use Rattle.layout.specs.Number.{value}
+use Rattle.layout.specs.Word.{same, objectHeading, eventHeading}
 use Rattle.layout.proofs.Cases.{by-lt, by-eq, and-left}
 use Rattle.layout.proofs.SplitLaws.{cut-more, cut-last, split-some}
 use Rattle.layout.proofs.NumberLaws.{cut-long}
@@ -145,7 +144,7 @@ six-own own os a p o w v s e = ltb-true own 64 (limited own (length os) p o v s 
 
 three-own : (own : ℕ) (a k w : List ℕ) → objectFault own a k w ≡ 0 → own < 16
 unfolding objectLimits
-three-own own a k w e = ltb-true own 16 (and-left (ltb own 16) (same w dash || (ltb 0 (value w) && ltb (value w) 9)) (three-order own a k w e .limits))
+three-own own a k w e = ltb-true own 16 (and-left (ltb own 16) _ (three-order own a k w e .limits))
 
 pub event-own : (own : ℕ) (os : List Object) (line : List ℕ) → eventLine own os line .fault ≡ 0 → own < 64
 event-own own os line e =

@@ -5,10 +5,10 @@ use mathlib.Core.Path.{_≡_, refl, sym, ap, _∙_}
 use mathlib.Core.Bool.{Bool, true, false, cond, not, _&&_, _||_}
 use mathlib.Core.List.{List, [], _∷_}
 use lib.ListN.{length, getD}
-use lib.Dec.{eqb, ltb}
+use lib.Dec.{eqb, leb, ltb}
 use borrow.Author.Tests.{lt-ltb, ltb-true, eq-eqb, eqb-true, not-true}
 use Rattle.layout.specs.Split.{split, join, onFirst}
-use Rattle.layout.specs.Word.{same, dash, registerWord, queueWord, stackWord, windowWord, eventHeading}
+use Rattle.layout.specs.Word.{same, dash, registerWord, queueWord, stackWord, windowWord, channelWord, eventHeading}
 use Rattle.layout.specs.Number.{isDigit, value, spell}
 use Rattle.layout.proofs.Cases.{by-bool, by-eq, and-left, and-right}
 use Rattle.layout.proofs.SplitLaws.{without, allWithout, split-join, join-split}
@@ -16,10 +16,10 @@ use Rattle.layout.proofs.WordLaws.{same-true, same-false, same-refl}
 use Rattle.layout.proofs.NumberLaws.{digit-low}
 use Rattle.layout.proofs.SpellLaws.{value-spell}
 use Rattle.history.specs.declared.record.Kind.{Kind}
-use Rattle.history.specs.declared.record.Kind.the-variants.{Register, Queue, Stack, Window}
+use Rattle.history.specs.declared.record.Kind.the-variants.{Register, Queue, Stack, Window, Channel}
 use Rattle.history.specs.declared.record.Object.{Object}
 use Rattle.history.specs.declared.object.ObjectRead.{ObjectRead}
-use Rattle.history.specs.Kinds.{kindWord, isKind, kindOf, isWindow}
+use Rattle.history.specs.Kinds.{kindWord, isKind, kindOf, hasWidth, widthLimit}
 use Rattle.history.specs.Faults.{isOptional, optional, objectLayout, objectLimits, objectFits, objectFault, objectThree, objectLine}
 use Rattle.history.specs.HistoryText.{objectText}
 use Rattle.history.specs.Readable.{goodObject}
@@ -34,6 +34,7 @@ kind-word Register = refl
 kind-word Queue = refl
 kind-word Stack = refl
 kind-word Window = refl
+kind-word Channel = refl
 
 kind-known : (k : Kind) → isKind (kindWord k) ≡ true
 unfolding kindWord isKind same
@@ -41,6 +42,7 @@ kind-known Register = refl
 kind-known Queue = refl
 kind-known Stack = refl
 kind-known Window = refl
+kind-known Channel = refl
 
 -- they hold no space and no line feed
 kind-without : (k : Kind) → (without 32 (kindWord k) ≡ true) × (without 10 (kindWord k) ≡ true)
@@ -49,6 +51,7 @@ kind-without Register = (refl, refl)
 kind-without Queue = (refl, refl)
 kind-without Stack = (refl, refl)
 kind-without Window = (refl, refl)
+kind-without Channel = (refl, refl)
 
 word-kind : (f : List ℕ) → isKind f ≡ true → kindWord (kindOf f) ≡ f
 unfolding isKind kindOf kindWord
@@ -59,22 +62,24 @@ word-kind f e =
     (λ s. rw (q, s) (sym (same-true f stackWord s)))
     (λ s. by-bool (same f windowWord)
     (λ w. rw (q, s, w) (sym (same-true f windowWord w)))
-    (λ w. rw (q, s, w) (sym (same-true f registerWord (rw (q, s, w) at e))))))
+    (λ w. by-bool (same f channelWord)
+    (λ c. rw (q, s, w, c) (sym (same-true f channelWord c)))
+    (λ c. rw (q, s, w, c) (sym (same-true f registerWord (rw (q, s, w, c) at e)))))))
 
 -- ---- the fields of an object's line
 abbrev fieldsOf : ℕ → Object → List (List ℕ)
-fieldsOf own o = spell own ∷ kindWord (o .kind) ∷ cond (isWindow (o .kind)) (spell (o .width)) dash ∷ []
+fieldsOf own o = spell own ∷ kindWord (o .kind) ∷ cond (hasWidth (o .kind)) (spell (o .width)) dash ∷ []
 
 fields-without : (b : ℕ) → isDigit b ≡ false → (b ≡ 45 → ⊥) → (own : ℕ) (o : Object) → without b (kindWord (o .kind)) ≡ true
     → allWithout b (fieldsOf own o) ≡ true
 unfolding allWithout
 fields-without b d m own o k =
-    rw (spell-without b own d, k, option-without b d m (isWindow (o .kind)) (o .width))
+    rw (spell-without b own d, k, option-without b d m (hasWidth (o .kind)) (o .width))
 
 text-fields : (own : ℕ) (o : Object) → split 32 (objectText own o) ≡ fieldsOf own o
 unfolding objectText
 text-fields own o =
-    split-join 32 (spell own) (kindWord (o .kind) ∷ cond (isWindow (o .kind)) (spell (o .width)) dash ∷ [])
+    split-join 32 (spell own) (kindWord (o .kind) ∷ cond (hasWidth (o .kind)) (spell (o .width)) dash ∷ [])
     (fields-without 32 (digit-low 32 (omega arith)) (λ q. omega arith) own o (kind-without (o .kind) .0))
 
 -- the line holds no line feed
@@ -99,36 +104,36 @@ object-not-heading own o =
 
 -- ---- written and read back
 layout-text : (own : ℕ) (o : Object)
-    → objectLayout own (spell own) (kindWord (o .kind)) (cond (isWindow (o .kind)) (spell (o .width)) dash) ≡ true
+    → objectLayout own (spell own) (kindWord (o .kind)) (cond (hasWidth (o .kind)) (spell (o .width)) dash) ≡ true
 unfolding objectLayout
-layout-text own o = rw (same-refl (spell own), kind-known (o .kind)) (option-layout (isWindow (o .kind)) (o .width))
+layout-text own o = rw (same-refl (spell own), kind-known (o .kind)) (option-layout (hasWidth (o .kind)) (o .width))
 
-limits-text : (own n : ℕ) (t : Bool) → own < 16 → cond t (ltb 0 n && ltb n 9) (eqb n 0) ≡ true
-    → objectLimits own (cond t (spell n) dash) ≡ true
+limits-text : (own n : ℕ) (k : Kind) (t : Bool) → own < 16 → cond t (ltb 0 n && leb n (widthLimit k)) (eqb n 0) ≡ true
+    → objectLimits own (kindWord k) (cond t (spell n) dash) ≡ true
 unfolding objectLimits
-limits-text own n true h g = rw (lt-ltb own 16 h, spell-not-dash n, value-spell n) g
-limits-text own n false h g = rw (lt-ltb own 16 h, same-refl dash)
+limits-text own n k true h g = rw (lt-ltb own 16 h, spell-not-dash n, value-spell n, kind-word k) g
+limits-text own n k false h g = rw (lt-ltb own 16 h, same-refl dash)
 
-fits-text : (k : Kind) (n : ℕ) → objectFits (kindWord k) (cond (isWindow k) (spell n) dash) ≡ true
+fits-text : (k : Kind) (n : ℕ) → objectFits (kindWord k) (cond (hasWidth k) (spell n) dash) ≡ true
 unfolding objectFits
-fits-text k n = rw (kind-word k) (option-fits (isWindow k) n)
+fits-text k n = rw (kind-word k) (option-fits (hasWidth k) n)
 
-width-text : (t : Bool) (n : ℕ) → cond t (ltb 0 n && ltb n 9) (eqb n 0) ≡ true → optional (cond t (spell n) dash) ≡ n
-width-text true n g = option-value true n
-width-text false n g = option-value false n ∙ sym (eqb-true n 0 g)
+width-text : (t : Bool) (n m : ℕ) → cond t (ltb 0 n && leb n m) (eqb n 0) ≡ true → optional (cond t (spell n) dash) ≡ n
+width-text true n m g = option-value true n
+width-text false n m g = option-value false n ∙ sym (eqb-true n 0 g)
 
 three-text : (own : ℕ) (o : Object) → own < 16 → goodObject o ≡ true
-    → objectThree own (spell own) (kindWord (o .kind)) (cond (isWindow (o .kind)) (spell (o .width)) dash)
+    → objectThree own (spell own) (kindWord (o .kind)) (cond (hasWidth (o .kind)) (spell (o .width)) dash)
     ≡ record { fault = 0; object = o }
 unfolding objectThree objectFault goodObject
 three-text own o h g =
     let z = fault-zero (record {
       layout = layout-text own o;
-      limits = limits-text own (o .width) (isWindow (o .kind)) h g;
+      limits = limits-text own (o .width) (o .kind) (hasWidth (o .kind)) h g;
       fits = fits-text (o .kind) (o .width);
       long = refl;
     }) in
-    rw (eq-eqb _ 0 z, kind-word (o .kind), width-text (isWindow (o .kind)) (o .width) g)
+    rw (eq-eqb _ 0 z, kind-word (o .kind), width-text (hasWidth (o .kind)) (o .width) (widthLimit (o .kind)) g)
 
 -- the line of a good object reads as that object
 pub object-written : (own : ℕ) (o : Object) → own < 16 → goodObject o ≡ true
@@ -143,28 +148,28 @@ three (a ∷ b ∷ []) e = absurd (omega arith)
 three (a ∷ b ∷ c ∷ []) e = refl
 three (a ∷ b ∷ c ∷ d ∷ l) e = absurd (omega arith)
 
--- a width in its limits, on a window and on nothing else, is one of a good object
-good-by : (t : Bool) (w : List ℕ) → same w dash || (ltb 0 (value w) && ltb (value w) 9) ≡ true
+-- a width in its limits, on a kind that has one and on nothing else, is one of a good object
+good-by : (t : Bool) (w : List ℕ) (m : ℕ) → same w dash || (ltb 0 (value w) && leb (value w) m) ≡ true
     → cond t (not (same w dash)) (same w dash) ≡ true
-    → cond t (ltb 0 (optional w) && ltb (optional w) 9) (eqb (optional w) 0) ≡ true
+    → cond t (ltb 0 (optional w) && leb (optional w) m) (eqb (optional w) 0) ≡ true
 unfolding optional
-good-by true w l f = let d = not-true (same w dash) f in rw d (rw d at l)
-good-by false w l f = rw f
+good-by true w m l f = let d = not-true (same w dash) f in rw d (rw d at l)
+good-by false w m l f = rw f
 
-module _ (own : ℕ) (a k w : List ℕ) (i : InOrder (objectLayout own a k w) (objectLimits own w) (objectFits k w) true) where
+module _ (own : ℕ) (a k w : List ℕ) (i : InOrder (objectLayout own a k w) (objectLimits own k w) (objectFits k w) true) where
   abbrev read : Object
   read = record { kind = kindOf k; width = optional w }
 
   read-numbered : own < 16
   unfolding objectLimits
   read-numbered =
-      ltb-true own 16 (and-left (ltb own 16) (same w dash || (ltb 0 (value w) && ltb (value w) 9)) (i .limits))
+      ltb-true own 16 (and-left (ltb own 16) (same w dash || (ltb 0 (value w) && leb (value w) (widthLimit (kindOf k)))) (i .limits))
 
   read-good : goodObject read ≡ true
   unfolding goodObject objectLimits objectFits
   read-good =
-      good-by (isWindow (kindOf k)) w
-      (and-right (ltb own 16) (same w dash || (ltb 0 (value w) && ltb (value w) 9)) (i .limits)) (i .fits)
+      good-by (hasWidth (kindOf k)) w (widthLimit (kindOf k))
+      (and-right (ltb own 16) (same w dash || (ltb 0 (value w) && leb (value w) (widthLimit (kindOf k)))) (i .limits)) (i .fits)
 
   read-fields : fieldsOf own read ≡ a ∷ k ∷ w ∷ []
   unfolding objectLayout objectFits
@@ -172,8 +177,8 @@ module _ (own : ℕ) (a k w : List ℕ) (i : InOrder (objectLayout own a k w) (o
       let l = and-left (same a (spell own) && isKind k) (isOptional w) (i .layout) in
       let p : spell own ≡ a = sym (same-true a (spell own) (and-left (same a (spell own)) (isKind k) l)) in
       let q : kindWord (kindOf k) ≡ k = word-kind k (and-right (same a (spell own)) (isKind k) l) in
-      let r : cond (isWindow (kindOf k)) (spell (optional w)) dash ≡ w =
-      option-says (isWindow (kindOf k)) w (and-right (same a (spell own) && isKind k) (isOptional w) (i .layout)) (i .fits) in
+      let r : cond (hasWidth (kindOf k)) (spell (optional w)) dash ≡ w =
+      option-says (hasWidth (kindOf k)) w (and-right (same a (spell own) && isKind k) (isOptional w) (i .layout)) (i .fits) in
       rw (p, q, r)
 
 -- a line without a fault has three fields without a fault, and says what they say
@@ -182,7 +187,7 @@ record Three (own : ℕ) (line : List ℕ) : Type 0 where
   second : List ℕ
   third : List ℕ
   cut : split 32 line ≡ first ∷ second ∷ third ∷ []
-  order : InOrder (objectLayout own first second third) (objectLimits own third) (objectFits second third) true
+  order : InOrder (objectLayout own first second third) (objectLimits own second third) (objectFits second third) true
   object : objectLine own line .object ≡ record { kind = kindOf second; width = optional third }
 
 three-said : (own : ℕ) (a k w : List ℕ) → objectFault own a k w ≡ 0

@@ -14,14 +14,14 @@ use Rattle.layout.specs.List.{listText}
 use Rattle.layout.proofs.Cases.{by-bool, and-left, and-right}
 use Rattle.layout.proofs.SpellLaws.{spell-short}
 use Rattle.history.specs.declared.record.Kind.{Kind}
-use Rattle.history.specs.declared.record.Kind.the-variants.{Register, Queue, Stack, Window}
+use Rattle.history.specs.declared.record.Kind.the-variants.{Register, Queue, Stack, Window, Channel}
 use Rattle.history.specs.declared.record.Op.{Op}
 use Rattle.history.specs.declared.record.Op.the-variants.{Write, Read, Push, Pop, Peek}
 use Rattle.history.specs.declared.record.Object.{Object}
 use Rattle.history.specs.declared.record.Answer.{Answer}
 use Rattle.history.specs.declared.record.Event.{Event}
 use Rattle.history.specs.Record.{valueBound, noObject, valuesIn}
-use Rattle.history.specs.Kinds.{kindWord, opWord, isWindow, hasOp, takesValue, mayAnswer}
+use Rattle.history.specs.Kinds.{kindWord, opWord, isChannel, hasWidth, widthLimit, hasOp, takesValue, mayAnswer}
 use Rattle.history.specs.HistoryText.{linesText, answerText, objectText, eventText, objectLines, eventLines, textOf}
 use Rattle.history.specs.Readable.{goodObject, goodObjects, allLess, allZero, goodAnswer, goodValue, goodEvent, goodEvents}
 
@@ -41,24 +41,29 @@ kind-short Register = omega arith
 kind-short Queue = omega arith
 kind-short Stack = omega arith
 kind-short Window = omega arith
+kind-short Channel = omega arith
 
-width-short : (o : Object) → goodObject o ≡ true → length (cond (isWindow (o .kind)) (spell (o .width)) dash) ≤ 1
+limit-short : (k : Kind) → widthLimit k ≤ 64
+limit-short k = by-bool (isChannel k) (λ c. rw c (omega arith)) (λ c. rw c (omega arith))
+
+width-short : (o : Object) → goodObject o ≡ true → length (cond (hasWidth (o .kind)) (spell (o .width)) dash) ≤ 2
 unfolding goodObject
 width-short o g =
-    by-bool (isWindow (o .kind))
-    (λ w. rw w (spell-short 0 (o .width)
-    (let h = ltb-true (o .width) 9 (and-right (ltb 0 (o .width)) (ltb (o .width) 9) (rw w at g)) in omega arith)))
+    let m : ℕ = widthLimit (o .kind) in
+    by-bool (hasWidth (o .kind))
+    (λ w. rw w (spell-short 1 (o .width)
+    (let h = leb-true (o .width) m (and-right (ltb 0 (o .width)) (leb (o .width) m) (rw w at g)) in omega (arith, limit-short (o .kind)))))
     (λ w. rw w (omega arith))
 
-object-short : (own : ℕ) (o : Object) → own < 16 → goodObject o ≡ true → length (objectText own o) ≤ 13
+object-short : (own : ℕ) (o : Object) → own < 16 → goodObject o ≡ true → length (objectText own o) ≤ 14
 unfolding objectText
 object-short own o h g =
     let a : List ℕ = spell own in
     let k : List ℕ = kindWord (o .kind) in
-    let w : List ℕ = cond (isWindow (o .kind)) (spell (o .width)) dash in
+    let w : List ℕ = cond (hasWidth (o .kind)) (spell (o .width)) dash in
     let la : length a ≤ 2 = spell-short 1 own (omega arith) in
     let lk : length k ≤ 8 = kind-short (o .kind) in
-    let lw : length w ≤ 1 = width-short o g in
+    let lw : length w ≤ 2 = width-short o g in
     omega (arith, join-more 32 a k (w ∷ []), join-more 32 k w [], join-one 32 w)
 
 -- ---- the line of an event
@@ -162,7 +167,7 @@ lines-append (l ∷ ls) ms =
     omega (arith, line-more l (ls ++ ms), line-more l ls)
 
 objects-short : (own : ℕ) (os : List Object) → own + length os ≤ 16 → goodObjects os ≡ true
-    → length (linesText (objectLines own os)) ≤ length os * 14
+    → length (linesText (objectLines own os)) ≤ length os * 15
 unfolding objectLines goodObjects
 objects-short own [] h g = omega (arith, line-none)
 objects-short own (o ∷ os) h g =

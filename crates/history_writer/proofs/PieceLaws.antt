@@ -14,7 +14,7 @@ use Rattle.history_writer.specs.declared.line.Field.{Field}
 use Rattle.history_writer.specs.declared.line.Field.the-variants.{Dash, Number, Items, Lost}
 use Rattle.history.specs.declared.record.Object.{Object}
 use Rattle.history.specs.declared.record.Event.{Event}
-use Rattle.history.specs.Kinds.{kindWord, opWord, isWindow, takesValue}
+use Rattle.history.specs.Kinds.{kindWord, opWord, hasWidth, takesValue}
 use Rattle.history.specs.Record.{valuesIn}
 use Rattle.history.specs.HistoryText.{answerText, objectText, eventText}
 use Rattle.history_writer.specs.Steps.Lines.{fieldText, objectFieldsOf, eventFieldsOf}
@@ -33,8 +33,8 @@ chosen items false = refl
 pub object-pieces : (items : List ℕ) (own : ℕ) (o : Object) → piecesText (map (fieldText items) (objectFieldsOf own o)) ≡ objectText own o ++ 10 ∷ []
 unfolding objectFieldsOf objectText fieldText
 object-pieces items own o =
-    ap (λ (w : List ℕ). piecesText (spell own ∷ kindWord (o .kind) ∷ w ∷ [])) (choose items (isWindow (o .kind)) (o .width))
-    ∙ pieces-join (spell own) (kindWord (o .kind) ∷ cond (isWindow (o .kind)) (spell (o .width)) dash ∷ [])
+    ap (λ (w : List ℕ). piecesText (spell own ∷ kindWord (o .kind) ∷ w ∷ [])) (choose items (hasWidth (o .kind)) (o .width))
+    ∙ pieces-join (spell own) (kindWord (o .kind) ∷ cond (hasWidth (o .kind)) (spell (o .width)) dash ∷ [])
 
 pub event-pieces : (own : ℕ) (e : Event) → piecesText (map (fieldText (valuesIn (e .answer))) (eventFieldsOf own e)) ≡ eventText own e ++ 10 ∷ []
 unfolding eventFieldsOf eventText answerText fieldText

@@ -13,9 +13,10 @@ use history::record::Op;
 use history::record::VALUES;
 use history::record::Value;
 use history::word::has_op;
-use history::word::is_window;
+use history::word::has_width;
 use history::word::may_answer;
 use history::word::takes_value;
+use history::word::width_bound;
 
 // Whether a kind is the one of a blank object.
 fn is_register(kind: Kind) -> bool
@@ -26,6 +27,7 @@ fn is_register(kind: Kind) -> bool
         Kind::Queue => false,
         Kind::Stack => false,
         Kind::Window => false,
+        Kind::Channel => false,
     }
 }
 
@@ -48,8 +50,9 @@ fn good_object(o: Object) -> bool
 {
     let kind = o.kind;
     let width = o.width;
-    if is_window(kind) {
-        return (0 < width) & (width < 9);
+    if has_width(kind) {
+        let bound = width_bound(kind);
+        return (0 < width) & ((width as u64) < bound);
     }
     width == 0
 }

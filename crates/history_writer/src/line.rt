@@ -34,6 +34,7 @@ fn kind_len(kind: Kind) -> usize
         Kind::Queue => 5,
         Kind::Stack => 5,
         Kind::Window => 6,
+        Kind::Channel => 7,
     }
 }
 
@@ -73,6 +74,7 @@ fn put_kind(part: &mut [u8], kind: Kind) -> usize
         Kind::Queue => put_bytes(part, b"queue"),
         Kind::Stack => put_bytes(part, b"stack"),
         Kind::Window => put_bytes(part, b"window"),
+        Kind::Channel => put_bytes(part, b"channel"),
     }
 }
 

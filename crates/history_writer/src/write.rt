@@ -18,7 +18,7 @@ use history::record::Event;
 use history::record::History;
 use history::record::Object;
 use history::record::Value;
-use history::word::is_window;
+use history::word::has_width;
 use history::word::takes_value;
 use layout::fill::put_bytes;
 
@@ -53,7 +53,7 @@ fn object_fields(own: u32, o: Object) -> [Field; 6]
     ensures { λ r. ⌜ take 3 r ≡ objectFieldsOf own o ⌝ }
 {
     let kind = o.kind;
-    let width = number_or_dash(is_window(kind), o.width as u32);
+    let width = number_or_dash(has_width(kind), o.width as u32);
     [
         Field::Number(own),
         Field::KindWord(kind),

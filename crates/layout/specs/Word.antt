@@ -36,6 +36,10 @@ stackWord = 115 ∷ 116 ∷ 97 ∷ 99 ∷ 107 ∷ []
 abbrev pub windowWord : List ℕ
 windowWord = 119 ∷ 105 ∷ 110 ∷ 100 ∷ 111 ∷ 119 ∷ []
 
+-- `channel`
+abbrev pub channelWord : List ℕ
+channelWord = 99 ∷ 104 ∷ 97 ∷ 110 ∷ 110 ∷ 101 ∷ 108 ∷ []
+
 -- ---- the words of the operations
 -- `write`
 abbrev pub writeWord : List ℕ

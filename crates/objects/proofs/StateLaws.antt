@@ -5,17 +5,20 @@ use native.Mathlib.Numerals.{add-one}
 use native.Mathlib.Omega.{arith}
 use mathlib.Core.Path.{_≡_, refl, ap, sym, subst, _∙_}
 use mathlib.Core.Logic.{_⊎_, inl, inr}
-use mathlib.Core.Bool.{Bool, true, false, cond}
+use mathlib.Core.Bool.{Bool, true, false, cond, _&&_, false≢true}
 use mathlib.Core.List.{List, [], _∷_, _++_, map, map-append}
 use lib.ListN.{length, take, drop, getD, set, replicate, length-map, length-append}
+use lib.Dec.{leb}
+use borrow.Author.Tests.{lt-leb}
 use lib.Seq.{slice, slice-empty, slice-cons, length-slice, take-suc, take-suc-set, drop-append-le, drop-drop, length-take-le, take-at, drop-at, take-all, getD-drop, getD-take}
 use Rattle.history.specs.declared.record.Kind.{Kind}
-use Rattle.history.specs.declared.record.Kind.the-variants.{Register, Queue, Stack, Window}
+use Rattle.history.specs.declared.record.Kind.the-variants.{Register, Queue, Stack, Window, Channel}
 use Rattle.history.specs.declared.record.Op.{Op}
 use Rattle.history.specs.declared.record.Op.the-variants.{Write, Read, Push, Pop, Peek}
 use Rattle.history.specs.declared.record.Object.{Object}
-use Rattle.criteria.specs.Object.{freshOf, after, gives, top, untop}
-use Rattle.objects.specs.State.{valueIn, contentsOf, givenOf, isStack, Fresh, Changed, Answered}
+use Rattle.history.specs.Kinds.{isChannel, hasOp}
+use Rattle.criteria.specs.Object.{freshOf, full, after, gives, top, untop}
+use Rattle.objects.specs.State.{valueIn, contentsOf, givenOf, isStack, limitFor, Fresh, Suits, Changed, Answered}
 use Rattle.objects.specs.Steps.State.{Starts, Names, Shows}
 use Rattle.objects.specs.declared.state.State.{State}
 use Rattle.objects.specs.declared.state.Given.{Given}
@@ -45,17 +48,31 @@ module _ (f : ℕ → ℕ) where
   map-top Queue l = map-take 1 l
   map-top Stack l = map-drop (length l - 1) l ∙ ap (λ (n : ℕ). drop (n - 1) (map f l)) (sym (length-map l f))
   map-top Window l = map-take 1 l
+  map-top Channel l = map-take 1 l
 
   map-untop : (k : Kind) (l : List ℕ) → map f (untop k l) ≡ untop k (map f l)
   map-untop Register l = map-drop 1 l
   map-untop Queue l = map-drop 1 l
   map-untop Stack l = map-take (length l - 1) l ∙ ap (λ (n : ℕ). take (n - 1) (map f l)) (sym (length-map l f))
   map-untop Window l = map-drop 1 l
+  map-untop Channel l = map-drop 1 l
+
+  map-full : (o : Object) (l : List ℕ) → full o (map f l) ≡ full o l
+  map-full o l = ap (λ (n : ℕ). isChannel (o .kind) && leb (o .width) n) (length-map l f)
+
+  map-put : (b : Bool) (n : ℕ) (l : List ℕ) → map f (cond b l (l ++ (n ∷ []))) ≡ cond b (map f l) (map f l ++ (f n ∷ []))
+  map-put true n l = refl
+  map-put false n l = map-append f l (n ∷ [])
+
+  map-back : (b : Bool) (n : ℕ) → map f (cond b (n ∷ []) []) ≡ cond b (f n ∷ []) []
+  map-back true n = refl
+  map-back false n = refl
 
   map-after : (o : Object) (op : Op) (n : ℕ) (l : List ℕ) → map f (after o op n l) ≡ after o op (f n) (map f l)
   map-after o Write n l = map-append f (drop 1 l) (n ∷ []) ∙ ap (λ (t : List ℕ). t ++ (f n ∷ [])) (map-drop 1 l)
   map-after o Read n l = refl
-  map-after o Push n l = map-append f l (n ∷ [])
+  map-after o Push n l =
+      map-put (full o l) n l ∙ ap (λ (b : Bool). cond b (map f l) (map f l ++ (f n ∷ []))) (sym (map-full o l))
   map-after o Pop n l = map-untop (o .kind) l
   map-after o Peek n l = refl
 
@@ -65,24 +82,28 @@ top-is Register l = refl
 top-is Queue l = refl
 top-is Stack l = refl
 top-is Window l = refl
+top-is Channel l = refl
 
 untop-is : (k : Kind) (l : List ℕ) → untop k l ≡ cond (isStack k) (take (length l - 1) l) (drop 1 l)
 untop-is Register l = refl
 untop-is Queue l = refl
 untop-is Stack l = refl
 untop-is Window l = refl
+untop-is Channel l = refl
 
 top-none : (k : Kind) → top k [] ≡ []
 top-none Register = refl
 top-none Queue = refl
 top-none Stack = refl
 top-none Window = refl
+top-none Channel = refl
 
 untop-none : (k : Kind) → untop k [] ≡ []
 untop-none Register = refl
 untop-none Queue = refl
 untop-none Stack = refl
 untop-none Window = refl
+untop-none Channel = refl
 
 -- ---- the part of a list between two ends
 slice-push : (l : List ℕ) (h t v : ℕ) → h ≤ t → t < length l → slice h (t + 1) (set l t v) ≡ slice h t l ++ (v ∷ [])
@@ -110,11 +131,12 @@ take-replicate zero n x h = refl
 take-replicate (suc t) zero x h = absurd (not-suc-le-zero h)
 take-replicate (suc t) (suc n) x h = ap (λ (l : List ℕ). x ∷ l) (take-replicate t n x (le-of-suc-le-suc h))
 
-pub fresh-law : (o : Object) (k : Kind) (r : State) (t : ℕ) (b : Bool) → o .kind ≡ k → t ≤ 8 → Starts t b r → isStack k ≡ b
-    → freshOf k (o .width) ≡ replicate t 0 → Fresh o r
+pub fresh-law : (o : Object) (k : Kind) (r : State) (t : ℕ) (b : Bool) (m : ℕ) → o .kind ≡ k → t ≤ 8 → Starts t b m r → isStack k ≡ b
+    → limitFor k (o .width) ≡ m → freshOf k (o .width) ≡ replicate t 0 → Fresh o r
 unfolding contentsOf
-fresh-law o k r t b kind few g stack start = record {
+fresh-law o k r t b m kind few g stack most start = record {
   newest = g .newest ∙ sym (ap isStack kind ∙ stack);
+  limit = g .limit ∙ sym (ap (λ (x : Kind). limitFor x (o .width)) kind ∙ most);
   head = g .head;
   tail = omega (arith, g .tail);
   contents = λ vs z.
@@ -125,11 +147,12 @@ fresh-law o k r t b kind few g stack start = record {
 abbrev held : State → List ℕ
 held s = slice (s .head) (s .tail) (s .numbers)
 
-changed-law : (s r : State) (op : Op) (number : ℕ) → r .newest ≡ s .newest → r .head ≤ r .tail → r .tail ≤ s .tail + 1
-    → ((o : Object) → isStack (o .kind) ≡ s .newest → held r ≡ after o op number (held s)) → Changed s op number r
+changed-law : (s r : State) (op : Op) (number : ℕ) → r .newest ≡ s .newest → r .limit ≡ s .limit → r .head ≤ r .tail → r .tail ≤ s .tail + 1
+    → ((o : Object) → Suits o op s → held r ≡ after o op number (held s)) → Changed s op number r
 unfolding contentsOf
-changed-law s r op number e h t g = record {
+changed-law s r op number e m h t g = record {
   newest = e;
+  limit = m;
   ends = h;
   room = t;
   contents = λ vs o k. ap (map (valueIn vs)) (g o k) ∙ map-after (valueIn vs) o op number (held s);
@@ -137,23 +160,54 @@ changed-law s r op number e h t g = record {
 
 -- A state at two ends.
 abbrev between : State → List ℕ → ℕ → ℕ → State
-between s l h t = record { numbers = l; head = h; tail = t; newest = s .newest }
+between s l h t = record { numbers = l; head = h; tail = t; newest = s .newest; limit = s .limit }
+
+-- ---- whether the object holds as many values as it can
+full-by : (k : Kind) (w n : ℕ) → hasOp k Push ≡ true → n ≤ 72 → isChannel k && leb w n ≡ leb (limitFor k w) n
+full-by Register w n h le = absurd (false≢true h)
+full-by Queue w n h le = sym (lt-leb 255 n (omega arith))
+full-by Stack w n h le = sym (lt-leb 255 n (omega arith))
+full-by Window w n h le = absurd (false≢true h)
+full-by Channel w n h le = refl
+
+module _ (s : State) (len : length (s .numbers) ≡ 72) (room : s .tail ≤ 72) where
+  full-held : (o : Object) → Suits o Push s → full o (held s) ≡ leb (s .limit) (s .tail - s .head)
+  full-held o k =
+      let n : ℕ = s .tail - s .head in
+      ap (λ (m : ℕ). isChannel (o .kind) && leb (o .width) m) (length-slice (s .head) (s .tail) (s .numbers) (omega arith))
+      ∙ full-by (o .kind) (o .width) n (k .has) (omega arith)
+      ∙ ap (λ (m : ℕ). leb m n) (k .limit)
+
+  full-is : (vs : List ℕ) (o : Object) → Suits o Push s → full o (contentsOf vs s) ≡ leb (s .limit) (s .tail - s .head)
+  unfolding contentsOf
+  full-is vs o k = map-full (valueIn vs) o (held s) ∙ full-held o k
 
 module _ (s : State) (ends : s .head ≤ s .tail) where
   -- an op that changes nothing
   pub kept : (op : Op) (number : ℕ) → ((o : Object) (l : List ℕ) → l ≡ after o op number l) → Changed s op number s
-  kept op number e = changed-law s s op number refl ends (omega arith) (λ o k. e o (held s))
+  kept op number e = changed-law s s op number refl refl ends (omega arith) (λ o k. e o (held s))
 
   module _ (len : length (s .numbers) ≡ 72) (room : s .tail < 72) (number : ℕ) where
-    pub push-changes : Changed s Push number (between s (set (s .numbers) (s .tail) number) (s .head) (s .tail + 1))
-    push-changes =
-        changed-law s _ Push number refl (omega arith) (omega arith)
-        (λ o k. slice-push (s .numbers) (s .head) (s .tail) number ends (omega arith))
+    put : (b : Bool) → leb (s .limit) (s .tail - s .head) ≡ b → (o : Object) → Suits o Push s
+        → after o Push number (held s) ≡ cond b (held s) (held s ++ (number ∷ []))
+    put b e o k =
+        ap (λ (t : Bool). cond t (held s) (held s ++ (number ∷ []))) (full-held s len (omega arith) o k ∙ e)
+
+    pub push-full : leb (s .limit) (s .tail - s .head) ≡ true → Changed s Push number s
+    push-full e = changed-law s s Push number refl refl ends (omega arith) (λ o k. sym (put true e o k))
+
+    pub push-changes : leb (s .limit) (s .tail - s .head) ≡ false
+        → Changed s Push number (between s (set (s .numbers) (s .tail) number) (s .head) (s .tail + 1))
+    push-changes e =
+        changed-law s _ Push number refl refl (omega arith) (omega arith)
+        (λ o k.
+        slice-push (s .numbers) (s .head) (s .tail) number ends (omega arith)
+        ∙ sym (put false e o k))
 
     pub write-changes : s .head < s .tail
         → Changed s Write number (between s (set (s .numbers) (s .tail) number) (s .head + 1) (s .tail + 1))
     write-changes lt =
-        changed-law s _ Write number refl (omega arith) (omega arith)
+        changed-law s _ Write number refl refl (omega arith) (omega arith)
         (λ o k.
         slice-push (s .numbers) (s .head + 1) (s .tail) number (omega arith) (omega arith)
         ∙ ap (λ (l : List ℕ). l ++ (number ∷ [])) (slice-tail (s .numbers) (s .head) (s .tail)))
@@ -165,19 +219,19 @@ module _ (s : State) (ends : s .head ≤ s .tail) where
     pub write-begins : length (s .numbers) ≡ 72 → s .tail < 72 → (number : ℕ)
         → Changed s Write number (between s (set (s .numbers) (s .tail) number) (s .head) (s .tail + 1))
     write-begins len room number =
-        changed-law s _ Write number refl (omega arith) (omega arith)
+        changed-law s _ Write number refl refl (omega arith) (omega arith)
         (λ o k. slice-push (s .numbers) (s .head) (s .tail) number ends (omega arith) ∙ rw none-held)
 
     pub pop-none : (number : ℕ) → Changed s Pop number s
     pop-none number =
-        changed-law s s Pop number refl ends (omega arith)
+        changed-law s s Pop number refl refl ends (omega arith)
         (λ o k. none-held ∙ sym (ap (untop (o .kind)) none-held ∙ untop-none (o .kind)))
 
   module _ (lt : s .head < s .tail) where
     pub pop-oldest : s .newest ≡ false → (number : ℕ) → Changed s Pop number (between s (s .numbers) (s .head + 1) (s .tail))
     pop-oldest n number =
-        changed-law s _ Pop number refl (omega arith) (omega arith)
-        (λ o k. slice-tail (s .numbers) (s .head) (s .tail) ∙ sym (untop-is (o .kind) (held s) ∙ rw (k ∙ n)))
+        changed-law s _ Pop number refl refl (omega arith) (omega arith)
+        (λ o k. slice-tail (s .numbers) (s .head) (s .tail) ∙ sym (untop-is (o .kind) (held s) ∙ rw (k .newest ∙ n)))
 
     module _ (room : s .tail ≤ length (s .numbers)) where
       newest-last : held s ≡ slice (s .head) (s .tail - 1) (s .numbers) ++ (getD (s .numbers) (s .tail - 1) 0 ∷ [])
@@ -191,8 +245,8 @@ module _ (s : State) (ends : s .head ≤ s .tail) where
 
       pub pop-newest : s .newest ≡ true → (number : ℕ) → Changed s Pop number (between s (s .numbers) (s .head) (s .tail - 1))
       pop-newest n number =
-          changed-law s _ Pop number refl (omega arith) (omega arith)
-          (λ o k. sym (untop-is (o .kind) (held s) ∙ rw (k ∙ n, newest-last, snoc-init)))
+          changed-law s _ Pop number refl refl (omega arith) (omega arith)
+          (λ o k. sym (untop-is (o .kind) (held s) ∙ rw (k .newest ∙ n, newest-last, snoc-init)))
 
 -- ---- what a state answers
 module _ (s : State) (a : Given) where
@@ -216,12 +270,28 @@ module _ (s : State) (a : Given) where
     shows-oldest n g =
         shows-law _ g (λ o k. sym (top-is (o .kind) (held s) ∙ rw (k ∙ n, oldest-first s ends lt room)))
 
-  pub end-answers : (op : Op) → ((o : Object) (l : List ℕ) → top (o .kind) l ≡ gives o op l) → Shows s a → Answered s op a
-  end-answers op e g = record { few = g .few; values = λ vs o k h. g .values vs o k ∙ e o (contentsOf vs s) }
+  pub end-answers : (op : Op) (number : ℕ) → ((o : Object) (v : ℕ) (l : List ℕ) → top (o .kind) l ≡ gives o op v l) → Shows s a
+      → Answered s op number a
+  end-answers op number e g =
+      record { few = g .few; values = λ vs o k h. g .values vs o (k .newest) ∙ e o (valueIn vs number) (contentsOf vs s) }
 
-  pub none-answers : (op : Op) → ((o : Object) (l : List ℕ) → [] ≡ gives o op l) → Names [] a → Answered s op a
+  pub none-answers : (op : Op) (number : ℕ) → ((o : Object) (v : ℕ) (l : List ℕ) → [] ≡ gives o op v l) → Names [] a
+      → Answered s op number a
   unfolding givenOf
-  none-answers op e g = record { few = g .few; values = λ vs o k h. ap (map (valueIn vs)) (g .numbers) ∙ e o (contentsOf vs s) }
+  none-answers op number e g =
+      record { few = g .few; values = λ vs o k h. ap (map (valueIn vs)) (g .numbers) ∙ e o (valueIn vs number) (contentsOf vs s) }
+
+  -- a push answers its value where the object holds as many as it can
+  pub push-answers : (number : ℕ) (b : Bool) → length (s .numbers) ≡ 72 → s .tail ≤ 72 → leb (s .limit) (s .tail - s .head) ≡ b
+      → Names (cond b (number ∷ []) []) a → Answered s Push number a
+  unfolding givenOf
+  push-answers number b len room e g = record {
+    few = g .few;
+    values = λ vs o k h.
+        ap (map (valueIn vs)) (g .numbers)
+        ∙ map-back (valueIn vs) b number
+        ∙ sym (ap (λ (t : Bool). cond t (valueIn vs number ∷ []) []) (full-is s len room vs o k ∙ e));
+  }
 
 -- ---- the copy of a read
 pub copied-turn : (a l : List ℕ) (h t i : ℕ) → i < length a → h + i < t → t ≤ length l → take i a ≡ take i (slice h t l)
@@ -240,10 +310,10 @@ copied-all l h t n le (inl e) few =
     take-all n (slice h t l) (omega arith)
 copied-all l h t n le (inr e) few = take-all n (slice h t l) (omega arith)
 
-pub read-answers : (s : State) (a : List ℕ) (n : ℕ) → s .tail ≤ length (s .numbers) → (n ≡ s .tail - s .head) ⊎ (n ≡ 8) → n ≤ 8
-    → take n a ≡ take n (slice (s .head) (s .tail) (s .numbers)) → Answered s Read (record { numbers = a; count = n })
+pub read-answers : (s : State) (a : List ℕ) (n number : ℕ) → s .tail ≤ length (s .numbers) → (n ≡ s .tail - s .head) ⊎ (n ≡ 8) → n ≤ 8
+    → take n a ≡ take n (slice (s .head) (s .tail) (s .numbers)) → Answered s Read number (record { numbers = a; count = n })
 unfolding contentsOf givenOf
-read-answers s a n room least few e = record {
+read-answers s a n number room least few e = record {
   few = few;
   values = λ vs o k h.
       ap (map (valueIn vs))
@@ -254,5 +324,5 @@ read-answers s a n room least few e = record {
 pub at-op : {s : State} {op p : Op} {number : ℕ} {r : State} → op ≡ p → Changed s p number r → Changed s op number r
 at-op {s} {op} {p} {number} {r} e h = subst (λ (q : Op). Changed s q number r) (sym e) h
 
-pub asked : {s : State} {op p : Op} {a : Given} → op ≡ p → Answered s p a → Answered s op a
-asked {s} {op} {p} {a} e h = subst (λ (q : Op). Answered s q a) (sym e) h
+pub asked : {s : State} {op p : Op} {number : ℕ} {a : Given} → op ≡ p → Answered s p number a → Answered s op number a
+asked {s} {op} {p} {number} {a} e h = subst (λ (q : Op). Answered s q number a) (sym e) h

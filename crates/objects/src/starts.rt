@@ -1,7 +1,9 @@
 // The states of all objects at the start of a replay.
+ghost use mathlib.Core.Path.{_≡_};
 ghost use Prim.Native.Nat.{ℕ, _≤_, _<_};
 ghost use lib.ListN.{getD};
 ghost use Rattle.history.specs.Record.{noObject};
+ghost use Rattle.history.specs.declared.record.Kind.the-variants.{Window};
 ghost use Rattle.objects.specs.State.{noState, Fresh};
 use crate::state::State;
 use history::record::Object;
@@ -13,12 +15,13 @@ fn blank() -> State {
         head: 0,
         tail: 0,
         newest: false,
+        limit: 0,
     }
 }
 
 // Each object's state at the start.
 pub fn starts(objects: [Object; 16]) -> [State; 16]
-    requires { ⌜ ((o : ℕ) → o < 16 → getD objects o noObject .width ≤ 8) ⌝ }
+    requires { ⌜ ((o : ℕ) → o < 16 → getD objects o noObject .kind ≡ Window → getD objects o noObject .width ≤ 8) ⌝ }
     ensures { λ r. ⌜ ((o : ℕ) → o < 16 → Fresh (getD objects o noObject) (getD r o noState)) ⌝ }
 {
     let b = blank();

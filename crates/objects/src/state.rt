@@ -1,8 +1,9 @@
 // The state of an object in a replay: methods by value take an event and hand back state and answer.
 ghost use mathlib.Core.Path.{_≡_};
-ghost use Prim.Native.Nat.{ℕ, _≤_, _<_};
+ghost use Prim.Native.Nat.{ℕ, _-_, _≤_, _<_};
 ghost use mathlib.Core.Logic.{_⊎_};
 ghost use mathlib.Core.List.{[], _∷_};
+ghost use lib.Dec.{leb};
 ghost use Rattle.objects.specs.State.{Fresh, Changed, Answered};
 ghost use Rattle.objects.specs.Steps.State.{Starts, Names, Shows};
 use history::record::EventNo;
@@ -11,12 +12,19 @@ use history::record::Object;
 use history::record::Op;
 
 // What the object holds is the values of the events numbers[head..tail], oldest first; 64 stands for the value 0 of the start.
-// Pop and peek take the newest of them, or the oldest.
+// Pop and peek take the newest of them, or the oldest. The object holds at most `limit` values.
 pub struct State {
     pub numbers: [u8; 72],
     pub head: u8,
     pub tail: u8,
     pub newest: bool,
+    pub limit: u8,
+}
+
+// An event, as its object takes it: its number and op.
+pub struct EventOp {
+    pub no: EventNo,
+    pub op: Op,
 }
 
 // The first `count` of the numbers: the events whose values are the answer.
@@ -60,40 +68,55 @@ fn at_most_eight(n: usize) -> usize
     if n < 8 { n } else { 8 }
 }
 
-// A state of so many values of the start.
-fn started(tail: u8, newest: bool) -> State
-    ensures { λ r. ⌜ Starts tail newest r ⌝ }
+// Whether the values from `first` to `end` are as many as an object holds at most.
+fn is_full(first: u8, end: u8, limit: u8) -> bool
+    requires { ⌜ first ≤ end ⌝ }
+    ensures { λ r. ⌜ r ≡ leb limit (end - first) ⌝ }
+{
+    let n = end - first;
+    limit <= n
+}
+
+// A state of so many values of the start, and of at most `limit` values.
+fn started(tail: u8, newest: bool, limit: u8) -> State
+    ensures { λ r. ⌜ Starts tail newest limit r ⌝ }
 {
     State {
         numbers: [64u8; 72],
         head: 0,
         tail: tail,
         newest: newest,
+        limit: limit,
     }
 }
 
 impl State {
     // The state at the start.
     pub fn fresh(o: Object) -> State
-        requires { ⌜ o .width ≤ 8 ⌝ }
+        requires { ⌜ (o .kind ≡ Kind.Window → o .width ≤ 8) ⌝ }
         ensures { λ r. ⌜ Fresh o r ⌝ }
     {
         let kind = o.kind;
         match kind {
-            Kind::Register => started(1, false),
-            Kind::Queue => started(0, false),
-            Kind::Stack => started(0, true),
-            Kind::Window => started(o.width, false),
+            Kind::Register => started(1, false, 1),
+            Kind::Queue => started(0, false, 255),
+            Kind::Stack => started(0, true, 255),
+            Kind::Window => started(o.width, false, o.width),
+            Kind::Channel => started(0, false, o.width),
         }
     }
 
-    // Puts the event behind the newest.
+    // Puts the event behind the newest, unless the object holds as many as it can.
     fn pushed(self, no: EventNo) -> State
         requires { ⌜ (self .head ≤ self .tail) × (self .tail < 72) ⌝ }
         ensures { λ r. ⌜ Changed self Op.Push (no .0) r ⌝ }
     {
         let mut s = self;
+        let first = s.head;
         let end = s.tail;
+        if is_full(first, end, s.limit) {
+            return s;
+        }
         let at = end as usize;
         let number = no.0;
         s.numbers[at] = number;
@@ -141,11 +164,13 @@ impl State {
         }
     }
 
-    // The state after an op of the event with this number.
-    pub fn changed(self, op: Op, no: EventNo) -> State
+    // The state after the event.
+    pub fn changed(self, e: EventOp) -> State
         requires { ⌜ (self .head ≤ self .tail) × (self .tail < 72) ⌝ }
-        ensures { λ r. ⌜ Changed self op (no .0) r ⌝ }
+        ensures { λ r. ⌜ Changed self (e .op) (e .no .0) r ⌝ }
     {
+        let no = e.no;
+        let op = e.op;
         match op {
             Op::Write => self.written(no),
             Op::Read => self,
@@ -179,7 +204,7 @@ impl State {
     // The first eight values.
     fn read(self) -> Given
         requires { ⌜ (self .head ≤ self .tail) × (self .tail ≤ 72) ⌝ }
-        ensures { λ r. ⌜ Answered self Op.Read r ⌝ }
+        ensures { λ r. ⌜ ((no : ℕ) → Answered self Op.Read no r) ⌝ }
     {
         let s = self;
         let first = s.head as usize;
@@ -198,27 +223,44 @@ impl State {
         }
     }
 
-    // What an op answers: at most the first eight.
-    pub fn answer(self, op: Op) -> Given
+    // What a push answers: its value where the object holds as many as it can, and else nothing.
+    fn push_answer(self, no: EventNo) -> Given
         requires { ⌜ (self .head ≤ self .tail) × (self .tail ≤ 72) ⌝ }
-        ensures { λ r. ⌜ Answered self op r ⌝ }
+        ensures { λ r. ⌜ Answered self Op.Push (no .0) r ⌝ }
     {
+        let s = self;
+        let first = s.head;
+        let end = s.tail;
+        if is_full(first, end, s.limit) {
+            let number = no.0;
+            return one(number);
+        }
+        none()
+    }
+
+    // What the event answers: at most the first eight.
+    pub fn answer(self, e: EventOp) -> Given
+        requires { ⌜ (self .head ≤ self .tail) × (self .tail ≤ 72) ⌝ }
+        ensures { λ r. ⌜ Answered self (e .op) (e .no .0) r ⌝ }
+    {
+        let no = e.no;
+        let op = e.op;
         match op {
             Op::Write => none(),
             Op::Read => self.read(),
-            Op::Push => none(),
+            Op::Push => self.push_answer(no),
             Op::Pop => self.ended(),
             Op::Peek => self.ended(),
         }
     }
 
     // Takes an event and hands back state and answer.
-    pub fn step(self, op: Op, no: EventNo) -> Step
+    pub fn step(self, e: EventOp) -> Step
         requires { ⌜ (self .head ≤ self .tail) × (self .tail < 72) ⌝ }
-        ensures { λ r. ⌜ Changed self op (no .0) (r .state) × Answered self op (r .answer) ⌝ }
+        ensures { λ r. ⌜ Changed self (e .op) (e .no .0) (r .state) × Answered self (e .op) (e .no .0) (r .answer) ⌝ }
     {
-        let state = self.changed(op, no);
-        let answer = self.answer(op);
+        let state = self.changed(e);
+        let answer = self.answer(e);
         Step {
             state: state,
             answer: answer,

@@ -82,6 +82,7 @@ module _ (os : List Object) (size : ℕ) (ls : List Light) (vs cs : List ℕ) (v
         object = λ f l t. r .object f l (mem-keep (inRow row) f (take n view) (ap (mem f) (sym (q .0)) ∙ t) .0);
         fits = r .fits;
         answer = r .answer;
+        silent = r .silent;
         start = r .start;
       }
 
@@ -98,6 +99,7 @@ module _ (os : List Object) (size : ℕ) (ls : List Light) (vs cs : List ℕ) (v
           object = λ f h t. eqb-true _ _ (and-right (g f) _ (sym (is-row f h) ∙ t));
           fits = r .fits;
           answer = r .answer;
+          silent = r .silent e below;
           start = r .start (getD ls e noLight .object) (r .object e below);
         }
 

@@ -14,11 +14,10 @@ use Rattle.history.specs.declared.record.ProcessNo.{ProcessNo}
 use Rattle.history.specs.declared.record.Object.{Object}
 use Rattle.criteria.specs.Tests.{or, foundIf, mem, place}
 use Rattle.criteria.specs.History.{Event, History, process, only, own}
-use Rattle.criteria.specs.Replay.{Contents, changed}
+use Rattle.criteria.specs.Replay.{Contents, changed, afterAll}
 use Rattle.criteria.specs.Check.{right, firstWrong}
 use Rattle.criteria.proofs.Lists.{by-test, clash, place-in}
 use Rattle.criteria.proofs.Replay.{none-wrong, wrong-none, replays-fewer}
-use Rattle.criteria.proofs.Loops.{after-all}
 use Rattle.replays.specs.declared.replay.Light.{Light}
 use Rattle.replays.specs.declared.replay.Visible.{Visible}
 use Rattle.replays.specs.declared.replay.Visible.the-variants.{All, Of, Only}
@@ -33,11 +32,11 @@ or-assoc (some x) b c = refl
 
 module _ (h : History) where
   wrong-append : (vis : ℕ → Bool) (s : Contents) (v w : List ℕ)
-      → firstWrong h vis s (v ++ w) ≡ or (firstWrong h vis s v) (firstWrong h vis (after-all h s v) w)
+      → firstWrong h vis s (v ++ w) ≡ or (firstWrong h vis s v) (firstWrong h vis (afterAll h s v) w)
   wrong-append vis s [] w = refl
   wrong-append vis s (x ∷ v) w =
       ap (or (foundIf (vis x && not (right h s x)) x)) (wrong-append vis (changed h s x) v w)
-      ∙ or-assoc (foundIf (vis x && not (right h s x)) x) (firstWrong h vis (changed h s x) v) (firstWrong h vis (after-all h (changed h s x) v) w)
+      ∙ or-assoc (foundIf (vis x && not (right h s x)) x) (firstWrong h vis (changed h s x) v) (firstWrong h vis (afterAll h (changed h s x) v) w)
 
   -- a view that goes on from one with no wrong answer, by events of which only e is visible
   pub goes-on : (vis : ℕ → Bool) (e : ℕ) (s : Contents) (v w : List ℕ) → vis e ≡ true → firstWrong h vis s v ≡ none
@@ -48,8 +47,8 @@ module _ (h : History) where
       λ f t. by-test (vis f) (λ p. p ∙ sym (eq-eqb f e (alone f t p))) (λ p. p ∙ sym (by-test (only e f) (λ q. clash (fewer f q) p) (λ q. q))) in
       let none-too : firstWrong h (only e) s v ≡ none = wrong-none h (only e) s v (replays-fewer h vis (only e) s v fewer (none-wrong h vis s v none-yet)) in
       wrong-append vis s v w
-      ∙ ap (λ (r : Option ℕ). or r (firstWrong h vis (after-all h s v) w)) (none-yet ∙ sym none-too)
-      ∙ ap (or (firstWrong h (only e) s v)) (wrong-same h vis (only e) (after-all h s v) w same)
+      ∙ ap (λ (r : Option ℕ). or r (firstWrong h vis (afterAll h s v) w)) (none-yet ∙ sym none-too)
+      ∙ ap (or (firstWrong h (only e) s v)) (wrong-same h vis (only e) (afterAll h s v) w same)
       ∙ sym (wrong-append (only e) s v w)
 
 -- ---- the entries of a view

@@ -3,7 +3,7 @@ use Prim.Native.Nat.{ℕ, _+_, _≤_, _<_}
 use native.Mathlib.Numerals.{add-one}
 use native.Mathlib.Omega.{arith}
 use mathlib.Core.Path.{_≡_, refl, ap, sym, _∙_}
-use mathlib.Core.Bool.{Bool, true, false, not, _&&_, _||_, or-false}
+use mathlib.Core.Bool.{Bool, true, false, not, _&&_, _||_, or-false, false≢true}
 use mathlib.Core.List.{List, [], _∷_}
 use mathlib.Core.Option.{Option, none, some}
 use lib.ListN.{length, getD, take, set, length-set}
@@ -21,13 +21,13 @@ use Rattle.criteria.specs.Replay.{Contents}
 use Rattle.criteria.specs.Check.{fits, right, firstWrong}
 use Rattle.criteria.proofs.Lists.{by-test, mem-getD}
 use Rattle.objects.specs.declared.state.State.{State}
-use Rattle.objects.specs.State.{contentsOf, Changed}
+use Rattle.objects.specs.State.{valueIn, contentsOf, Changed}
 use Rattle.orders.specs.Rows.{inRow}
 use Rattle.replays.specs.declared.replay.Light.{Light}
-use Rattle.replays.specs.Replay.{recordedAs, noLight, lightHistory, Stands}
-use Rattle.replays.specs.Steps.{isQuiet, Judged}
+use Rattle.replays.specs.Replay.{recordedAs, noLight, lightHistory, Stands, Silent}
+use Rattle.replays.specs.Steps.{Judged}
 use Rattle.replayed_views.specs.Steps.{oneWrong}
-use Rattle.replays.proofs.ReplayLaws.{few-read, quiet-right, event-at}
+use Rattle.replays.proofs.ReplayLaws.{few-read, suits, event-at}
 
 -- an event of the object o
 abbrev pub onObject : History → ℕ → ℕ → Bool
@@ -52,8 +52,8 @@ module _ (h : History) (e o : ℕ) (its : event h e .object ≡ o) where
       (λ t.
       let c = after (object h o) op v (getD s o []) in
       let within : o < length (set s o c) = omega (arith, length-set s o c) in
-      ap (λ (y : ℕ). or (foundIf (only e f && not (fits (event h f .answer) (gives (object h y) op (getD s y [])))) f) (firstWrong h (only e) (set s y (after (object h y) op v (getD s y []))) fs)) (eqb-true x o t)
-      ∙ ap (or (foundIf (only e f && not (fits (event h f .answer) (gives (object h o) op (getD s o [])))) f))
+      ap (λ (y : ℕ). or (foundIf (only e f && not (fits (event h f .answer) (gives (object h y) op v (getD s y [])))) f) (firstWrong h (only e) (set s y (after (object h y) op v (getD s y []))) fs)) (eqb-true x o t)
+      ∙ ap (or (foundIf (only e f && not (fits (event h f .answer) (gives (object h o) op v (getD s o [])))) f))
       (one-object (set s o c) fs within ∙ ap (λ (d : List ℕ). oneWrong h e o d (keep (onObject h o) fs)) (getD-set-same s o c [] l))
       ∙ ap (λ (b : Bool). oneWrong h e o (getD s o []) (keepIf b f (keep (onObject h o) fs))) (sym t))
       (λ t.
@@ -85,14 +85,14 @@ module _ (os : List Object) (size : ℕ) (ls : List Light) (vs : List ℕ) (answ
   module _ (s : State) (part : List ℕ) (n i : ℕ) (i-lt : i < n) (le : n ≤ length part) (lt : getD part i 0 < size) (w : Bool) (m : ℕ)
       (st : Stands (getD os o noObject) m s)
       (has : hasOp (getD os o noObject .kind) (getD ls (getD part i 0) noLight .op) ≡ true)
-      (judged : Judged (eqb (getD part i 0) e) vs (recordedAs (getD cs (getD part i 0) 0) (getD answers (getD part i 0) [])) s (getD ls (getD part i 0) noLight .op) w) where
-    test-at : only e (getD part i 0) && not (fits (event (lightHistory os size ls vs answers cs) (getD part i 0) .answer) (gives (object (lightHistory os size ls vs answers cs) o) (event (lightHistory os size ls vs answers cs) (getD part i 0) .op) (contentsOf vs s))) ≡ w
+      (judged : Judged false (eqb (getD part i 0) e) vs (recordedAs (getD cs (getD part i 0) 0) (getD answers (getD part i 0) [])) s (getD ls (getD part i 0) noLight .op) (getD part i 0) w) where
+    test-at : only e (getD part i 0) && not (fits (event (lightHistory os size ls vs answers cs) (getD part i 0) .answer) (gives (object (lightHistory os size ls vs answers cs) o) (event (lightHistory os size ls vs answers cs) (getD part i 0) .op) (event (lightHistory os size ls vs answers cs) (getD part i 0) .value) (contentsOf vs s))) ≡ w
     unfolding Judged lightHistory
     test-at =
         let x = getD part i 0 in
         let ob = getD os o noObject in
-        ap (λ (y : Event). only e x && not (fits (y .answer) (gives ob (y .op) (contentsOf vs s)))) (event-at os size ls vs answers cs x lt)
-        ∙ sym (judged ob (st .newest) (few-read ob m s st (getD ls x noLight .op) has vs))
+        ap (λ (y : Event). only e x && not (fits (y .answer) (gives ob (y .op) (y .value) (contentsOf vs s)))) (event-at os size ls vs answers cs x lt)
+        ∙ sym (judged ob (suits ob m s st (getD ls x noLight .op) has) (few-read ob m s st (getD ls x noLight .op) has vs) (λ t. absurd (false≢true t)))
 
     pub part-stops : w ≡ true → oneIn s (slice i n part) ≡ some (getD part i 0)
     unfolding oneIn
@@ -103,7 +103,7 @@ module _ (os : List Object) (size : ℕ) (ls : List Light) (vs : List ℕ) (answ
     unfolding lightHistory
     after-at t c =
         let ob = getD os o noObject in
-        ap (λ (y : Event). after ob (y .op) (y .value) (contentsOf vs s)) (event-at os size ls vs answers cs (getD part i 0) lt) ∙ sym (c .contents vs ob (st .newest))
+        ap (λ (y : Event). after ob (y .op) (y .value) (contentsOf vs s)) (event-at os size ls vs answers cs (getD part i 0) lt) ∙ sym (c .contents vs ob (suits ob m s st (getD ls (getD part i 0) noLight .op) has))
 
     pub part-on : w ≡ false → (t : State) → Changed s (getD ls (getD part i 0) noLight .op) (getD part i 0) t → oneIn s (slice i n part) ≡ oneIn t (slice (i + 1) n part)
     unfolding oneIn
@@ -113,26 +113,26 @@ module _ (os : List Object) (size : ℕ) (ls : List Light) (vs : List ℕ) (answ
   unfolding oneIn
   part-ends s part n i q = rw (q, slice-empty n part)
 
-  -- an event that answers nothing and has no recorded answer is never wrong
-  module _ (below : e < size) (quiet : isQuiet (getD ls e noLight .op) (getD cs e 0) ≡ true) where
-    its-right : (c : List ℕ) → fits (event (lightHistory os size ls vs answers cs) e .answer) (gives (object (lightHistory os size ls vs answers cs) o) (event (lightHistory os size ls vs answers cs) e .op) c) ≡ true
+  -- a silent event is never wrong
+  module _ (below : e < size) (silent-fits : Silent (getD os o noObject) (getD ls e noLight .op) (getD cs e 0)) where
+    its-right : (c : List ℕ) → fits (event (lightHistory os size ls vs answers cs) e .answer) (gives (object (lightHistory os size ls vs answers cs) o) (event (lightHistory os size ls vs answers cs) e .op) (event (lightHistory os size ls vs answers cs) e .value) c) ≡ true
     unfolding lightHistory
     its-right c =
-        ap (λ (y : Event). fits (y .answer) (gives (getD os o noObject) (y .op) c)) (event-at os size ls vs answers cs e below)
-        ∙ quiet-right (getD os o noObject) (getD ls e noLight .op) (getD cs e 0) (getD answers e []) c quiet
+        ap (λ (y : Event). fits (y .answer) (gives (getD os o noObject) (y .op) (y .value) c)) (event-at os size ls vs answers cs e below)
+        ∙ silent-fits (valueIn vs e) (getD answers e []) c
 
-    quiet-from : (c part : List ℕ) → oneWrong (lightHistory os size ls vs answers cs) e o c part ≡ none
-    quiet-from c [] = refl
-    quiet-from c (f ∷ fs) =
+    silent-from : (c part : List ℕ) → oneWrong (lightHistory os size ls vs answers cs) e o c part ≡ none
+    silent-from c [] = refl
+    silent-from c (f ∷ fs) =
         let h = lightHistory os size ls vs answers cs in
-        let rest = quiet-from (after (object h o) (event h f .op) (event h f .value) c) fs in
+        let rest = silent-from (after (object h o) (event h f .op) (event h f .value) c) fs in
         by-test (eqb f e)
-        (λ t. rw (t, ap (λ (x : ℕ). fits (event h x .answer) (gives (object h o) (event h x .op) c)) (eqb-true f e t) ∙ its-right c) rest)
+        (λ t. rw (t, ap (λ (x : ℕ). fits (event h x .answer) (gives (object h o) (event h x .op) (event h x .value) c)) (eqb-true f e t) ∙ its-right c) rest)
         (λ t. rw t rest)
 
-    pub part-quiet : (s : State) (part : List ℕ) → oneIn s part ≡ none
+    pub part-silent : (s : State) (part : List ℕ) → oneIn s part ≡ none
     unfolding oneIn
-    part-quiet s part = quiet-from (contentsOf vs s) part
+    part-silent s part = silent-from (contentsOf vs s) part
 
 -- ---- the rows of the objects
 module _ (of : ℕ → ℕ) (f e o : ℕ) where

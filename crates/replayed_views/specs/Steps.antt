@@ -18,18 +18,19 @@ use Rattle.objects.specs.declared.state.State.{State}
 use Rattle.replays.specs.declared.replay.Light.{Light}
 use Rattle.replays.specs.declared.replay.Visible.{Visible}
 use Rattle.replays.specs.declared.replay.Visible.the-variants.{All, Of, Only}
-use Rattle.replays.specs.Replay.{noLight, lightHistory, isVisible, Stands}
+use Rattle.replays.specs.Replay.{noLight, lightHistory, isVisible, Stands, Silent}
 
 -- The first wrong answer among events of the object o, where only e's answer is visible, from what the object holds.
 abbrev pub oneWrong : History → ℕ → ℕ → List ℕ → List ℕ → Option ℕ
 oneWrong h e o c [] = none
 oneWrong h e o c (f ∷ fs) =
-    or (foundIf (only e f && not (fits (event h f .answer) (gives (object h o) (event h f .op) c))) f)
+    or (foundIf (only e f && not (fits (event h f .answer) (gives (object h o) (event h f .op) (event h f .value) c))) f)
     (oneWrong h e o (after (object h o) (event h f .op) (event h f .value) c) fs)
 
 -- What the replay of one object's events takes for granted: there are values of 64 events and of the start, e is an event, the view
 -- holds events, those of them that are kept are of e's object, an event's object has its op, no recorded answer has more than eight
--- values and 9 stands for one that was lost, and the state of e's object stands before any event.
+-- values and 9 stands for one that was lost, e's answer is right whatever its object holds if e is silent, and the state of e's object
+-- stands before any event.
 pub record ReadyKept (os : List Object) (size : ℕ) (ls : List Light) (vs cs : List ℕ) (first : State) (view : List ℕ) (n : ℕ) (kept : ℕ → Bool) (e : ℕ) : Type 0 where
   pub values : length vs ≡ 65
   pub small : size ≤ 64
@@ -39,6 +40,8 @@ pub record ReadyKept (os : List Object) (size : ℕ) (ls : List Light) (vs cs : 
   pub object : (f : ℕ) → f < size → kept f ≡ true → getD ls f noLight .object ≡ getD ls e noLight .object
   pub fits : (f : ℕ) → f < size → hasOp (getD os (getD ls f noLight .object) noObject .kind) (getD ls f noLight .op) ≡ true
   pub answer : (f : ℕ) → f < size → getD cs f 0 ≤ 9
+  pub silent : getD ls e noLight .silent ≡ true
+      → Silent (getD os (getD ls e noLight .object) noObject) (getD ls e noLight .op) (getD cs e 0)
   pub start : Stands (getD os (getD ls e noLight .object) noObject) 0 first
 
 -- The answers of process p are the visible ones.

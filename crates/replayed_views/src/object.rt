@@ -11,12 +11,12 @@ ghost use Rattle.replayed_views.specs.Steps.{oneWrong, ReadyKept};
 use history::record::EventNo;
 use history::record::Object;
 use history::record::Value;
+use objects::state::EventOp;
 use objects::state::State;
 use orders::sets::with_event;
 use orders::views::cut_to;
 use replays::replay::Light;
 use replays::replay::fits_given;
-use replays::replay::quiet;
 
 // The row of each object's events.
 pub(crate) fn object_rows(events: [Light; 64]) -> [u64; 16]
@@ -59,7 +59,10 @@ fn replay_object(
         let at = no as usize;
         let f = events[at];
         let op = f.op;
-        let step = s.step(op, EventNo(no));
+        let step = s.step(EventOp {
+            no: EventNo(no),
+            op,
+        });
         if no == e.0 {
             let given = step.answer;
             let answer = answers[at];
@@ -94,9 +97,7 @@ pub(crate) fn replay_row(
 {
     let at = e.0 as usize;
     let own = events[at];
-    let op = own.op;
-    let many = counts[at] as usize;
-    if quiet(op, many) {
+    if own.silent {
         return 64;
     }
     let cut = cut_to(view, n, row);

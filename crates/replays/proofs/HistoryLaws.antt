@@ -4,23 +4,27 @@ use native.Mathlib.Nat.{not-suc-le-zero}
 use native.Mathlib.Numerals.{add-one}
 use native.Mathlib.Omega.{arith}
 use mathlib.Core.Path.{_≡_, refl, sym, ap, ap₂, _∙_}
-use mathlib.Core.Bool.{Bool, true, not, _&&_}
+use mathlib.Core.Bool.{Bool, true, not, _&&_, false≢true}
 use mathlib.Core.List.{List, [], _∷_, _++_, map, map-append}
 use mathlib.Core.Option.{Option}
 use lib.ListN.{length, getD, take, drop, length-map, length-set, take-append-drop, List·getD-append}
 use lib.Seq.{length-take-le, getD-take, set-append-left, ext-getD}
 use lib.Dec.{eqb}
-use borrow.Author.Tests.{eq-eqb, le-leb}
+use borrow.Author.Tests.{eq-eqb, eqb-true, le-leb, not-true}
+use Rattle.layout.proofs.Cases.{and-left, and-right}
 use Rattle.history.specs.declared.record.Kind.the-variants.{Register}
 use Rattle.history.specs.declared.record.Object.{Object}
+use Rattle.history.specs.declared.record.Op.{Op}
+use Rattle.history.specs.declared.record.Op.the-variants.{Write, Read, Push, Pop, Peek}
 use Rattle.history.specs.declared.record.Answer.{Answer}
 use Rattle.history.specs.declared.record.Event as written-event
 use Rattle.history.specs.declared.record.History as written-history
 use Rattle.history.specs.Record.{noObject, noEvent, recordedIn, objectsIn, eventsIn}
+use Rattle.history.specs.Kinds.{isChannel}
 use Rattle.history.proofs.PadLaws.{take-more}
 use Rattle.history.proofs.Guarantees.{SoundEvent, Sound}
 use Rattle.criteria.specs.Tests.{foundIf, or, table, mem}
-use Rattle.criteria.specs.Object.{fresh, after}
+use Rattle.criteria.specs.Object.{fresh, after, gives}
 use Rattle.criteria.specs.History.{Event, History, event, object}
 use Rattle.criteria.specs.Replay.{Contents, start, changed}
 use Rattle.criteria.specs.Check.{right, firstWrong}
@@ -31,8 +35,8 @@ use Rattle.objects.specs.State.{valueIn, contentsOf, noState, Fresh}
 use Rattle.replays.specs.declared.replay.Light.{Light}
 use Rattle.replays.specs.declared.replay.Visible.{Visible}
 use Rattle.replays.specs.declared.replay.Visible.the-variants.{All, Of, Only}
-use Rattle.replays.specs.Replay.{recordedAs, noLight, eventAt, lightHistory, contentsIn, isVisible, Ready}
-use Rattle.replays.specs.Light.{lightOf, countOf}
+use Rattle.replays.specs.Replay.{recordedAs, noLight, eventAt, lightHistory, contentsIn, isVisible, Silent, Ready}
+use Rattle.replays.specs.Light.{neverAnswers, isSilent, lightOf, countOf}
 use Rattle.replays.proofs.ReplayLaws.{fresh-stands}
 use Rattle.replays.proofs.LightLaws.{Made}
 
@@ -49,6 +53,24 @@ recorded-is a few = by-test (a .lost) (λ l. rw l) (λ l. rw (l, le-leb (a .coun
 count-small : (a : Answer) → a .count ≤ 8 → countOf a ≤ 9
 count-small a few = by-test (a .lost) (λ l. rw l (omega arith)) (λ l. rw l (omega arith))
 
+-- an op that never answers gives no value
+never-gives : (o : Object) (op : Op) (v : ℕ) (c : List ℕ) → neverAnswers (o .kind) op ≡ true → gives o op v c ≡ []
+never-gives o Write v c t = refl
+never-gives o Read v c t = absurd (false≢true t)
+never-gives o Push v c t = rw (not-true (isChannel (o .kind)) t)
+never-gives o Pop v c t = absurd (false≢true t)
+never-gives o Peek v c t = absurd (false≢true t)
+
+-- an answer that was lost, or that has no value where the op never answers, is what any object gives
+silent-right : (o : Object) (op : Op) (a : Answer) → isSilent (o .kind) op a ≡ true → Silent o op (countOf a)
+silent-right o op a t v answer c =
+    by-test (a .lost)
+    (λ l. rw l)
+    (λ l.
+    let q : neverAnswers (o .kind) op && eqb (a .count) 0 ≡ true = rw l at t in
+    let n = never-gives o op v c (and-left (neverAnswers (o .kind) op) (eqb (a .count) 0) q) in
+    rw (l, eqb-true (a .count) 0 (and-right (neverAnswers (o .kind) op) (eqb (a .count) 0) q), n))
+
 -- ---- the events
 table-takes : {A B : Type 0} (f : ℕ → B) (g : A → B) (xs : List A) (d : A) (n : ℕ) → n ≤ length xs → ((e : ℕ) → e < n → f e ≡ g (getD xs e d))
     → table n f ≡ map g (take n xs)
@@ -57,8 +79,8 @@ table-takes f g xs d (suc n) h e =
     ap₂ (λ l x. l ++ x ∷ []) (table-takes f g xs d n (omega arith) (λ k l. e k (omega arith))) (e n (omega arith))
     ∙ sym (ap (map g) (rw add-one at (take-more xs n d (omega arith))) ∙ map-append g (take n xs) (getD xs n d ∷ []))
 
-module _ (es : List written-event.Event) (ls : List Light) (vs : List ℕ) (answers : List (List ℕ)) (cs : List ℕ)
-    (lights : Made lightOf noEvent noLight es ls 64)
+module _ (os : List Object) (es : List written-event.Event) (ls : List Light) (vs : List ℕ) (answers : List (List ℕ)) (cs : List ℕ)
+    (lights : Made (lightOf os) noEvent noLight es ls 64)
     (values : Made (λ (x : written-event.Event). x .value) noEvent 0 es vs 64)
     (answered-as : Made (λ (x : written-event.Event). x .answer .values) noEvent [] es answers 64)
     (counts : Made (λ (x : written-event.Event). countOf (x .answer)) noEvent 0 es cs 64)
@@ -134,7 +156,7 @@ starts-are os all states vs few z same fresh-as =
 
 -- ---- a replay of the parts is a replay of the history
 module _ (h : written-history.History) (ls : List Light) (vs : List ℕ) (answers : List (List ℕ)) (cs : List ℕ) (states : List State)
-    (lights : Made lightOf noEvent noLight (h .events) ls 64)
+    (lights : Made (lightOf (h .objects)) noEvent noLight (h .events) ls 64)
     (values : Made (λ (x : written-event.Event). x .value) noEvent 0 (h .events) vs 64)
     (answered-as : Made (λ (x : written-event.Event). x .answer .values) noEvent [] (h .events) answers 64)
     (counts : Made (λ (x : written-event.Event). countOf (x .answer)) noEvent 0 (h .events) cs 64)
@@ -161,7 +183,7 @@ module _ (h : written-history.History) (ls : List Light) (vs : List ℕ) (answer
       let es : List Event = map eventOf (eventsIn h) in
       let k : History = record { objects = objectsIn h; events = map eventOf (eventsIn h) } in
       ap (λ (l : List Event). firstWrong record { objects = h .objects; events = l } (isVisible record { objects = h .objects; events = l } who) (contentsIn vs states) v)
-      (events-are (h .events) ls vs answers cs lights values answered-as counts few-values (h .count) few long)
+      (events-are (h .objects) (h .events) ls vs answers cs lights values answered-as counts few-values (h .count) few long)
       ∙ other-objects (h .objects) (objectsIn h) es agree (isVisible record { objects = h .objects; events = es } who) (contentsIn vs states) v
       ∙ same-visible k (isVisible record { objects = h .objects; events = es } who) (isVisible k who) (visible-events (h .objects) (objectsIn h) es who) (contentsIn vs states) v
       ∙ ap (λ (s : Contents). firstWrong k (isVisible k who) s v) same-start
@@ -170,7 +192,7 @@ module _ (h : written-history.History) (ls : List Light) (vs : List ℕ) (answer
 
 -- ---- what a replay takes for granted is what the reader guarantees
 module _ (h : written-history.History) (s : Sound h) (ls : List Light) (vs cs : List ℕ) (states : List State) (view : List ℕ) (n : ℕ)
-    (lights : Made lightOf noEvent noLight (h .events) ls 64)
+    (lights : Made (lightOf (h .objects)) noEvent noLight (h .events) ls 64)
     (counts : Made (λ (x : written-event.Event). countOf (x .answer)) noEvent 0 (h .events) cs 64)
     (values-long : length vs ≡ 65)
     (agree : (o : ℕ) → getD (h .objects) o noObject ≡ getD (objectsIn h) o noObject)
@@ -182,7 +204,7 @@ module _ (h : written-history.History) (s : Sound h) (ls : List Light) (vs cs : 
       let q : getD (eventsIn h) e noEvent ≡ getD (h .events) e noEvent = getD-take (h .count) (h .events) e noEvent l in
       rw q at (s .event e l)
 
-  light-at : (e : ℕ) → e < h .count → getD ls e noLight ≡ lightOf (getD (h .events) e noEvent)
+  light-at : (e : ℕ) → e < h .count → getD ls e noLight ≡ lightOf (h .objects) (getD (h .events) e noEvent)
   light-at e l = lights e (omega (arith, s .count))
 
   pub ready-of : Ready (h .objects) (h .count) ls vs cs states view n
@@ -194,5 +216,9 @@ module _ (h : written-history.History) (s : Sound h) (ls : List Light) (vs cs : 
     object = λ e l. rw (light-at e l) (omega (arith, sound-at e l .declared, s .objects, s .declared));
     fits = λ e l. rw (light-at e l, agree (getD (h .events) e noEvent .object)) (sound-at e l .op);
     answer = λ e l. rw (counts e (omega (arith, s .count))) (count-small (getD (h .events) e noEvent .answer) (sound-at e l .few));
+    silent = λ e l t.
+        let x = getD (h .events) e noEvent in
+        rw (light-at e l, counts e (omega (arith, s .count)))
+        (silent-right (getD (h .objects) (x .object) noObject) (x .op) (x .answer) (rw (light-at e l) at t));
     start = λ o l. fresh-stands (getD (h .objects) o noObject) (getD states o noState) (fresh-as o l);
   }

@@ -4,33 +4,34 @@ use native.Mathlib.Numerals.{add-one}
 use native.Mathlib.Omega.{arith}
 use native.Mathlib.Decide.{ℕ-discrete}
 use mathlib.Core.Path.{_≡_, refl, ap, sym, subst, _∙_}
-use mathlib.Core.Bool.{Bool, true, false, not, _&&_, true≢false, false≢true}
-use mathlib.Core.List.{List, [], _∷_, _++_, map}
+use mathlib.Core.Bool.{Bool, true, false, not, _&&_, true≢false}
+use mathlib.Core.List.{List, [], _∷_, map}
 use mathlib.Core.Option.{Option, none, some}
-use borrow.Author.Tests.{eq-eqb, ne-eqb, eqb-true, lt-ltb}
-use lib.ListN.{length, take, drop, getD, set, length-map, length-append, List·getD-map}
+use borrow.Author.Tests.{eq-eqb, ne-eqb, lt-ltb}
+use lib.ListN.{length, take, drop, getD, set, length-map, List·getD-map}
 use lib.Seq.{slice, slice-cons, slice-empty, length-take-le, getD-set-same, getD-set-other}
 use lib.Dec.{eqb}
 use Rattle.layout.proofs.Cases.{and-right, and-false}
 use Rattle.history.specs.declared.record.Kind.{Kind}
-use Rattle.history.specs.declared.record.Kind.the-variants.{Register, Queue, Stack, Window}
+use Rattle.history.specs.declared.record.Kind.the-variants.{Register, Queue, Stack, Window, Channel}
 use Rattle.history.specs.declared.record.Object.{Object}
 use Rattle.history.specs.declared.record.Op.{Op}
 use Rattle.history.specs.declared.record.Op.the-variants.{Write, Read, Push, Pop, Peek}
 use Rattle.history.specs.Kinds.{isShelf, isShelfOp, hasOp}
 use Rattle.criteria.specs.Object.{after, gives}
 use Rattle.criteria.specs.Tests.{sameList}
-use Rattle.criteria.specs.History.{Event, event, object}
+use Rattle.criteria.specs.History.{Event, event}
 use Rattle.criteria.specs.Replay.{changed}
 use Rattle.criteria.specs.Check.{fits, right, firstWrong}
 use Rattle.criteria.proofs.Lists.{by-test, clash, getD-table}
+use Rattle.criteria.proofs.Object.{length-written}
 use Rattle.objects.specs.declared.state.State.{State}
 use Rattle.objects.specs.declared.state.Given.{Given}
-use Rattle.objects.specs.State.{valueIn, contentsOf, givenOf, Fresh, Changed, Answered}
+use Rattle.objects.specs.State.{valueIn, contentsOf, givenOf, Fresh, Suits, Changed, Answered}
 use Rattle.objects.specs.State.{noState}
 use Rattle.history.specs.Record.{noObject}
-use Rattle.replays.specs.Replay.{recordedAs, noLight, eventAt, lightHistory, contentsIn, isVisible, foundEvent, Stands}
-use Rattle.replays.specs.Steps.{seesOf, isQuiet, canChange, Judged}
+use Rattle.replays.specs.Replay.{recordedAs, noLight, eventAt, lightHistory, contentsIn, isVisible, foundEvent, Stands, Silent}
+use Rattle.replays.specs.Steps.{seesOf, canChange, Judged}
 use Rattle.replays.specs.declared.replay.Light.{Light}
 use Rattle.replays.specs.declared.replay.Visible.{Visible}
 use Rattle.replays.specs.declared.replay.Visible.the-variants.{All, Of, Only}
@@ -78,46 +79,38 @@ module _ (vs xs : List ℕ) (g : Given) (n : ℕ) (lx : length xs ≡ 8) (lk : l
   same-ends i e = rw (e, slice-empty (g .count) xs, slice-empty (g .count) (g .numbers))
 
 -- ---- one event's test
-pub judged-given : {b : Bool} (vs : List ℕ) (answer : Option (List ℕ)) (s : State) (op : Op) (g : Given) → Answered s op g → b ≡ fits answer (givenOf vs g)
-    → Judged true vs answer s op (not b)
-unfolding Judged
-judged-given vs answer s op g g′ q o same few = rw (q, g′ .values vs o same few)
-
--- an op that answers nothing gives the recorded answer of no value
-pub quiet-right : (o : Object) (op : Op) (count : ℕ) (answer c : List ℕ) → isQuiet op count ≡ true → fits (recordedAs count answer) (gives o op c) ≡ true
-quiet-right o Write count answer c t = rw (eqb-true count 0 t)
-quiet-right o Read count answer c t = absurd (false≢true t)
-quiet-right o Push count answer c t = rw (eqb-true count 0 t)
-quiet-right o Pop count answer c t = absurd (false≢true t)
-quiet-right o Peek count answer c t = absurd (false≢true t)
-
-module _ (seen : Bool) (vs : List ℕ) (answer : Option (List ℕ)) (s : State) (op : Op) where
-  pub judged-seen : {d b : Bool} → seen ≡ true → Judged true vs answer s op d → d ≡ b → Judged seen vs answer s op b
+module _ (silent seen : Bool) (vs : List ℕ) (answer : Option (List ℕ)) (s : State) (op : Op) (number : ℕ) where
+  pub judged-given : {b : Bool} (g : Given) → Answered s op number g → b ≡ fits answer (givenOf vs g)
+      → Judged silent true vs answer s op number (not b)
   unfolding Judged
-  judged-seen t j q o same few = rw t (sym q ∙ j o same few)
+  judged-given g g′ q o suits few silent-fits = rw (q, g′ .values vs o suits few)
 
-  pub judged-unseen : seen ≡ false → Judged seen vs answer s op false
+  pub judged-seen : {d b : Bool} → seen ≡ true → Judged silent true vs answer s op number d → d ≡ b → Judged silent seen vs answer s op number b
   unfolding Judged
-  judged-unseen f o same few = rw f
+  judged-seen t j q o suits few silent-fits = rw t (sym q ∙ j o suits few silent-fits)
 
-module _ (seen : Bool) (vs answer : List ℕ) (s : State) (op : Op) (count : ℕ) {a : Bool} (asked : a ≡ not (isQuiet op count) && seen) where
-  pub judged-asked : {d b : Bool} → a ≡ true → Judged true vs (recordedAs count answer) s op d → d ≡ b → Judged seen vs (recordedAs count answer) s op b
-  judged-asked t = judged-seen seen vs (recordedAs count answer) s op (and-right (not (isQuiet op count)) seen (sym asked ∙ t))
-
-  pub judged-unasked : a ≡ false → Judged seen vs (recordedAs count answer) s op false
+  pub judged-unseen : seen ≡ false → Judged silent seen vs answer s op number false
   unfolding Judged
-  judged-unasked f o same few =
-      by-test (isQuiet op count)
-      (λ q. rw (quiet-right o op count answer (contentsOf vs s) q) (sym (and-false seen)))
-      (λ q. let z : seen ≡ false = rw q at (sym asked ∙ f) in rw z)
+  judged-unseen f o suits few silent-fits = rw f
+
+  module _ {a : Bool} (asked : a ≡ not silent && seen) where
+    pub judged-asked : {d b : Bool} → a ≡ true → Judged silent true vs answer s op number d → d ≡ b → Judged silent seen vs answer s op number b
+    judged-asked t = judged-seen (and-right (not silent) seen (sym asked ∙ t))
+
+    pub judged-unasked : a ≡ false → Judged silent seen vs answer s op number false
+    unfolding Judged
+    judged-unasked f o suits few silent-fits =
+        by-test silent
+        (λ q. rw (silent-fits q (contentsOf vs s)) (sym (and-false seen)))
+        (λ q. let z : seen ≡ false = rw q at (sym asked ∙ f) in rw z)
 
 -- an op that changes nothing leaves the state as it is
 pub unchanged : (s : State) (op : Op) (e : ℕ) → canChange op ≡ false → s .head ≤ s .tail → Changed s op e s
 unchanged s Write e f le = absurd (true≢false f)
-unchanged s Read e f le = record { newest = refl; ends = le; room = omega arith; contents = λ vs o _. refl }
+unchanged s Read e f le = record { newest = refl; limit = refl; ends = le; room = omega arith; contents = λ vs o _. refl }
 unchanged s Push e f le = absurd (true≢false f)
 unchanged s Pop e f le = absurd (true≢false f)
-unchanged s Peek e f le = record { newest = refl; ends = le; room = omega arith; contents = λ vs o _. refl }
+unchanged s Peek e f le = record { newest = refl; limit = refl; ends = le; room = omega arith; contents = λ vs o _. refl }
 
 -- ---- a state stands
 length-first : (n : ℕ) (l : List ℕ) → length (take n l) ≤ n
@@ -142,31 +135,29 @@ few-values vs s le =
 pub fresh-stands : (o : Object) (s : State) → Fresh o s → Stands o 0 s
 fresh-stands o s f = record {
   newest = sym (f .newest);
+  limit = sym (f .limit);
   ends = let h = f .head in omega (arith, h);
   room = let t = f .tail in omega (arith, t);
   few = λ _ vs. few-values vs s (f .tail);
 }
 
--- a write to a register or a window keeps at most eight values
-length-written : (l : List ℕ) (v : ℕ) → length l ≤ 8 → length (drop 1 l ++ (v ∷ [])) ≤ 8
-length-written [] v le = omega arith
-length-written (x ∷ xs) v le = let e = length-append xs (v ∷ []) in omega (arith, e, le)
-
--- only a queue and a stack have push, pop and peek; only a register and a window have read
+-- only a queue, a stack and a channel have push, pop and peek; only a register and a window have read
 no-shelf-op : {P : Type 0} (k : Kind) (op : Op) → hasOp k op ≡ true → isShelf k ≡ false → isShelfOp op ≡ true → P
 no-shelf-op Register op e f t = clash e (ap not t)
 no-shelf-op Window op e f t = clash e (ap not t)
 no-shelf-op Queue op e f t = clash refl f
 no-shelf-op Stack op e f t = clash refl f
+no-shelf-op Channel op e f t = clash refl f
 
 read-no-shelf : (k : Kind) → hasOp k Read ≡ true → isShelf k ≡ false
 read-no-shelf Register e = refl
 read-no-shelf Window e = refl
 read-no-shelf Queue e = clash e refl
 read-no-shelf Stack e = clash e refl
+read-no-shelf Channel e = clash e refl
 
 few-after : (o : Object) (op : Op) (v : ℕ) (l : List ℕ) → hasOp (o .kind) op ≡ true → isShelf (o .kind) ≡ false → length l ≤ 8 → length (after o op v l) ≤ 8
-few-after o Write v l e f le = length-written l v le
+few-after o Write v l e f le = length-written 8 (omega arith) l v le
 few-after o Read v l e f le = le
 few-after o Push v l e f le = no-shelf-op (o .kind) Push e f refl
 few-after o Pop v l e f le = no-shelf-op (o .kind) Pop e f refl
@@ -176,16 +167,20 @@ module _ (o : Object) (m : ℕ) (s : State) (st : Stands o m s) (op : Op) (has :
   pub few-read : (vs : List ℕ) → op ≡ Read → length (contentsOf vs s) ≤ 8
   few-read vs q = st .few (read-no-shelf (o .kind) (subst (λ (p : Op). hasOp (o .kind) p ≡ true) q has)) vs
 
+  pub suits : Suits o op s
+  suits = record { newest = st .newest; limit = st .limit; has = has }
+
   pub stands-on : (e : ℕ) (t : State) → Changed s op e t → Stands o (m + 1) t
   stands-on e t c = record {
     newest = st .newest ∙ sym (c .newest);
+    limit = st .limit ∙ sym (c .limit);
     ends = c .ends;
     room = let a = st .room in let b = c .room in omega (arith, a, b);
-    few = λ f vs. subst (λ (l : List ℕ). length l ≤ 8) (sym (c .contents vs o (st .newest))) (few-after o op (valueIn vs e) (contentsOf vs s) has f (st .few f vs));
+    few = λ f vs. subst (λ (l : List ℕ). length l ≤ 8) (sym (c .contents vs o suits)) (few-after o op (valueIn vs e) (contentsOf vs s) has f (st .few f vs));
   }
 
 stands-longer : (o : Object) (m : ℕ) (s : State) → Stands o m s → Stands o (m + 1) s
-stands-longer o m s st = record { newest = st .newest; ends = st .ends; room = let a = st .room in omega (arith, a); few = st .few }
+stands-longer o m s st = record { newest = st .newest; limit = st .limit; ends = st .ends; room = let a = st .room in omega (arith, a); few = st .few }
 
 -- every object's state stands
 abbrev pub AllStand : List Object → ℕ → List State → Type 0
@@ -239,13 +234,14 @@ module _ (os : List Object) (size : ℕ) (ls : List Light) (vs : List ℕ) (answ
     visible-at (Only f) = refl
 
     right-at : right (lightHistory os size ls vs answers cs) (contentsIn vs states) x
-        ≡ fits (recordedAs (getD cs x 0) (getD answers x [])) (gives (getD os (getD ls x noLight .object) noObject) (getD ls x noLight .op) (contentsOf vs (getD states (getD ls x noLight .object) noState)))
+        ≡ fits (recordedAs (getD cs x 0) (getD answers x [])) (gives (getD os (getD ls x noLight .object) noObject) (getD ls x noLight .op) (valueIn vs x) (contentsOf vs (getD states (getD ls x noLight .object) noState)))
     unfolding right lightHistory
     right-at =
-        ap (λ (e : Event). fits (e .answer) (gives (getD os (e .object) noObject) (e .op) (getD (contentsIn vs states) (e .object) []))) (event-at os size ls vs answers cs x lt)
-        ∙ ap (λ (l : List ℕ). fits (recordedAs (getD cs x 0) (getD answers x [])) (gives (getD os (getD ls x noLight .object) noObject) (getD ls x noLight .op) l)) (getD-contents vs states (getD ls x noLight .object))
+        ap (λ (e : Event). fits (e .answer) (gives (getD os (e .object) noObject) (e .op) (e .value) (getD (contentsIn vs states) (e .object) []))) (event-at os size ls vs answers cs x lt)
+        ∙ ap (λ (l : List ℕ). fits (recordedAs (getD cs x 0) (getD answers x [])) (gives (getD os (getD ls x noLight .object) noObject) (getD ls x noLight .op) (valueIn vs x) l)) (getD-contents vs states (getD ls x noLight .object))
 
     module _ (t : State) (m : ℕ) (st : Stands (getD os (getD ls x noLight .object) noObject) m (getD states (getD ls x noLight .object) noState))
+        (has : hasOp (getD os (getD ls x noLight .object) noObject .kind) (getD ls x noLight .op) ≡ true)
         (c : Changed (getD states (getD ls x noLight .object) noState) (getD ls x noLight .op) x t) where
       changed-at : changed (lightHistory os size ls vs answers cs) (contentsIn vs states) x ≡ contentsIn vs (set states (getD ls x noLight .object) t)
       unfolding lightHistory
@@ -254,14 +250,15 @@ module _ (os : List Object) (size : ℕ) (ls : List Light) (vs : List ℕ) (answ
           let ob = getD os o noObject in
           ap (λ (e : Event). set (contentsIn vs states) (e .object) (after (getD os (e .object) noObject) (e .op) (e .value) (getD (contentsIn vs states) (e .object) []))) (event-at os size ls vs answers cs x lt)
           ∙ ap (λ (l : List ℕ). set (contentsIn vs states) o (after ob (getD ls x noLight .op) (valueIn vs x) l)) (getD-contents vs states o)
-          ∙ ap (λ (l : List ℕ). set (contentsIn vs states) o l) (sym (c .contents vs ob (st .newest)))
+          ∙ ap (λ (l : List ℕ). set (contentsIn vs states) o l) (sym (c .contents vs ob (suits ob m (getD states o noState) st (getD ls x noLight .op) has)))
           ∙ sym (map-set (contentsOf vs) states o t)
 
   -- at a place of a view: the loop goes on, or ends here
   module _ (states : List State) (view : List ℕ) (n i : ℕ) (i-lt : i < n) (le : n ≤ length view) (lt : getD view i 0 < size) (w : Bool) (m : ℕ)
       (st : Stands (getD os (getD ls (getD view i 0) noLight .object) noObject) m (getD states (getD ls (getD view i 0) noLight .object) noState))
       (has : hasOp (getD os (getD ls (getD view i 0) noLight .object) noObject .kind) (getD ls (getD view i 0) noLight .op) ≡ true)
-      (judged : Judged (seesOf who (getD ls (getD view i 0) noLight .process .0) (getD view i 0)) vs (recordedAs (getD cs (getD view i 0) 0) (getD answers (getD view i 0) [])) (getD states (getD ls (getD view i 0) noLight .object) noState) (getD ls (getD view i 0) noLight .op) w) where
+      (silent-fits : getD ls (getD view i 0) noLight .silent ≡ true → Silent (getD os (getD ls (getD view i 0) noLight .object) noObject) (getD ls (getD view i 0) noLight .op) (getD cs (getD view i 0) 0))
+      (judged : Judged (getD ls (getD view i 0) noLight .silent) (seesOf who (getD ls (getD view i 0) noLight .process .0) (getD view i 0)) vs (recordedAs (getD cs (getD view i 0) 0) (getD answers (getD view i 0) [])) (getD states (getD ls (getD view i 0) noLight .object) noState) (getD ls (getD view i 0) noLight .op) (getD view i 0) w) where
     test-at : isVisible (lightHistory os size ls vs answers cs) who (getD view i 0) && not (right (lightHistory os size ls vs answers cs) (contentsIn vs states) (getD view i 0)) ≡ w
     unfolding Judged
     test-at =
@@ -269,7 +266,8 @@ module _ (os : List Object) (size : ℕ) (ls : List Light) (vs : List ℕ) (answ
         let ob = getD os (getD ls x noLight .object) noObject in
         let s = getD states (getD ls x noLight .object) noState in
         rw (visible-at states x lt who, right-at states x lt)
-        (sym (judged ob (st .newest) (few-read ob m s st (getD ls x noLight .op) has vs)))
+        (sym (judged ob (suits ob m s st (getD ls x noLight .op) has) (few-read ob m s st (getD ls x noLight .op) has vs)
+        (λ t c. silent-fits t (valueIn vs x) (getD answers x []) c)))
 
     pub turn-stops : w ≡ true → wrongIn states (slice i n view) ≡ some (getD view i 0)
     unfolding wrongIn
@@ -278,7 +276,7 @@ module _ (os : List Object) (size : ℕ) (ls : List Light) (vs : List ℕ) (answ
     pub turn-on : w ≡ false → (t : State) → Changed (getD states (getD ls (getD view i 0) noLight .object) noState) (getD ls (getD view i 0) noLight .op) (getD view i 0) t
         → wrongIn states (slice i n view) ≡ wrongIn (set states (getD ls (getD view i 0) noLight .object) t) (slice (i + 1) n view)
     unfolding wrongIn
-    turn-on q t c = rw (add-one, slice-cons i n view 0 i-lt le, test-at, q, changed-at states (getD view i 0) lt t m st c)
+    turn-on q t c = rw (add-one, slice-cons i n view 0 i-lt le, test-at, q, changed-at states (getD view i 0) lt t m st has c)
 
   pub view-ends : (states : List State) (view : List ℕ) (n i : ℕ) → i ≡ n → wrongIn states (slice i n view) ≡ none
   unfolding wrongIn

@@ -22,7 +22,7 @@ use Rattle.replays.specs.Light.{lightOf}
 use Rattle.replays.proofs.LightLaws.{Made}
 
 module _ (h : written-history.History) (ls : List Light) (numbers : List ℕ) (few : h .count ≤ 64) (counted : length (eventsIn h) ≡ h .count)
-    (lights : Made lightOf noEvent noLight (h .events) ls 64) where
+    (lights : Made (lightOf (h .objects)) noEvent noLight (h .events) ls 64) where
   -- the process of event k
   process-light : (k : ℕ) → k < h .count → getD ls k noLight .process .0 ≡ process (historyOf h) k
   unfolding eventOf

@@ -6,21 +6,24 @@ use mathlib.Core.List.{List, [], map}
 use mathlib.Core.Option.{Option, none, some}
 use lib.ListN.{length, getD, take}
 use lib.Dec.{leb, ltb}
+use Rattle.history.specs.declared.record.Op.{Op}
 use Rattle.history.specs.declared.record.Op.the-variants.{Write}
 use Rattle.history.specs.declared.record.Object.{Object}
 use Rattle.history.specs.Record.{noObject}
 use Rattle.history.specs.Kinds.{isShelf, hasOp}
 use Rattle.criteria.specs.Tests.{table}
+use Rattle.criteria.specs.Object.{gives}
+use Rattle.criteria.specs.Check.{fits}
 use Rattle.criteria.specs.History.{Event, History, only, own}
 use Rattle.objects.specs.declared.state.State.{State}
-use Rattle.objects.specs.State.{noState, contentsOf, isStack}
+use Rattle.objects.specs.State.{noState, contentsOf, isStack, limitOf}
 use Rattle.replays.specs.declared.replay.Light.{Light}
 use Rattle.replays.specs.declared.replay.Visible.{Visible}
 use Rattle.replays.specs.declared.replay.Visible.the-variants.{All, Of, Only}
 
 -- What stands in a place that is not used.
 abbrev pub noLight : Light
-noLight = record { process = record { 0 = 0 }; object = 0; op = Write }
+noLight = record { process = record { 0 = 0 }; object = 0; op = Write; silent = false }
 
 -- An answer, by its count and its places: a count over eight stands for one that was lost.
 abbrev pub recordedAs : ℕ → List ℕ → Option (List ℕ)
@@ -59,13 +62,18 @@ foundEvent e = cond (ltb e 64) (some e) none
 -- than eight.
 pub record Stands (o : Object) (m : ℕ) (s : State) : Type 0 where
   pub newest : isStack (o .kind) ≡ s .newest
+  pub limit : limitOf o ≡ s .limit
   pub ends : s .head ≤ s .tail
   pub room : s .tail ≤ 8 + m
   pub few : isShelf (o .kind) ≡ false → (vs : List ℕ) → length (contentsOf vs s) ≤ 8
 
+-- An answer of so many values, or one that was lost, is what the op gives, whatever the object holds.
+abbrev pub Silent : Object → Op → ℕ → Type 0
+Silent o op count = (v : ℕ) (answer c : List ℕ) → fits (recordedAs count answer) (gives o op v c) ≡ true
+
 -- What a replay takes for granted: there are values of 64 events and of the start, the view holds events, an event's object is one of
--- the sixteen and has its op, no recorded answer has more than eight values and 9 stands for one that was lost, and each object's state
--- stands before any event.
+-- the sixteen and has its op, no recorded answer has more than eight values and 9 stands for one that was lost, a silent event's answer
+-- is right whatever its object holds, and each object's state stands before any event.
 pub record Ready (os : List Object) (size : ℕ) (ls : List Light) (vs cs : List ℕ) (starts : List State) (view : List ℕ) (n : ℕ) : Type 0 where
   pub values : length vs ≡ 65
   pub small : size ≤ 64
@@ -74,4 +82,6 @@ pub record Ready (os : List Object) (size : ℕ) (ls : List Light) (vs cs : List
   pub object : (e : ℕ) → e < size → getD ls e noLight .object < 16
   pub fits : (e : ℕ) → e < size → hasOp (getD os (getD ls e noLight .object) noObject .kind) (getD ls e noLight .op) ≡ true
   pub answer : (e : ℕ) → e < size → getD cs e 0 ≤ 9
+  pub silent : (e : ℕ) → e < size → getD ls e noLight .silent ≡ true
+      → Silent (getD os (getD ls e noLight .object) noObject) (getD ls e noLight .op) (getD cs e 0)
   pub start : (o : ℕ) → o < 16 → Stands (getD os o noObject) 0 (getD starts o noState)

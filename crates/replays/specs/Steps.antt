@@ -12,7 +12,7 @@ use Rattle.history.specs.declared.record.Op.the-variants.{Write, Read, Push, Po
 use Rattle.criteria.specs.Object.{gives}
 use Rattle.criteria.specs.Check.{fits}
 use Rattle.objects.specs.declared.state.State.{State}
-use Rattle.objects.specs.State.{contentsOf, isStack}
+use Rattle.objects.specs.State.{valueIn, contentsOf, Suits}
 use Rattle.replays.specs.declared.replay.Visible.{Visible}
 use Rattle.replays.specs.declared.replay.Visible.the-variants.{All, Of, Only}
 
@@ -22,19 +22,12 @@ seesOf All p e = true
 seesOf (Of q) p e = eqb p (q .0)
 seesOf (Only f) p e = eqb e (f .0)
 
--- Whether the answer is visible and is not what an object in this state gives.
-unfoldable pub Judged : Bool → List ℕ → Option (List ℕ) → State → Op → Bool → Type 0
-Judged seen vs answer s op r =
-    (o : Object) → isStack (o .kind) ≡ s .newest → (op ≡ Read → length (contentsOf vs s) ≤ 8)
-    → r ≡ seen && not (fits answer (gives o op (contentsOf vs s)))
-
--- The op answers nothing and the recorded answer has no value.
-abbrev pub isQuiet : Op → ℕ → Bool
-isQuiet Write count = eqb count 0
-isQuiet Read count = false
-isQuiet Push count = eqb count 0
-isQuiet Pop count = false
-isQuiet Peek count = false
+-- Whether the answer is visible and is not what an object in this state gives; a silent event's is what any object gives.
+unfoldable pub Judged : Bool → Bool → List ℕ → Option (List ℕ) → State → Op → ℕ → Bool → Type 0
+Judged silent seen vs answer s op number r =
+    (o : Object) → Suits o op s → (op ≡ Read → length (contentsOf vs s) ≤ 8)
+    → (silent ≡ true → (c : List ℕ) → fits answer (gives o op (valueIn vs number) c) ≡ true)
+    → r ≡ seen && not (fits answer (gives o op (valueIn vs number) (contentsOf vs s)))
 
 -- The op can change what an object holds.
 abbrev pub canChange : Op → Bool

@@ -6,35 +6,73 @@ ghost use mathlib.Core.List.{[]};
 ghost use lib.ListN.{getD};
 ghost use Rattle.history.specs.Record.{noEvent};
 ghost use Rattle.replays.specs.Replay.{noLight};
-ghost use Rattle.replays.specs.Light.{lightOf, countOf};
+ghost use Rattle.replays.specs.Light.{neverAnswers, isSilent, lightWith, lightOf, countOf};
 use crate::replay::Light;
 use history::record::Answer;
 use history::record::Event;
+use history::record::Kind;
+use history::record::Object;
 use history::record::Op;
 use history::record::ProcessNo;
 use history::record::Value;
+use history::word::is_channel;
+use history::word::takes_value;
+
+// Whether the op of an object of the kind never answers.
+fn never_answers(kind: Kind, op: Op) -> bool
+    ensures { λ r. ⌜ r ≡ neverAnswers kind op ⌝ }
+{
+    let takes = takes_value(op);
+    let capacity = is_channel(kind);
+    takes & !capacity
+}
+
+// Whether the answer was lost, or has no value and the op never answers.
+fn is_silent(kind: Kind, op: Op, answer: Answer) -> bool
+    ensures { λ r. ⌜ r ≡ isSilent kind op answer ⌝ }
+{
+    let lost = answer.lost;
+    let count = answer.count;
+    let never = never_answers(kind, op);
+    lost | (never & (count == 0))
+}
+
+// The light record of an event whose object is of the kind.
+fn light_event(kind: Kind, e: Event) -> Light
+    ensures { λ r. ⌜ r ≡ lightWith kind e ⌝ }
+{
+    let process = e.process;
+    let object = e.object;
+    let op = e.op;
+    let answer = e.answer;
+    let silent = is_silent(kind, op, answer);
+    Light {
+        process,
+        object,
+        op,
+        silent,
+    }
+}
 
 // The light record of each event.
-pub fn light_events(events: [Event; 64]) -> [Light; 64]
-    ensures { λ r. ⌜ ((e : ℕ) → e < 64 → getD r e noLight ≡ lightOf (getD events e noEvent)) ⌝ }
+pub fn light_events(objects: [Object; 16], events: [Event; 64]) -> [Light; 64]
+    requires { ⌜ ((e : ℕ) → e < 64 → getD events e noEvent .object < 16) ⌝ }
+    ensures { λ r. ⌜ ((e : ℕ) → e < 64 → getD r e noLight ≡ lightOf objects (getD events e noEvent)) ⌝ }
 {
     let b = Light {
         process: ProcessNo(0),
         object: 0,
         op: Op::Write,
+        silent: false,
     };
     let mut lights = [b; 64];
     let mut i = 0;
     while i < 64 {
         let e = events[i];
-        let process = e.process;
-        let object = e.object;
-        let op = e.op;
-        let l = Light {
-            process,
-            object,
-            op,
-        };
+        let at = e.object as usize;
+        let o = objects[at];
+        let kind = o.kind;
+        let l = light_event(kind, e);
         lights[i] = l;
         i += 1;
     }

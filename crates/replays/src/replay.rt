@@ -7,20 +7,22 @@ ghost use Rattle.criteria.specs.Tests.{sameList};
 ghost use Rattle.criteria.specs.Check.{fits, firstWrong};
 ghost use Rattle.objects.specs.State.{valueIn, givenOf};
 ghost use Rattle.replays.specs.Replay.{recordedAs, lightHistory, contentsIn, isVisible, foundEvent, Ready};
-ghost use Rattle.replays.specs.Steps.{seesOf, isQuiet, canChange};
+ghost use Rattle.replays.specs.Steps.{seesOf, canChange};
 use history::record::EventNo;
 use history::record::Object;
 use history::record::Op;
 use history::record::ProcessNo;
 use history::record::Value;
+use objects::state::EventOp;
 use objects::state::Given;
 use objects::state::State;
 
-// An event without its value and its answer.
+// An event without its value and its answer. A silent one's answer is right whatever its object holds.
 pub struct Light {
     pub process: ProcessNo,
     pub object: u8,
     pub op: Op,
+    pub silent: bool,
 }
 
 // Which answers are visible.
@@ -82,24 +84,11 @@ pub fn fits_given(values: &[Value; 65], answer: [Value; 8], count: usize, given:
     same_values(values, answer, count, given)
 }
 
-// Whether the op answers nothing and the recorded answer has no value.
-pub fn quiet(op: Op, count: usize) -> bool
-    ensures { λ r. ⌜ r ≡ isQuiet op count ⌝ }
-{
-    match op {
-        Op::Write => count == 0,
-        Op::Read => false,
-        Op::Push => count == 0,
-        Op::Pop => false,
-        Op::Peek => false,
-    }
-}
-
 // Whether the answer is visible and the state has to be asked for it.
-fn asks(who: Visible, process: ProcessNo, no: EventNo, op: Op, count: usize) -> bool
-    ensures { λ r. ⌜ r ≡ not (isQuiet op count) && seesOf who (process .0) (no .0) ⌝ }
+fn asks(who: Visible, process: ProcessNo, no: EventNo, silent: bool) -> bool
+    ensures { λ r. ⌜ r ≡ not silent && seesOf who (process .0) (no .0) ⌝ }
 {
-    if quiet(op, count) {
+    if silent {
         return false;
     }
     sees(who, process, no)
@@ -143,10 +132,14 @@ pub fn replay(
         let o = e.object as usize;
         let op = e.op;
         let process = e.process;
+        let silent = e.silent;
         let count = counts[at] as usize;
-        if asks(who, process, EventNo(no), op, count) {
+        if asks(who, process, EventNo(no), silent) {
             let s = states[o];
-            let step = s.step(op, EventNo(no));
+            let step = s.step(EventOp {
+                no: EventNo(no),
+                op,
+            });
             let given = step.answer;
             let answer = answers[at];
             if !fits_given(values, answer, count, given) {
@@ -156,7 +149,10 @@ pub fn replay(
             states[o] = t;
         } else if changes(op) {
             let s = states[o];
-            let t = s.changed(op, EventNo(no));
+            let t = s.changed(EventOp {
+                no: EventNo(no),
+                op,
+            });
             states[o] = t;
         }
         i += 1;

@@ -6,7 +6,7 @@ use lib.Dec.{leb}
 use Rattle.layout.specs.Word.{dash, question}
 use Rattle.layout.specs.Number.{spell}
 use Rattle.layout.specs.List.{listText}
-use Rattle.history.specs.Kinds.{kindWord, opWord, isWindow, takesValue}
+use Rattle.history.specs.Kinds.{kindWord, opWord, hasWidth, takesValue}
 use Rattle.history.specs.declared.record.Object.{Object}
 use Rattle.history.specs.declared.record.Event.{Event}
 use Rattle.history_writer.specs.declared.line.Field.{Field}
@@ -23,7 +23,7 @@ fieldText items Lost = question
 
 -- The fields of an object's line and of an event's line.
 unfoldable pub objectFieldsOf : ℕ → Object → List Field
-objectFieldsOf own o = Number own ∷ KindWord (o .kind) ∷ cond (isWindow (o .kind)) (Number (o .width)) Dash ∷ []
+objectFieldsOf own o = Number own ∷ KindWord (o .kind) ∷ cond (hasWidth (o .kind)) (Number (o .width)) Dash ∷ []
 
 unfoldable pub eventFieldsOf : ℕ → Event → List Field
 eventFieldsOf own e =

@@ -10,9 +10,10 @@ use Rattle.objects.specs.State.{contentsOf, givenOf, isStack}
 use Rattle.objects.specs.declared.state.State.{State}
 use Rattle.objects.specs.declared.state.Given.{Given}
 
--- A state of t values of the start, of which pop takes the newest if b is true.
-pub record Starts (t : ℕ) (b : Bool) (r : State) : Type 0 where
+-- A state of t values of the start, of which pop takes the newest if b is true, and of at most m values.
+pub record Starts (t : ℕ) (b : Bool) (m : ℕ) (r : State) : Type 0 where
   pub newest : r .newest ≡ b
+  pub limit : r .limit ≡ m
   pub head : r .head ≡ 0
   pub tail : r .tail ≡ t
   pub numbers : r .numbers ≡ replicate 72 64

@@ -12,7 +12,7 @@ use lib.ListN.{length, getD}
 use Rattle.replays.specs.Replay.{Ready}
 use Rattle.orders.specs.Rows.{inRows}
 use Rattle.faults.specs.Steps.{isConverge}
-use Rattle.faults.proofs.RecordFacts.{widths-small}
+use Rattle.faults.proofs.RecordFacts.{widths-small, objects-small}
 use Rattle.faults.proofs.ReplayedLaws.{Taken, view-ready, place-below, place-fault, place-nothing, view-there, event-fault, event-nothing}
 
 -- where the function begins
@@ -60,7 +60,7 @@ not-converges : (c : tie.Else1) → isConverge (begun (c .before .before) .args 
 not-converges c = search needs
 
 light-events-requires : tie.Need-light-events-requires
-light-events-requires c κs = search needs
+light-events-requires c κs = let s = c .before .before in λ e l. objects-small (s .args .h) (s .pre .0) e
 
 values-of-requires : tie.Need-values-of-requires
 values-of-requires c κs = search needs

@@ -15,6 +15,9 @@ read-count-requires c κs = search needs
 enum-told-3 : tie.Need-enum-told-3
 enum-told-3 c = search needs
 
+push-can-answer-requires : tie.Need-push-can-answer-requires
+push-can-answer-requires c κs = search needs
+
 enum-told-4 : tie.Need-enum-told-4
 enum-told-4 c = search needs
 
@@ -28,7 +31,7 @@ returns-2 : tie.Need-returns-2
 returns-2 c = rw (c .before .enum-told2 .given .1, c .read-count .ensures)
 
 returns-3 : tie.Need-returns-3
-returns-3 c = rw (c .enum-told3 .given .1)
+returns-3 c = rw (c .before .enum-told3 .given .1) (c .push-can-answer .ensures)
 
 returns-4 : tie.Need-returns-4
 returns-4 c = rw (c .enum-told4 .given .1)
@@ -44,6 +47,7 @@ can-answer-spec =
     enum-told-2
     read-count-requires
     enum-told-3
+    push-can-answer-requires
     enum-told-4
     enum-told-5
     returns

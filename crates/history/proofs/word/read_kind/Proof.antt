@@ -53,10 +53,26 @@ is-word-requires-4 c κs = search needs
 returns-4 : tie.Need-returns-4
 unfolding isKind kindOf
 returns-4 c =
-    let e3 = sym (c .before .before .before .is-word3 .ensures) ∙ c .before .before .if3 .left in
-    let e2 = sym (c .before .before .before .before .before .before .is-word2 .ensures) ∙ c .before .before .before .before .before .if2 .left in
-    let e1 = sym (c .before .before .before .before .before .before .before .before .before .is-word .ensures) ∙ c .before .before .before .before .before .before .before .before .if1 .left in
-    (rw (e1, e2, e3) (c .is-word4 .ensures), rw (e1, e2, e3))
+    let e4 = sym (c .before .is-word4 .ensures) ∙ c .if4 .taken in
+    let e3 = sym (c .before .before .before .before .is-word3 .ensures) ∙ c .before .before .before .if3 .left in
+    let e2 = sym (c .before .before .before .before .before .before .before .is-word2 .ensures) ∙ c .before .before .before .before .before .before .if2 .left in
+    let e1 = sym (c .before .before .before .before .before .before .before .before .before .before .is-word .ensures) ∙ c .before .before .before .before .before .before .before .before .before .if1 .left in
+    (rw (e1, e2, e3, e4), rw (e1, e2, e3, e4))
+
+slice-aggregate-is-word-5 : tie.Need-slice-aggregate-is-word-5
+slice-aggregate-is-word-5 c = search needs
+
+is-word-requires-5 : tie.Need-is-word-requires-5
+is-word-requires-5 c κs = search needs
+
+returns-5 : tie.Need-returns-5
+unfolding isKind kindOf
+returns-5 c =
+    let e4 = sym (c .before .before .before .is-word4 .ensures) ∙ c .before .before .if4 .left in
+    let e3 = sym (c .before .before .before .before .before .before .is-word3 .ensures) ∙ c .before .before .before .before .before .if3 .left in
+    let e2 = sym (c .before .before .before .before .before .before .before .before .before .is-word2 .ensures) ∙ c .before .before .before .before .before .before .before .before .if2 .left in
+    let e1 = sym (c .before .before .before .before .before .before .before .before .before .before .before .before .is-word .ensures) ∙ c .before .before .before .before .before .before .before .before .before .before .before .if1 .left in
+    (rw (e1, e2, e3, e4) (c .is-word5 .ensures), rw (e1, e2, e3, e4))
 
 pub read-kind-spec : {M : Type 1} → statement M
 read-kind-spec =
@@ -73,4 +89,7 @@ read-kind-spec =
     returns-3
     slice-aggregate-is-word-4
     is-word-requires-4
-    returns-4)
+    returns-4
+    slice-aggregate-is-word-5
+    is-word-requires-5
+    returns-5)

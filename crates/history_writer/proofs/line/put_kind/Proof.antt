@@ -44,6 +44,16 @@ put-bytes-requires-4 : tie.Need-put-bytes-requires-4
 unfolding kindWord
 put-bytes-requires-4 c κs = rw (c .before .before .enum-told4 .given .1) at (c .before .before .before .before .before .pre)
 
+enum-told-5 : tie.Need-enum-told-5
+enum-told-5 c = search needs
+
+slice-aggregate-put-bytes-5 : tie.Need-slice-aggregate-put-bytes-5
+slice-aggregate-put-bytes-5 c = search needs
+
+put-bytes-requires-5 : tie.Need-put-bytes-requires-5
+unfolding kindWord
+put-bytes-requires-5 c κs = rw (c .before .before .enum-told5 .given .1) at (c .before .before .before .before .before .pre)
+
 same-length : tie.Need-same-length
 same-length c = search needs
 
@@ -80,6 +90,15 @@ returns-4 c =
     let p = c .before .before in
     rw (p .before .before .before .enum-told4 .given .1) (p .put-bytes4 .ensures)
 
+same-length-5 : tie.Need-same-length-5
+same-length-5 c = search needs
+
+returns-5 : tie.Need-returns-5
+unfolding kindWord
+returns-5 c =
+    let p = c .before .before in
+    rw (p .before .before .before .enum-told5 .given .1) (p .put-bytes5 .ensures)
+
 pub put-kind-spec : {M : Type 1} → statement M
 put-kind-spec =
     tie.close
@@ -96,6 +115,9 @@ put-kind-spec =
     enum-told-4
     slice-aggregate-put-bytes-4
     put-bytes-requires-4
+    enum-told-5
+    slice-aggregate-put-bytes-5
+    put-bytes-requires-5
     same-length
     returns
     same-length-2
@@ -103,4 +125,6 @@ put-kind-spec =
     same-length-3
     returns-3
     same-length-4
-    returns-4)
+    returns-4
+    same-length-5
+    returns-5)

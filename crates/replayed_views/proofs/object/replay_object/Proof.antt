@@ -88,16 +88,16 @@ ready c = (stands c .ends, omega (arith, stands c .room, c .before .before .pre 
 nothing-wrong : (c : tie.Joined1 Inv-loop μ-loop)
     → let t = c .before .before .before .before in
     let a = t .before .before .args in
-    Judged (eqb (number t) (a .e .0)) (a .values .now) (recorded t) (t .before .loop .s) (op t) false
+    Judged false (eqb (number t) (a .e .0)) (a .values .now) (recorded t) (t .before .loop .s) (op t) (number t) false
 nothing-wrong c =
     let p = c .before .before in
     let t = p .before .before in
     let a = t .before .before .args in
     ⊎-elim
     (λ w.
-    let j = judged-given (a .values .now) (recorded t) (t .before .loop .s) (op t) (p .step .result .answer) (p .step .ensures .1) (w .4 .ensures) in
-    judged-seen (eqb (number t) (a .e .0)) (a .values .now) (recorded t) (t .before .loop .s) (op t) (eq-eqb (number t) (a .e .0) (w .0 .taken)) j (w .5 .left))
-    (λ w. judged-unseen (eqb (number t) (a .e .0)) (a .values .now) (recorded t) (t .before .loop .s) (op t) (ne-eqb (number t) (a .e .0) (w .left)))
+    let j = judged-given false (eqb (number t) (a .e .0)) (a .values .now) (recorded t) (t .before .loop .s) (op t) (number t) (p .step .result .answer) (p .step .ensures .1) (w .4 .ensures) in
+    judged-seen false (eqb (number t) (a .e .0)) (a .values .now) (recorded t) (t .before .loop .s) (op t) (number t) (eq-eqb (number t) (a .e .0) (w .0 .taken)) j (w .5 .left))
+    (λ w. judged-unseen false (eqb (number t) (a .e .0)) (a .values .now) (recorded t) (t .before .loop .s) (op t) (number t) (ne-eqb (number t) (a .e .0) (w .left)))
     (c .if1 .came)
 
 loop-holds : tie.Need-loop-holds Inv-loop μ-loop
@@ -145,8 +145,8 @@ returns c =
     let l = t .before .loop in
     let s = t .before .before in
     let a = s .args in
-    let g = judged-given (a .values .now) (recorded t) (l .s) (op t) (p .step .result .answer) (p .step .ensures .1) (d .fits-given .ensures) in
-    let j = judged-seen (eqb (number t) (a .e .0)) (a .values .now) (recorded t) (l .s) (op t) (eq-eqb (number t) (a .e .0) (n .if1 .taken)) g refl in
+    let g = judged-given false (eqb (number t) (a .e .0)) (a .values .now) (recorded t) (l .s) (op t) (number t) (p .step .result .answer) (p .step .ensures .1) (d .fits-given .ensures) in
+    let j = judged-seen false (eqb (number t) (a .e .0)) (a .values .now) (recorded t) (l .s) (op t) (number t) (eq-eqb (number t) (a .e .0) (n .if1 .taken)) g refl in
     found-some (number t) (below t)
     ∙ sym (whole-part (a .objects) (a .size) (a .t2) (a .values .now) (a .answers .now) (a .counts .now) (a .e .0) (place s) (a .start) (take (a .m) (a .t8))
     (l .inv .1 (a .objects) (s .pre) .1

@@ -1,7 +1,6 @@
--- The view is cut down to the row, and the part is replayed; an event that answers nothing and has no recorded answer is never wrong.
+-- The view is cut down to the row, and the part is replayed; a silent event is never wrong.
 -- Assumes nothing.
 use Prim.Native.Nat.{ℕ}
-use native.Mathlib.Omega.{arith}
 use mathlib.Core.Path.{_≡_, sym, ap, _∙_}
 use mathlib.Core.List.{List}
 use lib.ListN.{length, take, getD}
@@ -10,7 +9,7 @@ use Rattle.objects.specs.State.{contentsOf}
 use Rattle.orders.specs.Rows.{inRow}
 use Rattle.replays.specs.Replay.{noLight, lightHistory}
 use Rattle.replayed_views.specs.Steps.{oneWrong}
-use Rattle.replayed_views.proofs.ObjectLaws.{whole-part, part-quiet}
+use Rattle.replayed_views.proofs.ObjectLaws.{whole-part, part-silent}
 use Rattle.replayed_views.proofs.CutLaws.{entry-small, part-ready}
 use borrow.Author.Needs.{needs}
 use Rattle.replayed_views.proofs.object.replay_row.Statement.{statement}
@@ -36,38 +35,29 @@ mul-own c = search needs
 array-copy-out-own : tie.Need-array-copy-out-own
 array-copy-out-own c = search needs
 
-element-copy-out-many : tie.Need-element-copy-out-many
-element-copy-out-many c = search needs
-
-cast-many : tie.Need-cast-many
-cast-many c = let s = c .before .before .before in omega (arith, s .pre .answer (s .args .e .0) (s .pre .own))
-
-quiet-requires : tie.Need-quiet-requires
-quiet-requires c κs = search needs
-
 returns : tie.Need-returns
 returns c =
-    let s = c .before .before .before .before .before in
+    let s = c .before .before .before in
     let a = s .args in
     sym (whole-part (a .objects) (a .size) (a .t2) (a .values .now) (a .answers .now) (a .counts .now) (a .e .0) (place s) (a .start) (kept s)
-    (part-quiet (a .objects) (a .size) (a .t2) (a .values .now) (a .answers .now) (a .counts .now) (a .e .0) (place s) (s .pre .own) (sym (c .before .quiet .ensures) ∙ c .if1 .taken) (a .start) (kept s)))
+    (part-silent (a .objects) (a .size) (a .t2) (a .values .now) (a .answers .now) (a .counts .now) (a .e .0) (place s) (s .pre .own) (s .pre .silent (c .if1 .taken)) (a .start) (kept s)))
 
 cut-to-requires : tie.Need-cut-to-requires
 cut-to-requires c κs =
-    let s = c .before .before .before .before .before in
+    let s = c .before .before .before in
     (s .pre .short, entry-small (s .args .size) (s .args .view) (s .args .n) (s .pre .small) (s .pre .event))
 
 replay-object-requires : tie.Need-replay-object-requires
 replay-object-requires c κs =
     let p = c .before in
-    let s = p .before .before .before .before .before .before in
+    let s = p .before .before .before .before in
     let a = s .args in
     part-ready (a .objects) (a .size) (a .t2) (a .values .now) (a .counts .now) (a .view) (a .n) (a .row) (a .e .0) (a .start) (s .pre) (p .cut-to .result) (part-long p) (p .cut-to .ensures)
 
 returns-2 : tie.Need-returns-2
 returns-2 c =
     let p = c .before .before in
-    let s = p .before .before .before .before .before .before in
+    let s = p .before .before .before .before in
     let a = s .args in
     c .replay-object .ensures
     ∙ ap (oneWrong (lightHistory (a .objects) (a .size) (a .t2) (a .values .now) (a .answers .now) (a .counts .now)) (a .e .0) (place s) (contentsOf (a .values .now) (a .start))) (p .cut-to .ensures .0)
@@ -79,9 +69,6 @@ replay-row-spec =
     cast-at
     mul-own
     array-copy-out-own
-    element-copy-out-many
-    cast-many
-    quiet-requires
     returns
     cut-to-requires
     replay-object-requires

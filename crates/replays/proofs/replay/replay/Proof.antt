@@ -5,6 +5,7 @@ use mathlib.Core.Path.{_≡_, refl, sym, ap, _∙_}
 use mathlib.Core.Bool.{Bool, false}
 use mathlib.Core.Logic.{⊎-elim}
 use mathlib.Core.List.{List, []}
+use mathlib.Core.Option.{Option}
 use lib.ListN.{length, take, getD, set, length-set}
 use lib.Seq.{slice, set-getD}
 use Rattle.history.specs.declared.record.Object.{Object}
@@ -30,7 +31,7 @@ Inv-loop values answers counts size n who events view states₀ i₀ states i =
 abbrev μ-loop : tie.MeasureT-loop
 μ-loop values answers counts size n who events view states₀ i₀ states i = n - i
 
--- the number of the turn's event, its object, that object's state, its op, its answer and whether it is visible
+-- the number of the turn's event, its object, that object's state, its op, its answer, whether it is silent and whether it is visible
 abbrev number : tie.In-loop Inv-loop μ-loop → ℕ
 number c = getD (c .before .before .args .t8) (c .before .loop .i) 0
 
@@ -43,8 +44,11 @@ state c = getD (c .before .loop .states) (place c) noState
 abbrev op : tie.In-loop Inv-loop μ-loop → Op
 op c = getD (c .before .before .args .t2) (number c) noLight .op
 
-abbrev recorded : tie.In-loop Inv-loop μ-loop → List ℕ
-recorded c = getD (c .before .before .args .answers .now) (number c) []
+abbrev recorded : tie.In-loop Inv-loop μ-loop → Option (List ℕ)
+recorded c = let a = c .before .before .args in recordedAs (getD (a .counts .now) (number c) 0) (getD (a .answers .now) (number c) [])
+
+abbrev silent : tie.In-loop Inv-loop μ-loop → Bool
+silent c = getD (c .before .before .args .t2) (number c) noLight .silent
 
 abbrev seen : tie.In-loop Inv-loop μ-loop → Bool
 seen c = let a = c .before .before .args in seesOf (a .who) (getD (a .t2) (number c) noLight .process .0) (number c)
@@ -85,19 +89,18 @@ ready c =
 follows : (c : tie.Joined1 Inv-loop μ-loop)
     → let t = c .before .before .before .before .before .before in
     (s : State) × Changed (state t) (op t) (number t) s
-    × Judged (seen t) (t .before .before .args .values .now) (recordedAs (getD (t .before .before .args .counts .now) (number t) 0) (recorded t)) (state t) (op t) false
+    × Judged (silent t) (seen t) (t .before .before .args .values .now) (recorded t) (state t) (op t) (number t) false
     × (c .if1 .states ≡ set (t .before .loop .states) (place t) s)
 follows c =
     let q = c .before in
     let t = q .before .before .before .before .before in
-    let a = t .before .before .args in
-    let k = getD (a .counts .now) (number t) 0 in
-    let unasked : q .asks .result ≡ false → Judged (seen t) (a .values .now) (recordedAs k (recorded t)) (state t) (op t) false =
-    judged-unasked (seen t) (a .values .now) (recorded t) (state t) (op t) k (q .asks .ensures) in
+    let vs = t .before .before .args .values .now in
+    let unasked : q .asks .result ≡ false → Judged (silent t) (seen t) vs (recorded t) (state t) (op t) (number t) false =
+    judged-unasked (silent t) (seen t) vs (recorded t) (state t) (op t) (number t) (q .asks .ensures) in
     ⊎-elim
     (λ w.
-    let j = judged-given (a .values .now) (recordedAs k (recorded t)) (state t) (op t) (w .2 .result .answer) (w .2 .ensures .1) (w .5 .ensures) in
-    (w .2 .result .state, w .2 .ensures .0, judged-asked (seen t) (a .values .now) (recorded t) (state t) (op t) k (q .asks .ensures) (w .0 .taken) j (w .6 .left), w .8))
+    let j = judged-given (silent t) (seen t) vs (recorded t) (state t) (op t) (number t) (w .2 .result .answer) (w .2 .ensures .1) (w .5 .ensures) in
+    (w .2 .result .state, w .2 .ensures .0, judged-asked (silent t) (seen t) vs (recorded t) (state t) (op t) (number t) (q .asks .ensures) (w .0 .taken) j (w .6 .left), w .8))
     (⊎-elim
     (λ w. (w .4 .result, w .4 .ensures, unasked (w .0 .left), w .5))
     (λ w.
@@ -160,13 +163,13 @@ returns c =
     let t = q .before .before .before .before .before in
     let l = t .before in
     let a = l .before in
-    let k = getD (a .args .counts .now) (number t) 0 in
-    let g = judged-given (a .args .values .now) (recordedAs k (recorded t)) (state t) (op t) (p .step .result .answer) (p .step .ensures .1) (d .fits-given .ensures) in
-    let j = judged-asked (seen t) (a .args .values .now) (recorded t) (state t) (op t) k (q .asks .ensures) (n .if1 .taken) g refl in
+    let vs = a .args .values .now in
+    let g = judged-given (silent t) (seen t) vs (recorded t) (state t) (op t) (number t) (p .step .result .answer) (p .step .ensures .1) (d .fits-given .ensures) in
+    let j = judged-asked (silent t) (seen t) vs (recorded t) (state t) (op t) (number t) (q .asks .ensures) (n .if1 .taken) g refl in
     found-some (number t) (below t)
     ∙ sym (whole (a .args .objects) (a .args .size) (a .args .t2) (a .args .values .now) (a .args .answers .now) (a .args .counts .now) (a .args .who) (a .args .starts) (take (a .args .n) (a .args .t8))
     (l .loop .inv .2 (a .args .objects) (a .pre) .1
-    ∙ turn-stops (a .args .objects) (a .args .size) (a .args .t2) (a .args .values .now) (a .args .answers .now) (a .args .counts .now) (a .args .who) (l .loop .states) (a .args .t8) (a .args .n) (l .loop .i) (in-view t) (view-holds t) (is-event t) _ (l .loop .i) (stands t) (a .pre .fits (number t) (is-event t)) j (c .if2 .taken)))
+    ∙ turn-stops (a .args .objects) (a .args .size) (a .args .t2) (a .args .values .now) (a .args .answers .now) (a .args .counts .now) (a .args .who) (l .loop .states) (a .args .t8) (a .args .n) (l .loop .i) (in-view t) (view-holds t) (is-event t) _ (l .loop .i) (stands t) (a .pre .fits (number t) (is-event t)) (a .pre .silent (number t) (is-event t)) j (c .if2 .taken)))
 
 mul-states : tie.Need-mul-states Inv-loop μ-loop
 mul-states c = let h = is-object (c .before .before .before .before .before .before .before .before .before .before .before .before .before) in omega (arith, h)
@@ -214,7 +217,7 @@ loop-again c =
           rw (f .3) (
             all-on os (l .loop .i) (l .loop .states) (place t) (f .0) (l .loop .inv .1) all (stands-on (getD os (place t) noObject) (l .loop .i) (state t) st (op t) has (number t) (f .0) (f .1)),
             l .loop .inv .2 os r .1
-                ∙ turn-on os (a .args .size) (a .args .t2) (a .args .values .now) (a .args .answers .now) (a .args .counts .now) (a .args .who) (l .loop .states) (a .args .t8) (a .args .n) (l .loop .i) (in-view t) (view-holds t) e false (l .loop .i) st has (f .2) refl (f .0) (f .1),
+                ∙ turn-on os (a .args .size) (a .args .t2) (a .args .values .now) (a .args .answers .now) (a .args .counts .now) (a .args .who) (l .loop .states) (a .args .t8) (a .args .n) (l .loop .i) (in-view t) (view-holds t) e false (l .loop .i) st has (r .silent (number t) e) (f .2) refl (f .0) (f .1),
           ),
     )
 

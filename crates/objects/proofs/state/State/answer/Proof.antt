@@ -1,6 +1,6 @@
 -- What an op answers. Assumes nothing.
 use mathlib.Core.Path.{refl}
-use Rattle.history.specs.declared.record.Op.the-variants.{Write, Push, Pop, Peek}
+use Rattle.history.specs.declared.record.Op.the-variants.{Write, Pop, Peek}
 use Rattle.objects.proofs.StateLaws.{asked, none-answers, end-answers}
 use borrow.Author.Needs.{needs}
 use Rattle.objects.proofs.state.State.answer.Statement.{statement}
@@ -21,8 +21,8 @@ read-requires c κs = search needs
 enum-told-3 : tie.Need-enum-told-3
 enum-told-3 c = search needs
 
-none-requires-2 : tie.Need-none-requires-2
-none-requires-2 c κs = search needs
+push-answer-requires : tie.Need-push-answer-requires
+push-answer-requires c κs = search needs
 
 enum-told-4 : tie.Need-enum-told-4
 enum-told-4 c = search needs
@@ -38,26 +38,24 @@ ended-requires-2 c κs = search needs
 
 returns : tie.Need-returns
 returns c =
-    let s = c .before .before .before .args .self in
-    asked (c .before .enum-told .given .1) (none-answers s (c .none .result) Write (λ o l. refl) (c .none .ensures))
+    let s = c .before .before .before .before .args .self in
+    asked (c .before .enum-told .given .1) (none-answers s (c .none .result) Write _ (λ o v l. refl) (c .none .ensures))
 
 returns-2 : tie.Need-returns-2
-returns-2 c = asked (c .before .enum-told2 .given .1) (c .read .ensures)
+returns-2 c = asked (c .before .enum-told2 .given .1) (c .read .ensures _)
 
 returns-3 : tie.Need-returns-3
-returns-3 c =
-    let s = c .before .before .before .args .self in
-    asked (c .before .enum-told3 .given .1) (none-answers s (c .none2 .result) Push (λ o l. refl) (c .none2 .ensures))
+returns-3 c = asked (c .before .enum-told3 .given .1) (c .push-answer .ensures)
 
 returns-4 : tie.Need-returns-4
 returns-4 c =
-    let s = c .before .before .before .args .self in
-    asked (c .before .enum-told4 .given .1) (end-answers s (c .ended .result) Pop (λ o l. refl) (c .ended .ensures))
+    let s = c .before .before .before .before .args .self in
+    asked (c .before .enum-told4 .given .1) (end-answers s (c .ended .result) Pop _ (λ o v l. refl) (c .ended .ensures))
 
 returns-5 : tie.Need-returns-5
 returns-5 c =
-    let s = c .before .before .before .args .self in
-    asked (c .before .enum-told5 .given .1) (end-answers s (c .ended2 .result) Peek (λ o l. refl) (c .ended2 .ensures))
+    let s = c .before .before .before .before .args .self in
+    asked (c .before .enum-told5 .given .1) (end-answers s (c .ended2 .result) Peek _ (λ o v l. refl) (c .ended2 .ensures))
 
 pub answer-spec : {M : Type 1} → statement M
 answer-spec =
@@ -68,7 +66,7 @@ answer-spec =
     enum-told-2
     read-requires
     enum-told-3
-    none-requires-2
+    push-answer-requires
     enum-told-4
     ended-requires
     enum-told-5

@@ -35,7 +35,7 @@ returns c = at-op (c .before .enum-told .given .1) (c .written .ensures)
 
 returns-2 : tie.Need-returns-2
 returns-2 c =
-    at-op (c .enum-told2 .given .1) (kept (c .before .before .args .self) (c .before .before .pre .0) Read _ (λ o l. refl))
+    at-op (c .enum-told2 .given .1) (kept (c .before .before .before .args .self) (c .before .before .before .pre .0) Read _ (λ o l. refl))
 
 returns-3 : tie.Need-returns-3
 returns-3 c = at-op (c .before .enum-told3 .given .1) (c .pushed .ensures)
@@ -45,7 +45,7 @@ returns-4 c = at-op (c .before .enum-told4 .given .1) (c .popped .ensures _)
 
 returns-5 : tie.Need-returns-5
 returns-5 c =
-    at-op (c .enum-told5 .given .1) (kept (c .before .before .args .self) (c .before .before .pre .0) Peek _ (λ o l. refl))
+    at-op (c .enum-told5 .given .1) (kept (c .before .before .before .args .self) (c .before .before .before .pre .0) Peek _ (λ o l. refl))
 
 pub changed-spec : {M : Type 1} → statement M
 changed-spec =

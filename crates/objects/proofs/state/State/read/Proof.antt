@@ -57,13 +57,13 @@ loop-again c =
     )
 
 returns : tie.Need-returns Inv-loop μ-loop
-returns c =
+returns c number =
     let s = c .before .before .before .args .self in
     let len = plain (s .numbers) (c .before .before .before .good .0 .1 .1 .0 .1 .0 .1) in
     let n = c .before .before .«at-most-eight» .result in
     let m = c .before .before .«at-most-eight» .ensures in
     let e : c .before .loop .i ≡ n = omega arith in
-    read-answers s (c .before .loop .numbers) n (omega arith) (m .2) (m .1) (rw e at (c .before .loop .inv .2))
+    read-answers s (c .before .loop .numbers) n number (omega arith) (m .2) (m .1) (rw e at (c .before .loop .inv .2))
 
 pub read-spec : {M : Type 1} → statement M
 read-spec =
