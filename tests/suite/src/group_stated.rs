@@ -188,6 +188,18 @@ pub fn channels(comparer: &mut Comparer, _: &mut Random, _: usize) {
     say("0 comes back as 0", 1, "0 0 0 push 0 -\n1 0 0 push 0 0\n", "0,1", 0, None);
     say("0 comes back as nothing", 1, "0 0 0 push 0 -\n1 0 0 push 0 -\n", "0,1", 16, Some(1));
 
+    // As many pushes as a history can have, the first of them taken and the others refused.
+    let pushes = |taken: usize| -> String {
+        let answer = |e: usize| if e < taken { "-".to_string() } else { (200 + e).to_string() };
+        (0..64).map(|e| format!("{e} {} 0 push {} {}\n", e % 8, 200 + e, answer(e))).collect()
+    };
+    let all = (0..64).map(|e| e.to_string()).collect::<Vec<_>>().join(",");
+    say("9 slots", 9, &pushes(9), &all, 0, None);
+    say("63 slots", 63, &pushes(63), &all, 0, None);
+    say("64 slots", 64, &pushes(64), &all, 0, None);
+    say("63 slots, the 64th push as taken", 63, &pushes(64), &all, 16, Some(63));
+    say("64 slots, the 64th push as refused", 64, &pushes(63), &all, 16, Some(63));
+
     // The other criteria on two pushes for one slot.
     let two = |first: &str, second: &str| {
         format!("{HEAD}0 channel 1\n{EVENTS}0 0 0 push 5 {first}\n1 1 0 push 6 {second}\n").into_bytes()
