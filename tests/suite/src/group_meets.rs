@@ -183,10 +183,39 @@ fn has_refused(history: &History) -> bool {
     history.events.iter().any(|event| event.op == Op::Push && answered(event))
 }
 
+/// Whether the history meets the criterion by the brute force; some certificate must be accepted exactly then.
+fn meets_as_accepted(comparer: &mut Comparer, brute: &mut Brute, history: &History, criterion: Criterion) -> bool {
+    let meets = brute.meets(history, criterion);
+    let accepted = if history.events.len() == 5 {
+        some_accepted_by_turns(comparer, brute, history, criterion)
+    } else {
+        some_accepted(comparer, brute, history, criterion)
+    };
+    if !comparer.done() {
+        comparer.note(meets == accepted, || {
+            let text = String::from_utf8_lossy(&history.text()).into_owned();
+            format!("{criterion:?}: the history meets it: {meets}; some certificate is accepted: {accepted}\n{text}")
+        });
+    }
+    meets
+}
+
+/// How many histories broke and met each criterion.
+type Outcomes = [[usize; 2]; 5];
+
+/// Each criterion was met by some of the histories and broken by some, or the group says nothing.
+fn both_came(comparer: &mut Comparer, outcomes: Outcomes, which: &str) {
+    for criterion in CRITERIA {
+        let [broken, met] = outcomes[criterion as usize];
+        let say = || format!("{criterion:?}: met by {met} histories {which}, broken by {broken}");
+        comparer.note(broken > 4 && met > 4, say);
+    }
+}
+
 /// Exhaustive: a history meets a criterion exactly when some certificate is accepted, with lost answers or without.
 pub fn exhaustive(comparer: &mut Comparer, random: &mut Random, rounds: usize) {
     let mut brute = Brute::default();
-    let mut outcomes = [[[0; 2]; 3]; 5];
+    let mut outcomes = [Outcomes::default(); 2];
     for round in 0..rounds.div_ceil(5) {
         // Four or five events now and then: their certificates are many.
         let events = match round % 64 {
@@ -196,34 +225,45 @@ pub fn exhaustive(comparer: &mut Comparer, random: &mut Random, rounds: usize) {
         };
         let history = small_of_each(random, events);
         for criterion in CRITERIA {
-            let meets = brute.meets(&history, criterion);
-            let which = [!history.has_lost(), history.has_lost(), has_refused(&history)];
-            for which in (0..3).filter(|place| which[*place]) {
-                outcomes[criterion as usize][which][usize::from(meets)] += 1;
-            }
-            let accepted = if events == 5 {
-                some_accepted_by_turns(comparer, &mut brute, &history, criterion)
-            } else {
-                some_accepted(comparer, &mut brute, &history, criterion)
-            };
+            let meets = meets_as_accepted(comparer, &mut brute, &history, criterion);
+            outcomes[usize::from(history.has_lost())][criterion as usize][usize::from(meets)] += 1;
             if comparer.done() {
                 return;
             }
-            comparer.note(meets == accepted, || {
-                let text = String::from_utf8_lossy(&history.text()).into_owned();
-                format!("{criterion:?}: the history meets it: {meets}; some certificate is accepted: {accepted}\n{text}")
-            });
         }
     }
-    // Each criterion was met by some of the histories and broken by some, or the group says nothing.
     if rounds >= 500 {
+        both_came(comparer, outcomes[0], "with none lost");
+        both_came(comparer, outcomes[1], "with lost answers");
+    }
+}
+
+/// The same of small histories of a channel in which a push was refused.
+pub fn refused(comparer: &mut Comparer, random: &mut Random, rounds: usize) {
+    let mut brute = Brute::default();
+    let mut outcomes = Outcomes::default();
+    for round in 0..rounds.div_ceil(10) {
+        let events = if round % 8 == 7 { 4 } else { 2 + random.under(2) };
+        let certify = random.once_in(2);
+        let history = loop {
+            let mut drawn = small_channel(random, events);
+            if certify {
+                nearly_certified(random, &mut drawn);
+            }
+            if has_refused(&drawn) {
+                break drawn;
+            }
+        };
         for criterion in CRITERIA {
-            for (which, [broken, met]) in outcomes[criterion as usize].into_iter().enumerate() {
-                let which = ["with none lost", "with lost answers", "with a refused push"][which];
-                let say = || format!("{criterion:?}: met by {met} histories {which}, broken by {broken}");
-                comparer.note(broken > 4 && met > 4, say);
+            let meets = meets_as_accepted(comparer, &mut brute, &history, criterion);
+            outcomes[criterion as usize][usize::from(meets)] += 1;
+            if comparer.done() {
+                return;
             }
         }
+    }
+    if rounds >= 500 {
+        both_came(comparer, outcomes, "with a refused push");
     }
 }
 

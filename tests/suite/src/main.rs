@@ -75,6 +75,7 @@ const GROUPS: &[Group] = &[
     ("limits of width", group_limits::widths),
     ("the last slot of every capacity", group_channels::last_slot),
     ("channels that get full", group_channels::crowds),
+    ("channels, brute force and check", group_meets::refused),
     ("channels, criteria apart", group_meets::channels_apart),
 ];
 
