@@ -162,9 +162,11 @@ impl<'c> Comparer<'c> {
         let given = run(self.checker, call, history, certificate);
         let expected = run(&self.model, call, history, certificate);
         *self.answers.entry((call.name(), given.answer)).or_default() += 1;
-        for (part, name) in [(&b" ?\n"[..], CHECK_OF_LOST), (b" channel ", CHECK_OF_CHANNEL)] {
-            if call == Call::Check && history.windows(part.len()).any(|bytes| bytes == part) {
-                *self.answers.entry((name, given.answer)).or_default() += 1;
+        if call == Call::Check && !self.until_first {
+            for (part, name) in [(&b" ?\n"[..], CHECK_OF_LOST), (b" channel ", CHECK_OF_CHANNEL)] {
+                if history.windows(part.len()).any(|bytes| bytes == part) {
+                    *self.answers.entry((name, given.answer)).or_default() += 1;
+                }
             }
         }
         if given.places.length >= 7 && !self.until_first {

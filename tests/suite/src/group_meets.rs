@@ -243,7 +243,7 @@ pub fn refused(comparer: &mut Comparer, random: &mut Random, rounds: usize) {
     let mut brute = Brute::default();
     let mut outcomes = Outcomes::default();
     for round in 0..rounds.div_ceil(10) {
-        let events = if round % 8 == 7 { 4 } else { 2 + random.under(2) };
+        let events = if round % 16 == 15 { 4 } else { 2 + random.under(2) };
         let certify = random.once_in(2);
         let history = loop {
             let mut drawn = small_channel(random, events);

@@ -250,6 +250,14 @@ pub fn channels(comparer: &mut Comparer, _: &mut Random, _: usize) {
     let recorded = format!("{HEAD}0 channel 1\n{EVENTS}0 0 0 push 5 -\n1 1 0 push 6 6\n2 2 0 pop - 6\n");
     let views = "view order\n0 0,1,2\n1 0,1,2\n2 1,0,2\n";
     say("a push recorded as refused is taken in another view", recorded.as_bytes(), Pram, views, 0, None);
+    // Each channel has its own slots, beside a queue that has no capacity.
+    let lines = "0 0 0 push 4 -\n1 0 1 push 5 -\n2 0 2 push 6 -\n3 0 0 push 7 7\n4 0 1 push 8 -\n5 0 2 push 9 -\n";
+    let more = "6 0 1 push 3 3\n7 0 0 pop - 4\n8 0 1 pop - 5\n9 0 2 pop - 6\n";
+    let beside = format!("{HEAD}0 channel 1\n1 channel 2\n2 queue -\n{EVENTS}{lines}{more}");
+    let whole = "view order\n0 0,1,2,3,4,5,6,7,8,9\n";
+    say("two channels and a queue", beside.as_bytes(), Sequential, whole, 0, None);
+    let turned = beside.replace("0 channel 1\n1 channel 2\n", "0 channel 2\n1 channel 1\n");
+    say("their capacities changed about", turned.as_bytes(), Sequential, whole, 16, Some((0, 3)));
 }
 
 const HEAD: &str = "object kind width\n";
@@ -307,7 +315,7 @@ fn history_cases() -> Vec<(String, u32, u32, String)> {
         add(format!("{HEAD}{many}{line}\n{EVENTS}"), answer, 18, line);
     }
     // The lines of events: object 0 a channel, alone. Any one value may be the answer of its push.
-    for (line, answer) in [
+    let of_channels = [
         ("0 0 0 push 7 -", 0), ("0 0 0 push 7 7", 0), ("0 0 0 push 7 6", 0), ("0 0 0 push 0 65535", 0),
         ("0 0 0 push 7 ?", 0), ("0 0 0 pop - -", 0), ("0 0 0 pop - 7", 0), ("0 0 0 pop - ?", 0),
         ("0 0 0 peek - -", 0), ("0 0 0 peek - 7", 0), ("0 0 0 peek - ?", 0),
@@ -318,11 +326,10 @@ fn history_cases() -> Vec<(String, u32, u32, String)> {
         ("0 0 0 push 7 65536", 3), ("0 0 0 push 65536 -", 3), ("0 0 0 push 7 7,65536", 3), ("0 0 1 push 7 7", 3),
         ("0 8 0 push 7 7", 3), ("0 0 0 push 7 07", 2), ("0 0 0 push 7 7,", 2), ("0 0 0 push 7 7,?", 2),
         ("0 0 0 push 7 -,7", 2), ("0 0 0 push 7", 2),
-    ] {
-        for capacity in [1, 2, 64] {
-            let text = format!("{HEAD}0 channel {capacity}\n{EVENTS}{line}\n");
-            add(text, answer, if answer == 0 { NONE } else { 4 }, if answer == 0 { "" } else { line });
-        }
+    ];
+    for ((line, answer), capacity) in of_channels.into_iter().zip([1, 64, 2, 8].into_iter().cycle()) {
+        let text = format!("{HEAD}0 channel {capacity}\n{EVENTS}{line}\n");
+        add(text, answer, if answer == 0 { NONE } else { 4 }, if answer == 0 { "" } else { line });
     }
     // A push onto a queue or a stack answers nothing, beside a channel too.
     for (line, answer) in [

@@ -573,6 +573,16 @@ wrong_rules!(PopsFreeNoSlot CheckRules {
     }
 });
 
+wrong_rules!(OneCapacityForAll CheckRules {
+    fn replay(&self, history: &History, order: &[usize], visible: &dyn Fn(usize) -> bool) -> Option<usize> {
+        let is_channel = |object: &&mut Object| object.kind == Kind::Channel;
+        let mut changed = history.clone();
+        let first = history.objects.iter().find(|object| object.kind == Kind::Channel).and_then(|object| object.width);
+        changed.objects.iter_mut().filter(is_channel).for_each(|object| object.width = first);
+        Document01.replay(&changed, order, visible)
+    }
+});
+
 wrong_rules!(CapacityLimitedByEight HistoryRules {
     fn width_limit(&self, _: Kind) -> u64 {
         8
@@ -997,6 +1007,7 @@ pub fn wrong_checkers() -> Vec<(&'static str, Box<dyn Checker>)> {
         model("a push whose answer isn't visible goes in though the channel is full", UnseenPushesGoIn),
         model("a push whose answer is lost goes in though the channel is full", LostPushesGoIn),
         model("a pop frees no slot", PopsFreeNoSlot),
+        model("all channels have the capacity of the first", OneCapacityForAll),
         model("a capacity is limited by 8", CapacityLimitedByEight),
         model("a capacity of 64 is refused", CapacityBelowSixtyFour),
         model("a capacity of 65 is read", CapacitySixtyFiveRead),
