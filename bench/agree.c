@@ -90,17 +90,64 @@ static unsigned value_at(const struct text *t, size_t a, size_t b) {
 }
 
 static const char *const words[] = {
-    "register", "queue", "stack", "window", "write", "read", "push", "pop", "peek", "pram", "weak", "causal", "converge",
-    "sequential", "-", "0", "7", "8", "9", "15", "16", "63", "64", "65535", "65536", "99999999999999999999", "00",
-    "1,2,3,4,5,6,7,8,9", "?", "?,7", "??",
+    "register", "queue", "stack", "window", "channel", "write", "read", "push", "pop", "peek", "pram", "weak", "causal",
+    "converge", "sequential", "-", "0", "7", "8", "9", "15", "16", "63", "64", "65", "65535", "65536",
+    "99999999999999999999", "00", "1,2,3,4,5,6,7,8,9", "?", "?,7", "??",
 };
+
+/* Where the heading of the events starts, or the end of a text without one. */
+static size_t events_of(const struct text *t) {
+    static const char heading[] = "event process object op value answer\n";
+    const size_t n = sizeof heading - 1;
+    size_t a = 0;
+    while (a + n <= t->length && memcmp(t->bytes + a, heading, n) != 0) a++;
+    return a + n <= t->length ? a : t->length;
+}
+
+/* Another width for some object, often at a limit or past it: the last field of a line above the heading of the events. */
+static void other_width(struct text *t) {
+    static const char *const widths[] = {"-", "0", "1", "2", "3", "4", "8", "9", "63", "64", "65", "256"};
+    const size_t end = events_of(t);
+    if (end == t->length || end == 0) return;
+    size_t b = draw((unsigned)end);
+    while (t->bytes[b] != '\n') b++;
+    size_t a = b;
+    while (a > 0 && t->bytes[a - 1] != ' ' && t->bytes[a - 1] != '\n') a--;
+    const char *w = widths[draw(sizeof widths / sizeof widths[0])];
+    replace(t, a, b, (const uint8_t *)w, strlen(w));
+}
+
+/* Another answer for some push: the pushed value where it answered nothing, else nothing, or some number. */
+static void other_answer(struct text *t) {
+    static const char word[] = " push ";
+    const size_t n = sizeof word - 1;
+    size_t a = t->length == 0 ? 0 : draw((unsigned)t->length);
+    while (a + n <= t->length && memcmp(t->bytes + a, word, n) != 0) a++;
+    if (a + n > t->length) return;
+    a += n;
+    size_t b = a; /* the value is from a to b, the answer from c to d */
+    while (b < t->length && t->bytes[b] != ' ' && t->bytes[b] != '\n') b++;
+    if (b == t->length || t->bytes[b] == '\n') return;
+    const size_t c = b + 1;
+    size_t d = c;
+    while (d < t->length && t->bytes[d] != '\n') d++;
+    uint8_t value[32];
+    const size_t length = b - a < sizeof value ? b - a : sizeof value;
+    memcpy(value, t->bytes + a, length);
+    if (draw(4) == 0)
+        put_number(t, c, d, "", draw(4));
+    else if (d - c == 1 && t->bytes[c] == '-')
+        replace(t, c, d, value, length);
+    else
+        replace(t, c, d, (const uint8_t *)"-", 1);
+}
 
 static void damage(struct text *t) {
     static const char bytes[] = "0123456789-, \n\nabw?";
     size_t a = 0, b = 0, c = 0, d = 0;
     const size_t at = t->length == 0 ? 0 : draw((unsigned)t->length);
     const uint8_t byte = draw(40) == 0 ? (uint8_t)draw(256) : (uint8_t)bytes[draw(sizeof bytes - 1)];
-    const unsigned which = draw(17);
+    const unsigned which = draw(19);
     switch (which) {
     case 0: /* another byte */
         if (t->length > 0) t->bytes[at] = byte;
@@ -166,6 +213,12 @@ static void damage(struct text *t) {
             put_number(t, a, b, "", w);
         }
         break;
+    case 12:
+        other_width(t);
+        break;
+    case 13:
+        other_answer(t);
+        break;
     default: /* another number */
         if (some_number(t, &a, &b)) {
             const unsigned v = value_at(t, a, b);
@@ -177,11 +230,9 @@ static void damage(struct text *t) {
 
 /* Loses one answer in so many: the last field of a line below the heading of the events becomes `?`. */
 static void lose(struct text *t, unsigned rarity) {
-    static const char heading[] = "event process object op value answer\n";
-    const size_t n = sizeof heading - 1;
-    size_t a = 0;
-    while (a + n <= t->length && memcmp(t->bytes + a, heading, n) != 0) a++;
-    for (a += n; a < t->length; a++) {
+    size_t a = events_of(t);
+    while (a < t->length && t->bytes[a] != '\n') a++;
+    for (a++; a < t->length; a++) {
         size_t field = a; /* where the line's last field starts */
         while (a < t->length && t->bytes[a] != '\n') {
             if (t->bytes[a] == ' ') field = a + 1;

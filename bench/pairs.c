@@ -10,10 +10,10 @@
 #include <string.h>
 
 enum { EVENTS = 64, OBJECTS = 16, PROCESSES = 8, WIDTH = 8 };
-enum kind { REGISTER, QUEUE, STACK, WINDOW };
+enum kind { REGISTER, QUEUE, STACK, WINDOW, CHANNEL };
 enum op { WRITE, READ, PUSH, POP, PEEK };
 
-static const char *const kinds[] = {"register", "queue", "stack", "window"};
+static const char *const kinds[] = {"register", "queue", "stack", "window", "channel"};
 static const char *const ops[] = {"write", "read", "push", "pop", "peek"};
 
 struct answer {
@@ -69,7 +69,11 @@ static struct answer answer_in(const struct run *r, const struct list *view) {
         const struct event *e = &r->events[view->events[i]];
         if (e->object != object) continue;
         a.length = 0;
-        if (e->op == WRITE || e->op == PUSH) values[held++] = e->value;
+        const bool full = kind == CHANNEL && held == r->widths[object];
+        if (e->op == PUSH && full)
+            a.values[a.length++] = e->value;
+        else if (e->op == WRITE || e->op == PUSH)
+            values[held++] = e->value;
         if (e->op == WRITE) memmove(values, values + 1, --held * sizeof values[0]);
         if (e->op == READ)
             while (a.length < held) {
@@ -77,18 +81,19 @@ static struct answer answer_in(const struct run *r, const struct list *view) {
                 a.length++;
             }
         if ((e->op == POP || e->op == PEEK) && held > 0) {
-            a.values[a.length++] = kind == QUEUE ? values[0] : values[held - 1];
-            if (e->op == POP && kind == QUEUE) memmove(values, values + 1, (held - 1) * sizeof values[0]);
+            a.values[a.length++] = kind == STACK ? values[held - 1] : values[0];
+            if (e->op == POP && kind != STACK) memmove(values, values + 1, (held - 1) * sizeof values[0]);
             if (e->op == POP) held--;
         }
     }
     return a;
 }
 
-static void draw_events(struct run *r, uint64_t *seed) {
+/* The first four kinds in turn; or channels of one to three slots, onto which more is pushed than they hold. */
+static void draw_events(struct run *r, uint64_t *seed, bool channels) {
     for (unsigned o = 0; o < r->objects; o++) {
-        r->kinds[o] = (enum kind)(o % 4);
-        r->widths[o] = r->kinds[o] == WINDOW ? 2 + o % 7 : 0;
+        r->kinds[o] = channels ? CHANNEL : (enum kind)(o % 4);
+        r->widths[o] = r->kinds[o] == CHANNEL ? 1 + o % 3 : r->kinds[o] == WINDOW ? 2 + o % 7 : 0;
     }
     for (unsigned i = 0; i < EVENTS; i++) {
         struct event *e = &r->events[i];
@@ -98,6 +103,8 @@ static void draw_events(struct run *r, uint64_t *seed) {
         const enum kind kind = r->kinds[e->object];
         if (kind == REGISTER || kind == WINDOW)
             e->op = which < 5 ? WRITE : READ;
+        else if (kind == CHANNEL)
+            e->op = which < 7 ? PUSH : which < 9 ? POP : PEEK;
         else
             e->op = which < 5 ? PUSH : which < 8 ? POP : PEEK;
         e->value = e->op == WRITE || e->op == PUSH ? below(seed, 65536) : 0;
@@ -179,7 +186,7 @@ static void put_history(struct text *t, const struct run *r) {
         put_number(t, o, " ");
         put(t, kinds[r->kinds[o]]);
         put(t, " ");
-        put_list(t, &r->widths[o], r->kinds[o] == WINDOW ? 1 : 0);
+        put_list(t, &r->widths[o], r->widths[o] != 0 ? 1 : 0);
     }
     put(t, "event process object op value answer\n");
     for (unsigned i = 0; i < EVENTS; i++) {
@@ -213,7 +220,7 @@ static void put_pasts(struct text *t, const struct run *r) {
 }
 
 static void make_pair(struct pair *pair, const char *name, const char *criterion, unsigned processes, unsigned objects,
-                      unsigned chance, uint64_t *seed) {
+                      unsigned chance, bool channels, uint64_t *seed) {
     static struct run run;
     struct run *r = &run;
     memset(r, 0, sizeof *r);
@@ -223,7 +230,7 @@ static void make_pair(struct pair *pair, const char *name, const char *criterion
     const bool weak = strcmp(criterion, "weak") == 0;
     const bool causal = strcmp(criterion, "causal") == 0;
     const bool converge = strcmp(criterion, "converge") == 0;
-    draw_events(r, seed);
+    draw_events(r, seed, channels);
     draw_run(r, seed, chance, pram);
     if (weak) drawn_views(r, seed);
     if (converge) rising_views(r);
@@ -258,10 +265,11 @@ static void make_pair(struct pair *pair, const char *name, const char *criterion
 }
 
 void make_pairs(struct pair pairs[PAIRS], uint64_t seed) {
-    make_pair(&pairs[0], "sequential", "sequential", 4, 6, 100, &seed);
-    make_pair(&pairs[1], "pram", "pram", 4, 6, 40, &seed);
-    make_pair(&pairs[2], "weak", "weak", 4, 6, 40, &seed);
-    make_pair(&pairs[3], "causal", "causal", 4, 6, 40, &seed);
-    make_pair(&pairs[4], "converge", "converge", 4, 6, 40, &seed);
-    make_pair(&pairs[5], "causal-full", "causal", 8, 16, 100, &seed);
+    make_pair(&pairs[0], "sequential", "sequential", 4, 6, 100, false, &seed);
+    make_pair(&pairs[1], "pram", "pram", 4, 6, 40, false, &seed);
+    make_pair(&pairs[2], "weak", "weak", 4, 6, 40, false, &seed);
+    make_pair(&pairs[3], "causal", "causal", 4, 6, 40, false, &seed);
+    make_pair(&pairs[4], "converge", "converge", 4, 6, 40, false, &seed);
+    make_pair(&pairs[5], "causal-full", "causal", 8, 16, 100, false, &seed);
+    make_pair(&pairs[6], "channels", "causal", 4, 6, 40, true, &seed);
 }

@@ -14,17 +14,18 @@ enum {
     EVENTS = 64,
     PROCESSES = 8,
     WIDTH = 8,
+    CAPACITY = 64,
     VALUES = 65536,
     LARGE = 100000, /* a number that has come so far is over every limit, and its further digits are only passed over */
 };
 
-enum kind { REGISTER, QUEUE, STACK, WINDOW, NO_KIND };
-enum op { WRITE, READ, PUSH, POP, PEEK, NO_OP };
+enum kind { REGISTER, QUEUE, STACK, WINDOW, CHANNEL, NO_KIND };
+enum op { WRITE, READ, PUSH, POP, PEEK, OFFER, NO_OP }; /* an offer is a push onto a channel, which may be full */
 enum criterion { PRAM, WEAK, CAUSAL, CONVERGE, SEQUENTIAL, NO_CRITERION };
 
 struct object {
     uint8_t kind;
-    uint8_t width; /* how many values a read answers */
+    uint8_t width; /* how many values a read answers, or a channel holds */
 };
 
 struct event {
@@ -117,6 +118,7 @@ static enum kind read_kind(struct lines *t) {
     if (PASS(t, "queue ")) return QUEUE;
     if (PASS(t, "stack ")) return STACK;
     if (PASS(t, "window ")) return WINDOW;
+    if (PASS(t, "channel ")) return CHANNEL;
     return NO_KIND;
 }
 
@@ -147,8 +149,8 @@ static uint32_t read_object(struct history *h, struct lines *t) {
     if (kind == NO_KIND) return 2;
     const bool dash = PASS(t, "-\n");
     if (!dash && !number(t, '\n', &width)) return 2;
-    if (own >= OBJECTS || width == 0 || width > WIDTH) return 3;
-    if (dash == (kind == WINDOW)) return 4;
+    if (own >= OBJECTS || width == 0 || width > (kind == CHANNEL ? CAPACITY : WIDTH)) return 3;
+    if (dash == (kind == WINDOW || kind == CHANNEL)) return 4;
     h->objects[h->declared++] = (struct object){(uint8_t)kind, (uint8_t)width};
     return 0;
 }
@@ -156,7 +158,7 @@ static uint32_t read_object(struct history *h, struct lines *t) {
 /* Whether an op of an object can answer so many values. */
 static bool can_answer(struct object o, enum op op, uint32_t length) {
     if (op == READ) return length == o.width;
-    if (op == POP || op == PEEK) return length <= 1;
+    if (op == POP || op == PEEK || op == OFFER) return length <= 1;
     return length == 0;
 }
 
@@ -167,7 +169,7 @@ static uint32_t read_event(struct history *h, struct lines *t) {
     if (!number(t, ' ', &own) || own != h->count) return 2;
     if (!number(t, ' ', &process)) return 2;
     if (!number(t, ' ', &object)) return 2;
-    const enum op op = read_op(t);
+    enum op op = read_op(t);
     if (op == NO_OP) return 2;
     const bool dash = PASS(t, "- ");
     if (!dash && !number(t, ' ', &value)) return 2;
@@ -186,9 +188,10 @@ static uint32_t read_event(struct history *h, struct lines *t) {
     }
     if (over || own >= EVENTS || process >= PROCESSES || object >= h->declared || value >= VALUES) return 3;
     const struct object o = h->objects[object];
-    const bool pushes = o.kind == QUEUE || o.kind == STACK; /* the kinds with push, pop and peek */
+    const bool pushes = o.kind == QUEUE || o.kind == STACK || o.kind == CHANNEL; /* the kinds with push, pop and peek */
     if (pushes == (op == WRITE || op == READ)) return 4;
     if (dash == (op == WRITE || op == PUSH)) return 4;
+    if (op == PUSH && o.kind == CHANNEL) op = OFFER;
     if (!lost && !can_answer(o, op, length)) return 5;
 
     e.process = (uint8_t)process;
@@ -386,6 +389,15 @@ static bool replay(const struct history *h, struct contents *s, const struct vie
         case PUSH:
             values[s->tail[o]++] = e->value;
             break;
+        case OFFER: {
+            const unsigned full = s->tail[o] - s->head[o] == h->objects[o].width;
+            if (seen) {
+                if (e->answered != full) return false;
+                if (full && e->answer[0] != e->value) return false;
+            }
+            if (!full) values[s->tail[o]++] = e->value;
+            break;
+        }
         default: { /* pop and peek */
             const unsigned held = s->head[o] != s->tail[o];
             const bool newest = h->objects[o].kind == STACK;

@@ -1,7 +1,7 @@
 /* Calls the archive as the fleet console does, on the sample dispenser Q: the check, its places, an event's line, both
- * texts read and written back, and a certificate weakened; and some of these with an answer lost. Then gives each
- * function NULL with length 0 for each of its slices. Prints a line each; make test compares them with
- * tests/call_from_c.out. */
+ * texts read and written back, and a certificate weakened; and some of these with an answer lost, and on a channel that
+ * gets full. Then gives each function NULL with length 0 for each of its slices. Prints a line each; make test compares
+ * them with tests/call_from_c.out. */
 #include <inttypes.h>
 #include <stdio.h>
 #include <string.h>
@@ -21,6 +21,13 @@ static const char lost[] =
     "event process object op value answer\n"
     "0 0 0 push 7 -\n"
     "1 1 0 pop - ?\n";
+
+static const char channel[] =
+    "object kind width\n"
+    "0 channel 1\n"
+    "event process object op value answer\n"
+    "0 0 0 push 5 -\n"
+    "1 1 0 push 6 6\n";
 
 static const char certificate[] =
     "criterion sequential\n"
@@ -48,21 +55,24 @@ static void weaken(const char *given, uint32_t wanted, size_t room) {
     printf("%.*s", (int)length, (const char *)buffer);
 }
 
-/* Q with the answer of event 1 lost: the certificate that Q refuses is accepted. */
-static void lose_answer(void) {
-    const size_t n = strlen(lost);
-    printf("check, lost: %" PRIu32 "\n", walnutgleam_check(bytes(lost), n, bytes(certificate), strlen(certificate)));
+/* A history in both orders of its two events, its event 1 shown, and the text read and written back. */
+static void both_orders(const char *name, const char *text) {
+    const size_t n = strlen(text);
+    uint32_t answer = walnutgleam_check(bytes(text), n, bytes(accepted), strlen(accepted));
+    printf("check, %s, 0,1: %" PRIu32 "\n", name, answer);
+    answer = walnutgleam_check(bytes(text), n, bytes(certificate), strlen(certificate));
+    printf("check, %s, 1,0: %" PRIu32 "\n", name, answer);
 
     uint64_t start = 99;
     uint64_t length = 99;
-    uint32_t answer = walnutgleam_show(bytes(lost), n, 1, &start, &length);
-    printf("show, lost: %" PRIu32 ": %.*s\n", answer, (int)length, lost + start);
+    answer = walnutgleam_show(bytes(text), n, 1, &start, &length);
+    printf("show, %s: %" PRIu32 ": %.*s\n", name, answer, (int)length, text + start);
 
     uint8_t buffer[128];
     memset(buffer, '.', sizeof buffer);
-    answer = walnutgleam_rewrite_history(bytes(lost), n, buffer, n, &length);
-    const char *const kept = memcmp(buffer, lost, n) == 0 && buffer[n] == '.' ? "same" : "other";
-    printf("history, lost: %" PRIu32 " %" PRIu64 " %s\n", answer, length, kept);
+    answer = walnutgleam_rewrite_history(bytes(text), n, buffer, n, &length);
+    const char *const kept = memcmp(buffer, text, n) == 0 && buffer[n] == '.' ? "same" : "other";
+    printf("history, %s: %" PRIu32 " %" PRIu64 " %s\n", name, answer, length, kept);
 }
 
 /* What the last call gave besides its answer. */
@@ -165,7 +175,9 @@ int main(void) {
     weaken(certificate, 2, 128);
     weaken("criterion sequential\nview ordre\n", 2, 128);
 
-    lose_answer();
+    /* Q with the answer of event 1 lost: the order that Q refuses is accepted. A channel of one slot, which event 0 had. */
+    both_orders("lost", lost);
+    both_orders("channel", channel);
     give_null();
     return 0;
 }

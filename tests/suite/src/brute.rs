@@ -5,8 +5,8 @@
 use std::collections::HashMap;
 
 use crate::certificate::Criterion;
-use crate::history::History;
-use crate::objects::{Kind, Op};
+use crate::history::{Event, History};
+use crate::objects::{Kind, Object, Op};
 
 /// A relation on n events, by bits: bit a of row b is set when a comes before b.
 pub type Order = Vec<u32>;
@@ -52,6 +52,23 @@ pub fn orderings(set: &[usize]) -> Vec<Vec<usize>> {
     found
 }
 
+/// What the pushes and pops on an object have left in it, the next one to go at the end: a stack takes new values
+/// there, a queue and a channel at the front.
+fn left_in<'h>(object: &Object, earlier: impl Iterator<Item = &'h Event>) -> Vec<u64> {
+    let mut held: Vec<u64> = vec![];
+    for other in earlier {
+        match (other.op, object.kind) {
+            // A full channel stays as it is.
+            (Op::Push, Kind::Channel) if held.len() == object.width.unwrap() => {}
+            (Op::Push, Kind::Stack) => held.push(other.value.unwrap()),
+            (Op::Push, _) => held.insert(0, other.value.unwrap()),
+            (Op::Pop, _) => drop(held.pop()),
+            _ => {}
+        }
+    }
+    held
+}
+
 /// The answer that an op gives after the ops that came before it on its object, found from the object's definition and not by
 /// states: the values written, or what the pops have left.
 fn answer_after(history: &History, earlier: &[usize], e: usize) -> Vec<u64> {
@@ -59,6 +76,10 @@ fn answer_after(history: &History, earlier: &[usize], e: usize) -> Vec<u64> {
     let object = &history.objects[event.object];
     let same = || earlier.iter().map(|f| &history.events[*f]).filter(|other| other.object == event.object);
     match event.op {
+        // The channel holds as many values as it can: the pushed one comes back.
+        Op::Push if object.kind == Kind::Channel && Some(left_in(object, same()).len()) == object.width => {
+            event.value.into_iter().collect()
+        }
         Op::Write | Op::Push => vec![],
         Op::Read => {
             let width = if object.kind == Kind::Window { object.width.unwrap() } else { 1 };
@@ -66,19 +87,7 @@ fn answer_after(history: &History, earlier: &[usize], e: usize) -> Vec<u64> {
             values.extend(same().filter_map(|other| other.value));
             values[values.len() - width..].to_vec()
         }
-        Op::Pop | Op::Peek => {
-            let mut held: Vec<u64> = vec![];
-            for other in same() {
-                match (other.op, object.kind) {
-                    (Op::Push, Kind::Queue) => held.insert(0, other.value.unwrap()),
-                    (Op::Push, _) => held.push(other.value.unwrap()),
-                    // The one to go is kept at the end in both: a queue takes new values at the front.
-                    (Op::Pop, _) => drop(held.pop()),
-                    _ => {}
-                }
-            }
-            held.last().copied().into_iter().collect()
-        }
+        Op::Pop | Op::Peek => left_in(object, same()).last().copied().into_iter().collect(),
     }
 }
 

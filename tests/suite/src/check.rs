@@ -195,7 +195,7 @@ pub trait Rules: HistoryRules + CertificateRules + CheckRules {
     }
 }
 
-/// Document 01's rules with T-01 of document 02, the lost answers: every default above.
+/// Document 01's rules with T-01 and T-02 of document 02, the lost answers and the channels: every default above.
 pub struct Document01;
 
 impl ObjectRules for Document01 {}

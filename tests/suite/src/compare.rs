@@ -100,6 +100,9 @@ pub fn crop(bytes: &[u8]) -> String {
 /// The check of a history text in which the answer of a line is lost.
 pub const CHECK_OF_LOST: &str = "check with a lost answer";
 
+/// The check of a history text with a channel.
+pub const CHECK_OF_CHANNEL: &str = "check with a channel";
+
 /// Compares a checker with the model and keeps the counts.
 pub struct Comparer<'c> {
     pub checker: &'c dyn Checker,
@@ -159,8 +162,12 @@ impl<'c> Comparer<'c> {
         let given = run(self.checker, call, history, certificate);
         let expected = run(&self.model, call, history, certificate);
         *self.answers.entry((call.name(), given.answer)).or_default() += 1;
-        if call == Call::Check && history.windows(3).any(|bytes| bytes == b" ?\n") {
-            *self.answers.entry((CHECK_OF_LOST, given.answer)).or_default() += 1;
+        if call == Call::Check && !self.until_first {
+            for (part, name) in [(&b" ?\n"[..], CHECK_OF_LOST), (b" channel ", CHECK_OF_CHANNEL)] {
+                if history.windows(part.len()).any(|bytes| bytes == part) {
+                    *self.answers.entry((name, given.answer)).or_default() += 1;
+                }
+            }
         }
         if given.places.length >= 7 && !self.until_first {
             let part = &given.places.all[given.places.start..];

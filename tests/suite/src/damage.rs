@@ -1,9 +1,9 @@
 //! Damage done to records and to texts.
 
 use crate::certificate::{Certificate, Criterion, View};
-use crate::history::History;
+use crate::history::{History, CAPACITY_LIMIT};
 use crate::make::random_answer;
-use crate::objects::Op;
+use crate::objects::{Kind, Op, KINDS};
 use crate::random::Random;
 
 /// Changes one thing in a certificate's lists, so that it is still readable most of the time.
@@ -104,7 +104,8 @@ pub fn damage_history(random: &mut Random, history: &mut History) {
     let place = random.under(history.events.len());
     let other = random_answer(random, history, place, 4);
     let event = &mut history.events[place];
-    match random.under(7) {
+    let object = &mut history.objects[event.object];
+    match random.under(8) {
         0 => event.process = random.under(8),
         1 => {
             if let Some(value) = &mut event.value {
@@ -119,9 +120,11 @@ pub fn damage_history(random: &mut Random, history: &mut History) {
             }
         }
         3 => {
-            if matches!(event.op, Op::Pop | Op::Peek) {
+            // A pop or a peek finds nothing, or the reverse; a push onto a channel is refused, or the reverse.
+            if object.answer_lengths(event.op) == [0, 1] {
                 let empty = event.answer.as_ref().is_some_and(|answer| answer.is_empty());
-                event.answer = Some(if empty { vec![random.next() % 4] } else { vec![] });
+                let value = event.value.unwrap_or(random.next() % 4);
+                event.answer = Some(if empty { vec![value] } else { vec![] });
             }
         }
         4 => {
@@ -131,6 +134,14 @@ pub fn damage_history(random: &mut Random, history: &mut History) {
         }
         // An answer is lost, or one that was lost is there.
         5 => event.answer = if event.answer.is_some() { None } else { Some(other) },
+        6 => {
+            // A channel with a slot more or less.
+            if object.kind == Kind::Channel {
+                let capacity = object.capacity();
+                let more = capacity == 1 || capacity < CAPACITY_LIMIT as usize && random.once_in(2);
+                object.width = Some(if more { capacity + 1 } else { capacity - 1 });
+            }
+        }
         _ => match &mut event.answer {
             Some(answer) if !answer.is_empty() => {
                 let item = random.under(answer.len());
@@ -176,7 +187,7 @@ pub fn damage_text(random: &mut Random, text: &mut Vec<u8>) {
     let starts = line_starts(text);
     let lines = starts.len() - 1;
     let line_of = |number: usize| starts[number]..starts[number + 1];
-    match random.under(17) {
+    match random.under(18) {
         0 | 1 => text[place] = *random.pick(BYTES),
         2 => text[place] = random.next() as u8,
         3 => {
@@ -238,6 +249,13 @@ pub fn damage_text(random: &mut Random, text: &mut Vec<u8>) {
                 text.splice(space + 1..end, *b"?");
             }
         }
+        16 => {
+            // The kind of an object becomes another one, its width as it was.
+            let (old, new) = (random.pick(&KINDS).1, random.pick(&KINDS).1);
+            if let Some(at) = text.windows(old.len()).position(|word| word == old.as_bytes()) {
+                text.splice(at..at + old.len(), new.bytes());
+            }
+        }
         _ => {
             // A line moved to the end of the text.
             let range = line_of(random.under(lines));
@@ -253,7 +271,7 @@ pub fn random_bytes(random: &mut Random, limit: usize) -> Vec<u8> {
     let words = [
         "object kind width\n", "event process object op value answer\n", "criterion weak\n", "criterion pram\n", "event past\n",
         "view order\n", "0 queue -\n", "0 0 0 push 7 -\n", "0 0 0 pop - ?\n", " ", "\n", ",", "-", "?", "0", "1",
-        "read", "window",
+        "read", "window", "0 channel 1\n", "0 0 0 push 7 7\n",
     ];
     match random.under(3) {
         0 => (0..length).map(|_| random.next() as u8).collect(),

@@ -1,11 +1,11 @@
-//! Texts at the limits of their lengths and one byte past them, and the longest readable ones.
+//! Texts at the limits of their lengths and one byte past them, the longest readable ones, and the limits of widths.
 
 use crate::certificate::{Certificate, Criterion, CERTIFICATE_LIMIT};
 use crate::compare::{Call, Comparer};
 use crate::history::{Event, History, HISTORY_LIMIT};
-use crate::objects::{Kind, Op};
+use crate::objects::{Kind, Op, KINDS};
 use crate::random::Random;
-use crate::samples::{object, q, window, with_lost};
+use crate::samples::{channel, object, q, window, with_lost};
 
 /// The history with the longest text.
 pub fn longest_history() -> History {
@@ -95,18 +95,57 @@ pub fn limits(comparer: &mut Comparer, random: &mut Random, _: usize) {
         // The lengths of the longest texts that are readable, counted by hand.
         assert_eq!((h.len(), c.len()), (4_289, 24_339), "the longest readable texts");
     }
+    // A channel with a capacity of two digits has as long a line as a register.
+    let mut channels = longest.clone();
+    channels.objects[..15].fill(channel(64));
+    let channels = channels.text();
+    if !comparer.until_first {
+        assert_eq!(channels.len(), h.len(), "the longest readable text with channels");
+    }
     let all: Vec<usize> = (0..64).collect();
     let lost = with_lost(longest, &all).text();
     if !comparer.until_first {
         // A `?` for eight values of five digits with their commas, in each of 64 lines.
         assert_eq!(lost.len(), h.len() - 64 * (8 * 6 - 2), "the text with every answer lost");
     }
-    for h in [&h, &lost] {
+    for h in [&h, &channels, &lost] {
         comparer.check(h, &c);
         for (length, call) in [(h.len(), true), (c.len(), false)] {
             for buffer in [0, 1, length - 1, length, length + 1, length + 1 + random.under(9)] {
                 let call = if call { Call::RewriteHistory { buffer } } else { Call::RewriteCertificate { buffer } };
                 comparer.compare(call, h, &c);
+            }
+        }
+    }
+}
+
+/// Every kind with `-` and with every width up to past the largest limit, the answers stated here by hand: alone, as
+/// the last of 16 objects and as the 17th. What is read is written back with its width.
+pub fn widths(comparer: &mut Comparer, _: &mut Random, _: usize) {
+    let certificate: &[u8] = b"criterion sequential\nview order\n0 -\n";
+    let head = "object kind width\n";
+    let fifteen: String = (0..15).map(|number| format!("{number} stack -\n")).collect();
+    let sixteen = format!("{fifteen}15 stack -\n");
+    for (kind, word) in KINDS {
+        for width in std::iter::once("-".to_string()).chain((0..=130).map(|width| width.to_string())) {
+            let number: Option<u32> = width.parse().ok();
+            let stated = match (kind, number) {
+                (Kind::Channel, Some(1..=64)) | (Kind::Window, Some(1..=8)) => 0,
+                (Kind::Channel | Kind::Window, None) => 4,
+                (Kind::Register | Kind::Queue | Kind::Stack, None) => 0,
+                (Kind::Register | Kind::Queue | Kind::Stack, Some(1..=8)) => 4,
+                (_, Some(_)) => 3,
+            };
+            for (before, own, stated) in [("", 0, stated), (&fifteen, 15, stated), (&sixteen, 16, 3)] {
+                let text = format!("{head}{before}{own} {word} {width}\nevent process object op value answer\n");
+                let answer = comparer.check(text.as_bytes(), certificate);
+                comparer.compare(Call::RewriteHistory { buffer: text.len() }, text.as_bytes(), certificate);
+                if comparer.done() {
+                    return;
+                }
+                comparer.note(answer == stated, || {
+                    format!("object {own} {word} {width}: given {answer}, stated {stated}")
+                });
             }
         }
     }

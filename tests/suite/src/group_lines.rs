@@ -63,10 +63,13 @@ fn step(comparer: &Comparer, of: usize) -> usize {
 
 /// Lines of objects, as the first, the second and the 17th.
 pub fn objects(comparer: &mut Comparer, _: &mut Random, _: usize) {
-    let kinds = ["register", "queue", "stack", "window", "windows", "Queue", "", "0", "-", "read"];
+    let kinds = [
+        "register", "queue", "stack", "window", "channel", "windows", "Queue", "channels", "", "0", "-", "read",
+    ];
     let widths = [
-        "-", "0", "1", "2", "8", "9", "10", "255", "256", "257", "65536", "65537", "4294967297", "18446744073709551617", "00", "01",
-        "+1", "-1", "--", "", "1,2", "x", "1x", "99999999999999999999999999999999", "?",
+        "-", "0", "1", "2", "8", "9", "10", "63", "64", "65", "255", "256", "257", "320", "65536", "65537",
+        "4294967297", "18446744073709551617", "00", "01", "064", "+1", "-1", "--", "", "1,2", "64,", "x", "1x",
+        "99999999999999999999999999999999", "?",
     ];
     let many: String = (0..16).map(|number| format!("{number} stack -\n")).collect();
     let owns: [(&str, [&str; 6]); 3] = [
@@ -82,13 +85,14 @@ pub fn objects(comparer: &mut Comparer, _: &mut Random, _: usize) {
                 comparer.check(text.as_bytes(), b"");
             });
         }
-        let good = format!("{} window 3", owns[0]);
-        for line in spoilt(&good) {
-            for end in ["\n", ""] {
-                let text = format!("{HEAD}{before}{line}{end}");
-                comparer.check(text.as_bytes(), b"");
-                let text = format!("{HEAD}{before}{line}{end}{EVENTS}");
-                comparer.check(text.as_bytes(), b"");
+        for good in [format!("{} window 3", owns[0]), format!("{} channel 37", owns[0])] {
+            for line in spoilt(&good) {
+                for end in ["\n", ""] {
+                    let text = format!("{HEAD}{before}{line}{end}");
+                    comparer.check(text.as_bytes(), b"");
+                    let text = format!("{HEAD}{before}{line}{end}{EVENTS}");
+                    comparer.check(text.as_bytes(), b"");
+                }
             }
         }
     }
@@ -102,15 +106,15 @@ pub fn objects(comparer: &mut Comparer, _: &mut Random, _: usize) {
 /// Lines of events, as the first and as the 65th.
 pub fn events(comparer: &mut Comparer, _: &mut Random, _: usize) {
     let processes = ["0", "7", "8", "256", "00", "-", "4294967296"];
-    let objects = ["0", "1", "2", "3", "4", "65536", "-", "01"];
+    let objects = ["0", "1", "2", "3", "4", "5", "65536", "-", "01"];
     let ops = ["write", "read", "push", "pop", "peek", "reads", ""];
     let values = ["-", "0", "65535", "65536", "07", "18446744073709551616", "", "4294967297", "?"];
     let answers = [
         "-", "0", "65535", "65536", "1,2", "1,65536", "1,2,3", "1,", ",1", "01", "-,1", "", "18446744073709551616,1",
         "?", "?,1", "1,?", "??", "-?",
     ];
-    let four = "0 register -\n1 queue -\n2 stack -\n3 window 2\n";
-    let base = format!("{HEAD}{four}{EVENTS}");
+    let five = "0 register -\n1 queue -\n2 stack -\n3 window 2\n4 channel 1\n";
+    let base = format!("{HEAD}{five}{EVENTS}");
     let wide = step(comparer, 11);
     products(&[&["0", "1", "00", "-"], &processes, &objects, &ops, &values, &answers], wide * 3, |line| {
         let text = format!("{base}{line}\n");
@@ -118,11 +122,11 @@ pub fn events(comparer: &mut Comparer, _: &mut Random, _: usize) {
     });
     let full: String = (0..64).map(|number| format!("{number} 1 1 peek - -\n")).collect();
     let few = ["-", "0", "1,2", "1,", "65536", "?", "?,"];
-    products(&[&["64", "65", "63"], &["0", "8"], &["0", "3", "4"], &ops, &values, &few], wide * 5, |line| {
+    products(&[&["64", "65", "63"], &["0", "8"], &["0", "3", "4", "5"], &ops, &values, &few], wide * 5, |line| {
         let text = format!("{base}{full}{line}\n");
         comparer.check(text.as_bytes(), b"");
     });
-    let recorded = ["0 5 0 write 12 -", "0 5 3 read - 12,34", "0 0 1 pop - 12"];
+    let recorded = ["0 5 0 write 12 -", "0 5 3 read - 12,34", "0 0 1 pop - 12", "0 5 4 push 12 12"];
     let lost = ["0 5 0 write 12 ?", "0 5 3 read - ?", "0 0 1 pop - ?"];
     for good in recorded.into_iter().chain(lost) {
         for line in spoilt(good) {
@@ -140,6 +144,18 @@ pub fn events(comparer: &mut Comparer, _: &mut Random, _: usize) {
             for (op, value) in [("read", "-"), ("write", "3")] {
                 let text = format!("{HEAD}0 window {width}\n{EVENTS}0 0 0 {op} {value} {answer}\n");
                 comparer.check(text.as_bytes(), b"criterion sequential\nview order\n0 0\n");
+            }
+        }
+    }
+    // Each op of each kind with answers of no value, of one, which may be the value pushed, and of two, and lost; on a
+    // channel as the first push and behind it.
+    for object in ["register -", "queue -", "stack -", "window 1", "channel 1", "channel 2", "channel 64"] {
+        for (op, value) in [("write", "3"), ("read", "-"), ("push", "3"), ("pop", "-"), ("peek", "-")] {
+            for answer in ["-", "3", "4", "0", "3,3", "65535", "65536", "?"] {
+                let text = format!("{HEAD}0 {object}\n{EVENTS}0 0 0 {op} {value} {answer}\n");
+                comparer.check(text.as_bytes(), b"criterion sequential\nview order\n0 0\n");
+                let text = format!("{HEAD}0 {object}\n{EVENTS}0 0 0 push 4 -\n1 0 0 {op} {value} {answer}\n");
+                comparer.check(text.as_bytes(), b"criterion sequential\nview order\n0 0,1\n");
             }
         }
     }

@@ -10,9 +10,9 @@ use crate::damage::damage_history;
 use crate::group_random::pair;
 use crate::history::{Event, History};
 use crate::make::{answers_of, certified, lose_now_and_then, lose_some, random_answer, random_answers, shape, Size};
-use crate::objects::{Kind, Object, KINDS, OPS};
+use crate::objects::{Kind, Object, Op, KINDS, OPS};
 use crate::random::Random;
-use crate::samples::{certificate, claims, claims_of_lost, figure_3, updates_lost};
+use crate::samples::{certificate, channel, claims, claims_of_channels, claims_of_lost, figure_3, updates_lost};
 use crate::search::find;
 use crate::weaken::is_pair;
 
@@ -99,38 +99,61 @@ fn small(random: &mut Random, events: usize) -> History {
     let objects = 1 + usize::from(random.once_in(3));
     let size = Size { events, objects, processes: 1 + random.under(3), values: 3, width: 2 };
     let mut history = shape(random, size);
-    let criterion = *random.pick(&CRITERIA);
     if random.once_in(4) {
         random_answers(random, &mut history, 3);
     } else {
-        certified(random, &mut history, criterion);
-        for _ in 0..random.under(3) {
-            damage_history(random, &mut history);
-        }
+        nearly_certified(random, &mut history);
     }
     lose_now_and_then(random, &mut history);
     history
 }
 
-/// A small random history with a lost answer, if it has events. Many of them break a criterion: there is one object,
-/// all values are different, and each answer is any that the event could get. Most of the lost ones are of writes and
-/// pushes, so that the others tell something.
-fn small_with_lost(random: &mut Random, events: usize) -> History {
-    let kind = random.pick(&KINDS).0;
-    let width = (kind == Kind::Window).then_some(2);
-    let mut history = History { objects: vec![Object { kind, width }], events: vec![] };
+/// Gives the history answers that meet a criterion, and then now and then damages it.
+fn nearly_certified(random: &mut Random, history: &mut History) {
+    let criterion = *random.pick(&CRITERIA);
+    certified(random, history, criterion);
+    for _ in 0..random.under(3) {
+        damage_history(random, history);
+    }
+}
+
+/// A small random history of one object. Many of them break a criterion: all values are different, and each answer is
+/// any that the event could get; of a push onto a channel it is mostly nothing or the pushed value.
+fn small_of(random: &mut Random, object: Object, events: usize) -> History {
+    let mut history = History { objects: vec![object], events: vec![] };
     let processes = 2 + random.under(2);
     while history.events.len() < events {
         let op = random.pick(&OPS).0;
-        if kind.has(op) {
+        if object.kind.has(op) {
             let value = op.takes_value().then_some(history.events.len() as u64 + 1);
             history.events.push(Event { process: random.under(processes), object: 0, op, value, answer: None });
         }
     }
     for e in 0..events {
-        if !random.once_in(if history.events[e].value.is_some() { 2 } else { 8 }) {
-            let answers = possible_answers(&history, e);
-            history.events[e].answer = Some(random.pick(&answers).clone());
+        let answers = match history.events[e].value {
+            Some(value) if object.kind == Kind::Channel && !random.once_in(16) => vec![vec![], vec![value]],
+            _ => possible_answers(&history, e),
+        };
+        history.events[e].answer = Some(random.pick(&answers).clone());
+    }
+    history
+}
+
+/// A small random history of a channel with one slot or two.
+fn small_channel(random: &mut Random, events: usize) -> History {
+    let capacity = 1 + random.under(2);
+    small_of(random, channel(capacity), events)
+}
+
+/// A small random history of one object with a lost answer, if it has events. Most of the lost ones are of writes and
+/// pushes, so that the others tell something.
+fn small_with_lost(random: &mut Random, events: usize) -> History {
+    let kind = random.pick(&KINDS).0;
+    let width = kind.has_width().then(|| if kind == Kind::Window { 2 } else { 1 + random.under(2) });
+    let mut history = small_of(random, Object { kind, width }, events);
+    for event in &mut history.events {
+        if random.once_in(if event.value.is_some() { 2 } else { 8 }) {
+            event.answer = None;
         }
     }
     if events > 0 && !history.has_lost() {
@@ -139,15 +162,60 @@ fn small_with_lost(random: &mut Random, events: usize) -> History {
     history
 }
 
-/// One of the two ways to draw a small history.
+/// One of the ways to draw a small history. Of one channel about a half meet a criterion.
 fn small_of_each(random: &mut Random, events: usize) -> History {
-    if random.once_in(3) { small_with_lost(random, events) } else { small(random, events) }
+    match random.under(6) {
+        0 | 1 => small_with_lost(random, events),
+        2 => {
+            let mut history = small_channel(random, events);
+            if !random.once_in(4) {
+                nearly_certified(random, &mut history);
+            }
+            history
+        }
+        _ => small(random, events),
+    }
+}
+
+/// Does the history have a push that was refused?
+fn has_refused(history: &History) -> bool {
+    let answered = |event: &Event| event.answer.as_ref().is_some_and(|answer| !answer.is_empty());
+    history.events.iter().any(|event| event.op == Op::Push && answered(event))
+}
+
+/// Whether the history meets the criterion by the brute force; some certificate must be accepted exactly then.
+fn meets_as_accepted(comparer: &mut Comparer, brute: &mut Brute, history: &History, criterion: Criterion) -> bool {
+    let meets = brute.meets(history, criterion);
+    let accepted = if history.events.len() == 5 {
+        some_accepted_by_turns(comparer, brute, history, criterion)
+    } else {
+        some_accepted(comparer, brute, history, criterion)
+    };
+    if !comparer.done() {
+        comparer.note(meets == accepted, || {
+            let text = String::from_utf8_lossy(&history.text()).into_owned();
+            format!("{criterion:?}: the history meets it: {meets}; some certificate is accepted: {accepted}\n{text}")
+        });
+    }
+    meets
+}
+
+/// How many histories broke and met each criterion.
+type Outcomes = [[usize; 2]; 5];
+
+/// Each criterion was met by some of the histories and broken by some, or the group says nothing.
+fn both_came(comparer: &mut Comparer, outcomes: Outcomes, which: &str) {
+    for criterion in CRITERIA {
+        let [broken, met] = outcomes[criterion as usize];
+        let say = || format!("{criterion:?}: met by {met} histories {which}, broken by {broken}");
+        comparer.note(broken > 4 && met > 4, say);
+    }
 }
 
 /// Exhaustive: a history meets a criterion exactly when some certificate is accepted, with lost answers or without.
 pub fn exhaustive(comparer: &mut Comparer, random: &mut Random, rounds: usize) {
     let mut brute = Brute::default();
-    let mut outcomes = [[[0; 2]; 2]; 5];
+    let mut outcomes = [Outcomes::default(); 2];
     for round in 0..rounds.div_ceil(5) {
         // Four or five events now and then: their certificates are many.
         let events = match round % 64 {
@@ -157,37 +225,51 @@ pub fn exhaustive(comparer: &mut Comparer, random: &mut Random, rounds: usize) {
         };
         let history = small_of_each(random, events);
         for criterion in CRITERIA {
-            let meets = brute.meets(&history, criterion);
-            outcomes[criterion as usize][usize::from(history.has_lost())][usize::from(meets)] += 1;
-            let accepted = if events == 5 {
-                some_accepted_by_turns(comparer, &mut brute, &history, criterion)
-            } else {
-                some_accepted(comparer, &mut brute, &history, criterion)
-            };
+            let meets = meets_as_accepted(comparer, &mut brute, &history, criterion);
+            outcomes[usize::from(history.has_lost())][criterion as usize][usize::from(meets)] += 1;
             if comparer.done() {
                 return;
             }
-            comparer.note(meets == accepted, || {
-                let text = String::from_utf8_lossy(&history.text()).into_owned();
-                format!("{criterion:?}: the history meets it: {meets}; some certificate is accepted: {accepted}\n{text}")
-            });
         }
     }
-    // Each criterion was met by some of the histories and broken by some, or the group says nothing.
     if rounds >= 500 {
-        for criterion in CRITERIA {
-            for (lost, [broken, met]) in outcomes[criterion as usize].into_iter().enumerate() {
-                let which = if lost == 1 { "with lost answers" } else { "with none lost" };
-                let say = || format!("{criterion:?}: met by {met} histories {which}, broken by {broken}");
-                comparer.note(broken > 4 && met > 4, say);
-            }
-        }
+        both_came(comparer, outcomes[0], "with none lost");
+        both_came(comparer, outcomes[1], "with lost answers");
     }
 }
 
-/// Lost answers leave the criteria apart: for each pair there are histories with lost answers that meet the weaker
-/// criterion and break the stronger one, and some certificate is accepted of the one and none of the other.
-pub fn apart(comparer: &mut Comparer, random: &mut Random, rounds: usize) {
+/// The same of small histories of a channel in which a push was refused.
+pub fn refused(comparer: &mut Comparer, random: &mut Random, rounds: usize) {
+    let mut brute = Brute::default();
+    let mut outcomes = Outcomes::default();
+    for round in 0..rounds.div_ceil(10) {
+        let events = if round % 16 == 15 { 4 } else { 2 + random.under(2) };
+        let certify = random.once_in(2);
+        let history = loop {
+            let mut drawn = small_channel(random, events);
+            if certify {
+                nearly_certified(random, &mut drawn);
+            }
+            if has_refused(&drawn) {
+                break drawn;
+            }
+        };
+        for criterion in CRITERIA {
+            let meets = meets_as_accepted(comparer, &mut brute, &history, criterion);
+            outcomes[criterion as usize][usize::from(meets)] += 1;
+            if comparer.done() {
+                return;
+            }
+        }
+    }
+    if rounds >= 500 {
+        both_came(comparer, outcomes, "with a refused push");
+    }
+}
+
+/// For each pair of criteria there are histories of four events, drawn in this way, that meet the weaker criterion and
+/// break the stronger one, and some certificate is accepted of the one and none of the other.
+fn apart(comparer: &mut Comparer, random: &mut Random, rounds: usize, draw: fn(&mut Random, usize) -> History) {
     let mut brute = Brute::default();
     for (stronger, weaker) in CRITERIA.into_iter().flat_map(|given| CRITERIA.map(|wanted| (given, wanted))) {
         if stronger == weaker || !is_pair(stronger, weaker) {
@@ -197,7 +279,7 @@ pub fn apart(comparer: &mut Comparer, random: &mut Random, rounds: usize) {
             let suits = |history: &History, brute: &mut Brute| {
                 !brute.meets(history, stronger) && brute.meets(history, weaker)
             };
-            let drawn = (0..20_000).map(|_| small_with_lost(random, 4)).find(|history| suits(history, &mut brute));
+            let drawn = (0..20_000).map(|_| draw(random, 4)).find(|history| suits(history, &mut brute));
             comparer.note(drawn.is_some(), || format!("no history drawn meets {weaker:?} and not {stronger:?}"));
             let Some(history) = drawn else { continue };
             for (criterion, met) in [(stronger, false), (weaker, true)] {
@@ -212,6 +294,16 @@ pub fn apart(comparer: &mut Comparer, random: &mut Random, rounds: usize) {
             }
         }
     }
+}
+
+/// Lost answers leave the criteria apart.
+pub fn lost_apart(comparer: &mut Comparer, random: &mut Random, rounds: usize) {
+    apart(comparer, random, rounds, small_with_lost);
+}
+
+/// One channel tells the criteria apart.
+pub fn channels_apart(comparer: &mut Comparer, random: &mut Random, rounds: usize) {
+    apart(comparer, random, rounds, small_channel);
 }
 
 /// Every certificate of a history of up to two events, whatever its lists: an accepted one means that the criterion is met.
@@ -284,14 +376,14 @@ fn accept(comparer: &mut Comparer, history: &History, certificate: &Certificate,
     });
 }
 
-/// What document 01 says of its samples, what follows where some of their answers are lost, and what document 004 says
-/// of Figure 3.
+/// What document 01 says of its samples, what follows where some of their answers are lost and of channels, and what
+/// document 004 says of Figure 3.
 pub fn claimed(comparer: &mut Comparer, _: &mut Random, _: usize) {
     use Criterion::{Causal, Pram};
     let mut brute = Brute::default();
     let stated: Vec<_> = claims().into_iter().chain(figure_3()).collect();
     let of_lost = claims_of_lost().into_iter().chain(updates_lost(&stated));
-    for (name, history, met, broken) in stated.clone().into_iter().chain(of_lost) {
+    for (name, history, met, broken) in stated.clone().into_iter().chain(of_lost).chain(claims_of_channels()) {
         for (criteria, claim) in [(met, true), (broken, false)] {
             for criterion in criteria {
                 let found = find(&history, criterion);

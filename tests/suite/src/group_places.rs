@@ -6,7 +6,7 @@ use crate::history::{Event, History};
 use crate::make::{certified, lose_now_and_then, lose_some, random_order, register_history, shape, Size};
 use crate::objects::{Kind, Op};
 use crate::random::Random;
-use crate::samples::{object, window, with_lost};
+use crate::samples::{channel, object, window, with_lost};
 
 /// A full history with a certificate of the criterion that is accepted.
 fn full(random: &mut Random, criterion: Criterion) -> (History, Certificate) {
@@ -43,7 +43,8 @@ pub fn lines(comparer: &mut Comparer, random: &mut Random, _: usize) {
                 for (field, new) in [
                     (0, &b"99"[..]), (1, b"8"), (1, b"64"), (1, b"1,0"), (1, b"2,2"), (2, b"16"), (2, b"0"), (2, b"9"), (2, b"1"),
                     (2, b"-"), (3, b"push"), (3, b"write"), (4, b"5"), (4, b"-"), (4, b"65536"), (5, b"1,2,3,4,5,6,7,8,9"), (5, b"-"),
-                    (5, b"70000"), (5, b"?"), (5, b"?,1"), (4, b"?"), (1, b"?"),
+                    (5, b"70000"), (5, b"?"), (5, b"?,1"), (4, b"?"), (1, b"?"), (1, b"channel"), (2, b"64"),
+                    (2, b"65"), (5, b"5"),
                 ] {
                     with(field, new);
                 }
@@ -196,10 +197,12 @@ fn flip(history: &mut History, e: usize, item: usize, bits: u64) {
 pub fn replays(comparer: &mut Comparer, random: &mut Random, rounds: usize) {
     for _ in 0..rounds.div_ceil(5) {
         let events = 2 + random.under(20);
-        let objects = vec![object(Kind::Register), object(Kind::Queue), object(Kind::Stack), window(1 + random.under(8))];
+        let window = window(1 + random.under(8));
+        let channel = channel(1 + random.under(3));
+        let objects = vec![object(Kind::Register), object(Kind::Queue), object(Kind::Stack), window, channel];
         let mut history = History { objects, events: vec![] };
         for number in 0..events {
-            let kind = random.under(4);
+            let kind = random.under(5);
             let update = random.once_in(2);
             let op = match (kind, update) {
                 (0 | 3, true) => Op::Write,

@@ -1,13 +1,13 @@
 //! What document 01 states outright: the sample dispensers with their answers and places, and texts whose fault its
-//! words name; and the same of lost answers, by T-01 of document 02. The numbers are written here by hand, so that the
-//! model is held to them as well.
+//! words name; and the same of lost answers and of channels, by T-01 and T-02 of document 02. The numbers are written
+//! here by hand, so that the model is held to them as well.
 
 use crate::certificate::Criterion;
 use crate::check::{Document01, Rules, NONE};
 use crate::compare::{crop, Call, Comparer};
 use crate::history::History;
 use crate::random::Random;
-use crate::samples::{c, certificate, m, q, r, w, with_lost};
+use crate::samples::{c, certificate, m, one_slot, q, r, w, with_lost};
 
 /// Holds the checker and the model to a stated answer and its places: criterion, text, line, view, event, start, length.
 fn stated(comparer: &mut Comparer, name: &str, history: &[u8], certificate: &[u8], answer: u32, places: [u32; 7]) {
@@ -110,12 +110,18 @@ pub fn samples(comparer: &mut Comparer, _: &mut Random, _: usize) {
     let width = |width: u32| format!("object kind width\n0 window {width}\nevent process object op value answer\n").into_bytes();
     stated(comparer, "width 8", &width(8), empty, 0, accepted);
     stated(comparer, "width 9", &width(9), empty, 3, [NONE, 1, 2, NONE, NONE, 18, 10]);
+    let capacity = |capacity: &str| format!("{HEAD}0 channel {capacity}\n{EVENTS}").into_bytes();
+    stated(comparer, "capacity 1", &capacity("1"), empty, 0, accepted);
+    stated(comparer, "capacity 64", &capacity("64"), empty, 0, accepted);
+    stated(comparer, "capacity 65", &capacity("65"), empty, 3, [NONE, 1, 2, NONE, NONE, 18, 12]);
+    stated(comparer, "capacity 0", &capacity("0"), empty, 3, [NONE, 1, 2, NONE, NONE, 18, 11]);
+    stated(comparer, "no capacity", &capacity("-"), empty, 4, [NONE, 1, 2, NONE, NONE, 18, 11]);
     let process = |process: u32| {
         format!("object kind width\n0 register -\nevent process object op value answer\n0 {process} 0 write 1 -\n").into_bytes()
     };
     stated(comparer, "process 7", &process(7), one, 0, accepted);
     stated(comparer, "process 8", &process(8), one, 3, [NONE, 1, 4, NONE, NONE, 68, 15]);
-    // Each op with its answer lost, written out: accepted, and written back as it is.
+    // Each op with its answer lost, written out, and each op of a channel: accepted, and written back as it is.
     for (kind, line) in [
         ("register -", "0 0 0 write 7 ?"),
         ("register -", "0 0 0 read - ?"),
@@ -127,6 +133,14 @@ pub fn samples(comparer: &mut Comparer, _: &mut Random, _: usize) {
         ("stack -", "0 0 0 peek - ?"),
         ("window 3", "0 0 0 write 7 ?"),
         ("window 3", "0 0 0 read - ?"),
+        ("channel 1", "0 0 0 push 7 ?"),
+        ("channel 64", "0 0 0 push 7 ?"),
+        ("channel 9", "0 0 0 pop - ?"),
+        ("channel 10", "0 0 0 peek - ?"),
+        // A channel's first push is taken, and on an empty one pop and peek find nothing.
+        ("channel 1", "0 0 0 push 7 -"),
+        ("channel 64", "0 0 0 pop - -"),
+        ("channel 63", "0 0 0 peek - -"),
     ] {
         let text = format!("object kind width\n0 {kind}\nevent process object op value answer\n{line}\n");
         stated(comparer, line, text.as_bytes(), one, 0, accepted);
@@ -136,6 +150,114 @@ pub fn samples(comparer: &mut Comparer, _: &mut Random, _: usize) {
         let same = buffer.part() == text.as_bytes() && length == text.len() as u64;
         comparer.note(same, || format!("{line}: written back as \"{}\"", crop(buffer.part())));
     }
+}
+
+/// What T-02 states of channels, and what follows from its words. A history is written by its capacity and its lines.
+pub fn channels(comparer: &mut Comparer, _: &mut Random, _: usize) {
+    use Criterion::{Causal, Converge, Pram, Sequential, Weak};
+    let sequential = |order: &str| format!("criterion sequential\nview order\n0 {order}\n");
+    let mut say = |name: &str, capacity: u32, lines: &str, order: &str, answer: u32, event: Option<u32>| {
+        let history = format!("{HEAD}0 channel {capacity}\n{EVENTS}{lines}");
+        let places = carried(Sequential, event.map(|_| 0), event);
+        stated(comparer, name, history.as_bytes(), sequential(order).as_bytes(), answer, places);
+    };
+    let lines = "0 0 0 push 5 -\n1 1 0 push 6 6\n2 0 0 pop - 5\n";
+    assert_eq!(format!("{HEAD}0 channel 1\n{EVENTS}{lines}").into_bytes(), one_slot().text());
+    say("one slot", 1, lines, "0,1,2", 0, None);
+    say("two slots", 2, lines, "0,1,2", 16, Some(1));
+    // The push of 6 first: it has the slot.
+    say("one slot, 6 first", 1, lines, "1,0,2", 16, Some(1));
+    // The pop first: it finds nothing.
+    say("one slot, the pop between", 1, "0 0 0 push 5 -\n1 1 0 push 6 -\n2 2 0 pop - 5\n", "0,2,1", 0, None);
+    say("a refused push as taken", 1, &lines.replace("6 6", "6 -"), "0,1,2", 16, Some(1));
+    say("a taken push as refused", 1, &lines.replace("5 -", "5 5"), "0,1,2", 16, Some(0));
+    say("the value of another push back", 1, &lines.replace("6 6", "6 5"), "0,1,2", 16, Some(1));
+    say("the refused value is popped", 1, &lines.replace("pop - 5", "pop - 6"), "0,1,2", 16, Some(2));
+    say("both wrong: the first in the view", 1, "0 0 0 push 5 5\n1 1 0 push 6 -\n", "0,1", 16, Some(0));
+    say("both wrong: the other order", 1, "0 0 0 push 5 5\n1 1 0 push 6 6\n", "1,0", 16, Some(1));
+    say("a refused push lost", 1, &lines.replace("6 6", "6 ?"), "0,1,2", 0, None);
+    say("a taken push lost", 1, &lines.replace("5 -", "5 ?"), "0,1,2", 0, None);
+    say("all lost", 1, "0 0 0 push 5 ?\n1 1 0 push 6 ?\n2 0 0 pop - ?\n", "1,0,2", 0, None);
+    let drained = "0 0 0 push 5 ?\n1 0 0 push 6 ?\n2 0 0 pop - 5\n3 0 0 pop - -\n";
+    say("a lost push is refused all the same", 1, drained, "0,1,2,3", 0, None);
+    say("a lost push goes in all the same", 2, drained, "0,1,2,3", 16, Some(3));
+    let again = "0 0 0 push 5 -\n1 0 0 pop - 5\n2 0 0 push 6 -\n3 0 0 push 7 7\n4 0 0 peek - 6\n";
+    say("a pop frees the slot", 1, again, "0,1,2,3,4", 0, None);
+    say("a peek frees no slot", 1, &again.replace("pop", "peek"), "0,1,2,3,4", 16, Some(2));
+    say("equal values are two packs", 2, "0 0 0 push 5 -\n1 0 0 push 5 -\n2 0 0 push 5 5\n", "0,1,2", 0, None);
+    say("0 comes back as 0", 1, "0 0 0 push 0 -\n1 0 0 push 0 0\n", "0,1", 0, None);
+    say("0 comes back as nothing", 1, "0 0 0 push 0 -\n1 0 0 push 0 -\n", "0,1", 16, Some(1));
+
+    // As many pushes as a history can have, the first of them taken and the others refused.
+    let pushes = |taken: usize| -> String {
+        let answer = |e: usize| if e < taken { "-".to_string() } else { (200 + e).to_string() };
+        (0..64).map(|e| format!("{e} {} 0 push {} {}\n", e % 8, 200 + e, answer(e))).collect()
+    };
+    let all = (0..64).map(|e| e.to_string()).collect::<Vec<_>>().join(",");
+    say("9 slots", 9, &pushes(9), &all, 0, None);
+    say("63 slots", 63, &pushes(63), &all, 0, None);
+    say("64 slots", 64, &pushes(64), &all, 0, None);
+    say("63 slots, the 64th push as taken", 63, &pushes(64), &all, 16, Some(63));
+    say("64 slots, the 64th push as refused", 64, &pushes(63), &all, 16, Some(63));
+
+    // The other criteria on two pushes for one slot.
+    let two = |first: &str, second: &str| {
+        format!("{HEAD}0 channel 1\n{EVENTS}0 0 0 push 5 {first}\n1 1 0 push 6 {second}\n").into_bytes()
+    };
+    let mut say = |name: &str, history: &[u8], criterion: Criterion, lists: &str, answer: u32, at: Option<(u32, u32)>| {
+        let text = format!("criterion {}\n{lists}", criterion.word());
+        let places = carried(criterion, at.map(|at| at.0), at.map(|at| at.1));
+        stated(comparer, name, history, text.as_bytes(), answer, places);
+    };
+    let taken = two("-", "-");
+    let refused = two("5", "6");
+    let own_first = "view order\n0 0,1\n1 1,0\n";
+    let own_last = "view order\n0 1,0\n1 0,1\n";
+    say("both taken", &taken, Pram, own_first, 0, None);
+    say("both taken, own last", &taken, Pram, own_last, 16, Some((0, 0)));
+    say("both refused", &refused, Pram, own_last, 0, None);
+    say("both refused, own first", &refused, Pram, own_first, 16, Some((0, 0)));
+    for criterion in [Weak, Causal] {
+        let apart = "event past\n0 -\n1 -\nview order\n0 0\n1 1\n";
+        let behind = "event past\n0 -\n1 0\nview order\n0 0\n1 0,1\n";
+        say("neither knows of the other", &taken, criterion, apart, 0, None);
+        say("one knows of the other", &taken, criterion, behind, 16, Some((1, 1)));
+        say("one refused", &two("-", "6"), criterion, behind, 0, None);
+        say("refused by what it does not know of", &two("-", "6"), criterion, apart, 16, Some((1, 1)));
+        say("both refused, no causal order has both", &refused, criterion, behind, 16, Some((0, 0)));
+        let each_other = "event past\n0 1\n1 0\nview order\n0 1,0\n1 0,1\n";
+        say("both refused, each in the other's past", &refused, criterion, each_other, 13, Some((NONE, 0)));
+    }
+    let apart = "event past\n0 -\n1 -\nview order\n0 0,1\n";
+    let behind = "event past\n0 -\n1 0\nview order\n0 0,1\n";
+    say("cut to one push each", &taken, Converge, apart, 0, None);
+    say("not cut", &taken, Converge, behind, 16, Some((0, 1)));
+    say("one refused", &two("-", "6"), Converge, behind, 0, None);
+    say("refused by what is cut away", &two("-", "6"), Converge, apart, 16, Some((0, 1)));
+    // Another process's push has no visible answer, but it takes the slot, or is refused, all the same.
+    let third = |answer: &str| {
+        let lines = "0 0 0 push 5 ?\n1 1 0 push 6 ?\n";
+        format!("{HEAD}0 channel 1\n{EVENTS}{lines}2 2 0 pop - {answer}\n").into_bytes()
+    };
+    let views = "view order\n0 0,1,2\n1 0,1,2\n2 0,1,2\n";
+    say("the first push has the slot", &third("5"), Pram, views, 0, None);
+    say("the second push has not", &third("6"), Pram, views, 16, Some((2, 2)));
+    let recorded = format!("{HEAD}0 channel 1\n{EVENTS}0 0 0 push 5 -\n1 1 0 push 6 -\n2 2 0 pop - 5\n3 2 0 pop - -\n");
+    let views = "view order\n0 0,1,2,3\n1 1,0,2,3\n2 0,1,2,3\n";
+    say("a push recorded as taken is refused in another view", recorded.as_bytes(), Pram, views, 0, None);
+    let views = "view order\n0 0,1,2,3\n1 1,0,2,3\n2 0,2,1,3\n";
+    say("and taken behind the pop", recorded.as_bytes(), Pram, views, 16, Some((2, 3)));
+    let recorded = format!("{HEAD}0 channel 1\n{EVENTS}0 0 0 push 5 -\n1 1 0 push 6 6\n2 2 0 pop - 6\n");
+    let views = "view order\n0 0,1,2\n1 0,1,2\n2 1,0,2\n";
+    say("a push recorded as refused is taken in another view", recorded.as_bytes(), Pram, views, 0, None);
+    // Each channel has its own slots, beside a queue that has no capacity.
+    let lines = "0 0 0 push 4 -\n1 0 1 push 5 -\n2 0 2 push 6 -\n3 0 0 push 7 7\n4 0 1 push 8 -\n5 0 2 push 9 -\n";
+    let more = "6 0 1 push 3 3\n7 0 0 pop - 4\n8 0 1 pop - 5\n9 0 2 pop - 6\n";
+    let beside = format!("{HEAD}0 channel 1\n1 channel 2\n2 queue -\n{EVENTS}{lines}{more}");
+    let whole = "view order\n0 0,1,2,3,4,5,6,7,8,9\n";
+    say("two channels and a queue", beside.as_bytes(), Sequential, whole, 0, None);
+    let turned = beside.replace("0 channel 1\n1 channel 2\n", "0 channel 2\n1 channel 1\n");
+    say("their capacities changed about", turned.as_bytes(), Sequential, whole, 16, Some((0, 3)));
 }
 
 const HEAD: &str = "object kind width\n";
@@ -160,7 +282,7 @@ fn history_cases() -> Vec<(String, u32, u32, String)> {
     add(format!("object kind width \n{EVENTS}"), 2, 1, "object kind width ");
     add(format!("object kind width\r\n{EVENTS}"), 2, 1, "object kind width\r");
     // The lines of objects.
-    let objects: [(&str, u32); 37] = [
+    let objects: [(&str, u32); 66] = [
         ("0 queue -", 0), ("0 register -", 0), ("0 stack -", 0), ("0 window 1", 0), ("0 window 8", 0),
         ("0 window -", 4), ("0 queue 1", 4), ("0 register 8", 4), ("0 stack 3", 4),
         ("0 queue 0", 3), ("0 queue 9", 3), ("0 window 0", 3), ("0 window 9", 3), ("0 window 256", 3), ("0 window 4294967297", 3),
@@ -170,6 +292,14 @@ fn history_cases() -> Vec<(String, u32, u32, String)> {
         ("0 0 0 push 7 -", 2),
         // `?` is an answer alone.
         ("0 window ?", 2), ("0 queue ?", 2), ("? queue -", 2), ("0 ? -", 2),
+        // A channel's capacity is 1 to 64; the limit on any other kind stays 8.
+        ("0 channel 1", 0), ("0 channel 8", 0), ("0 channel 9", 0), ("0 channel 10", 0), ("0 channel 63", 0),
+        ("0 channel 64", 0), ("0 channel 65", 3), ("0 channel 0", 3), ("0 channel 100", 3), ("0 channel 256", 3),
+        ("0 channel 257", 3), ("0 channel 65537", 3), ("0 channel 4294967297", 3), ("0 channel -", 4),
+        ("0 queue 8", 4), ("0 stack 8", 4), ("0 stack 9", 3), ("0 register 9", 3), ("0 register 64", 3),
+        ("0 queue 64", 3), ("0 stack 64", 3), ("0 window 10", 3), ("0 window 64", 3),
+        ("0 channel 064", 2), ("0 channel 64,", 2), ("0 channel", 2), ("0 channels 1", 2), ("0 Channel 1", 2),
+        ("0 channel ?", 2),
     ];
     for (line, answer) in objects {
         let text = format!("{HEAD}{line}\n{EVENTS}");
@@ -178,8 +308,36 @@ fn history_cases() -> Vec<(String, u32, u32, String)> {
     // The 17th object, alone and with other faults.
     let many: String = (0..16).map(|number| format!("{number} queue -\n")).collect();
     add(format!("{HEAD}{many}{EVENTS}"), 0, NONE, "");
-    for (line, answer) in [("16 queue -", 3), ("16 queue 1", 3), ("16 queue", 2), ("17 queue -", 2), ("15 queue -", 2), ("16 q -", 2)] {
+    for (line, answer) in [
+        ("16 queue -", 3), ("16 queue 1", 3), ("16 queue", 2), ("17 queue -", 2), ("15 queue -", 2), ("16 q -", 2),
+        ("16 channel 64", 3), ("16 channel -", 3), ("16 channel", 2), ("17 channel 1", 2),
+    ] {
         add(format!("{HEAD}{many}{line}\n{EVENTS}"), answer, 18, line);
+    }
+    // The lines of events: object 0 a channel, alone. Any one value may be the answer of its push.
+    let of_channels = [
+        ("0 0 0 push 7 -", 0), ("0 0 0 push 7 7", 0), ("0 0 0 push 7 6", 0), ("0 0 0 push 0 65535", 0),
+        ("0 0 0 push 7 ?", 0), ("0 0 0 pop - -", 0), ("0 0 0 pop - 7", 0), ("0 0 0 pop - ?", 0),
+        ("0 0 0 peek - -", 0), ("0 0 0 peek - 7", 0), ("0 0 0 peek - ?", 0),
+        ("0 0 0 push 7 7,7", 5), ("0 0 0 push 7 7,6,5", 5), ("0 0 0 pop - 7,7", 5), ("0 0 0 peek - 1,2", 5),
+        ("0 0 0 write 7 -", 4), ("0 0 0 write 7 ?", 4), ("0 0 0 read - 7", 4), ("0 0 0 read - -", 4),
+        ("0 0 0 read - ?", 4), ("0 0 0 push - -", 4), ("0 0 0 push - 7", 4), ("0 0 0 pop 7 7", 4),
+        ("0 0 0 peek 7 -", 4), ("0 0 0 write 7 7", 4), ("0 0 0 read - 7,7", 4),
+        ("0 0 0 push 7 65536", 3), ("0 0 0 push 65536 -", 3), ("0 0 0 push 7 7,65536", 3), ("0 0 1 push 7 7", 3),
+        ("0 8 0 push 7 7", 3), ("0 0 0 push 7 07", 2), ("0 0 0 push 7 7,", 2), ("0 0 0 push 7 7,?", 2),
+        ("0 0 0 push 7 -,7", 2), ("0 0 0 push 7", 2),
+    ];
+    for ((line, answer), capacity) in of_channels.into_iter().zip([1, 64, 2, 8].into_iter().cycle()) {
+        let text = format!("{HEAD}0 channel {capacity}\n{EVENTS}{line}\n");
+        add(text, answer, if answer == 0 { NONE } else { 4 }, if answer == 0 { "" } else { line });
+    }
+    // A push onto a queue or a stack answers nothing, beside a channel too.
+    for (line, answer) in [
+        ("0 0 0 push 7 7", 5), ("0 0 1 push 7 7", 5), ("0 0 2 push 7 7", 0), ("0 0 0 push 7 -", 0),
+        ("0 0 3 push 7 7", 3),
+    ] {
+        let text = format!("{HEAD}0 queue -\n1 stack -\n2 channel 1\n{EVENTS}{line}\n");
+        add(text, answer, if answer == 0 { NONE } else { 6 }, if answer == 0 { "" } else { line });
     }
     // The lines of events: object 0 a register, 1 a queue, 2 a stack, 3 a window of width 2.
     let four = "0 register -\n1 queue -\n2 stack -\n3 window 2\n";
@@ -419,6 +577,25 @@ fn weakening_cases() -> Vec<(History, String, u32, Result<String, u32>)> {
     add(&with_lost(w(), &[1]), &other, 0, Ok("criterion pram\nview order\n0 0,2,1,3\n1 0,2,3,1\n"));
     add(&with_lost(w(), &[1]), &other, 1, Ok(&other.replace("causal", "weak")));
     add(&with_lost(c(), &[2]), &converge, 1, Ok(&format!("criterion weak\n{past}0 0\n1 1\n2 1,2\n3 0,1,2,3\n")));
+    // Channels: a refused push stays refused behind what was before it.
+    let order = "criterion sequential\nview order\n0 0,1,2\n";
+    let pasts = "event past\n0 -\n1 0\n2 0,1\nview order\n";
+    add(&one_slot(), order, 0, Ok("criterion pram\nview order\n0 0,1,2\n1 0,1,2\n"));
+    add(&one_slot(), order, 1, Ok(&format!("criterion weak\n{pasts}0 0\n1 0,1\n2 0,1,2\n")));
+    add(&one_slot(), order, 2, Ok(&format!("criterion causal\n{pasts}0 0\n1 0,1\n2 0,1,2\n")));
+    add(&one_slot(), order, 3, Ok(&format!("criterion converge\n{pasts}0 0,1,2\n")));
+    add(&one_slot(), order, 4, Ok(order));
+    add(&one_slot(), "criterion sequential\nview order\n0 1,0,2\n", 0, Err(16));
+    // Neither push knows of the other: each has the one slot in its own view, and so it is in the weakened ones.
+    let mut both = one_slot();
+    both.events.truncate(2);
+    both.events[1].answer = Some(vec![]);
+    let apart = "event past\n0 -\n1 -\nview order\n0 0\n1 1\n";
+    add(&both, &format!("criterion causal\n{apart}"), 0, Ok("criterion pram\nview order\n0 0,1\n1 1,0\n"));
+    add(&both, &format!("criterion causal\n{apart}"), 1, Ok(&format!("criterion weak\n{apart}")));
+    let cut = "criterion converge\nevent past\n0 -\n1 -\nview order\n0 1,0\n";
+    add(&both, cut, 1, Ok(&format!("criterion weak\n{apart}")));
+    add(&both, cut, 0, Err(17));
     // 17: not a pair, and none is wanted by a number past 4.
     let weak = format!("criterion weak\n{lists}");
     let pram = "criterion pram\nview order\n0 0,1\n1 0,1\n";

@@ -9,6 +9,7 @@ pub const EVENTS_LIMIT: u64 = 64;
 pub const PROCESSES: u64 = 8;
 pub const VALUE_LIMIT: u64 = 65_535;
 pub const WIDTH_LIMIT: u64 = 8;
+pub const CAPACITY_LIMIT: u64 = 64;
 pub const OBJECT_HEADING: &str = "object kind width";
 pub const EVENT_HEADING: &str = "event process object op value answer";
 
@@ -90,24 +91,38 @@ pub trait HistoryRules: NumberRules {
         (own == next).then_some(ObjectFields { own, kind, width })
     }
 
-    /// 3: a 17th object, width 0 or over 8 on any kind.
+    /// The limit of a width: 64 for a channel, 8 on any other kind.
+    fn width_limit(&self, kind: Kind) -> u64 {
+        if kind == Kind::Channel { CAPACITY_LIMIT } else { WIDTH_LIMIT }
+    }
+
+    /// 3: a 17th object, width 0 or over its limit on any kind.
     fn object_over(&self, fields: &ObjectFields) -> bool {
-        fields.own >= OBJECTS_LIMIT || fields.width.is_some_and(|width| width == 0 || width > WIDTH_LIMIT)
+        let limit = self.width_limit(fields.kind);
+        fields.own >= OBJECTS_LIMIT || fields.width.is_some_and(|width| width == 0 || width > limit)
     }
 
     /// 4: a width where `-` belongs, or the reverse.
     fn object_misfit(&self, fields: &ObjectFields) -> bool {
-        fields.width.is_some() != (fields.kind == Kind::Window)
+        fields.width.is_some() != fields.kind.has_width()
+    }
+
+    /// The order of the faults on an object line, 2 aside.
+    fn object_fault(&self, fields: &ObjectFields) -> Option<u32> {
+        if self.object_over(fields) {
+            return Some(3);
+        }
+        if self.object_misfit(fields) {
+            return Some(4);
+        }
+        None
     }
 
     /// Reads object line `next`, or gives its fault.
     fn object_line(&self, line: &[u8], next: u64) -> Result<Object, u32> {
         let fields = self.object_layout(line, next).ok_or(2u32)?;
-        if self.object_over(&fields) {
-            return Err(3);
-        }
-        if self.object_misfit(&fields) {
-            return Err(4);
+        if let Some(fault) = self.object_fault(&fields) {
+            return Err(fault);
         }
         Ok(Object { kind: fields.kind, width: fields.width.map(|width| width as usize) })
     }

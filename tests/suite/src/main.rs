@@ -1,5 +1,6 @@
-//! The test suite of the archive: a model written from the words of document 01 and of T-01 in document 02, a brute
-//! force for small histories, comparisons of the archive with both, and wrong checkers that the comparisons must find.
+//! The test suite of the archive: a model written from the words of document 01 and of T-01 and T-02 in document 02, a
+//! brute force for small histories, comparisons of the archive with both, and wrong checkers that the comparisons must
+//! find.
 //!
 //! `cargo run --release --offline [-- SEED [ROUNDS]]`. The seed is printed, so that a run can be repeated. A line a group, and a last
 //! line with the sums. The exit status is 1 on any difference.
@@ -10,6 +11,7 @@ mod check;
 mod checker;
 mod compare;
 mod damage;
+mod group_channels;
 mod group_limits;
 mod group_lines;
 mod group_meets;
@@ -33,7 +35,7 @@ use std::process::ExitCode;
 use std::time::Instant;
 
 use checker::{Archive, Checker};
-use compare::{Comparer, CHECK_OF_LOST};
+use compare::{Comparer, CHECK_OF_CHANNEL, CHECK_OF_LOST};
 use random::Random;
 
 type Group = (&'static str, fn(&mut Comparer, &mut Random, usize));
@@ -68,13 +70,20 @@ const GROUPS: &[Group] = &[
     ("slices that are NULL", group_memory::nulls),
     ("weakening too long texts", group_weaken::too_long),
     ("lost answers filled in", group_meets::filled_in),
-    ("lost answers, criteria apart", group_meets::apart),
+    ("lost answers, criteria apart", group_meets::lost_apart),
+    ("stated of channels", group_stated::channels),
+    ("limits of width", group_limits::widths),
+    ("the last slot of every capacity", group_channels::last_slot),
+    ("channels that get full", group_channels::crowds),
+    ("channels, brute force and check", group_meets::refused),
+    ("channels, criteria apart", group_meets::channels_apart),
 ];
 
 /// The numbers that each function must have answered in a whole run.
 const EXPECTED: &[(&str, &[u32])] = &[
     ("check", &[0, 1, 2, 3, 4, 5, 6, 11, 12, 13, 14, 15, 16]),
     (CHECK_OF_LOST, &[0, 1, 2, 3, 4, 5, 6, 11, 12, 13, 14, 15, 16]),
+    (CHECK_OF_CHANNEL, &[0, 1, 2, 3, 4, 5, 6, 11, 12, 13, 14, 15, 16]),
     ("verdict", &[0, 1, 2, 3, 4, 5, 6, 11, 12, 13, 14, 15, 16]),
     ("show", &[0, 1, 2, 3, 4, 5, 19]),
     ("rewrite_history", &[0, 1, 2, 3, 4, 5, 18]),
@@ -88,18 +97,26 @@ fn run_group(comparer: &mut Comparer, index: usize, seed: u64, rounds: usize) {
     (GROUPS[index].1)(comparer, &mut random, rounds);
 }
 
+/// The groups whose answers are stated one by one: wrong checkers see them first, in this order.
+const STATED: [&str; 4] =
+    ["samples of document 01", "stated of channels", "texts with stated faults", "stated weakenings"];
+
 /// The groups with long texts at every place take their time: wrong checkers see them last.
 const SLOW: [&str; 3] = ["faults at every line", "11 to 13 at every event", "14 to 16 at every view"];
 
-/// The first group that finds a wrong checker, and after how many comparisons: the quick groups with few rounds, then with more,
-/// then the slow ones.
+/// The first group that finds a wrong checker, and after how many comparisons: the stated groups, those between with
+/// few rounds and then with more, and the slow ones.
 fn found(checker: &dyn Checker, seed: u64) -> Option<(&'static str, u64)> {
+    let index_of = |name: &&str| GROUPS.iter().position(|group| group.0 == *name).expect("there is such a group");
+    let first: Vec<usize> = STATED.iter().map(index_of).collect();
+    let last: Vec<usize> = SLOW.iter().map(index_of).collect();
+    let between: Vec<usize> = (0..GROUPS.len()).filter(|index| ![&first[..], &last].concat().contains(index)).collect();
     let mut comparer = Comparer::new(checker, true);
-    for (rounds, slow) in [(20, false), (400, false), (400, true)] {
-        for (index, group) in GROUPS.iter().enumerate().filter(|(_, group)| SLOW.contains(&group.0) == slow) {
-            run_group(&mut comparer, index, seed, rounds);
+    for (rounds, groups) in [(20, &first), (20, &between), (400, &between), (400, &last)] {
+        for index in groups {
+            run_group(&mut comparer, *index, seed, rounds);
             if comparer.done() {
-                return Some((group.0, comparer.count));
+                return Some((GROUPS[*index].0, comparer.count));
             }
         }
     }

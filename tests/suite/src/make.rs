@@ -2,7 +2,7 @@
 
 use crate::certificate::{Certificate, Criterion, List};
 use crate::check::Document01;
-use crate::history::{Event, History};
+use crate::history::{Event, History, CAPACITY_LIMIT};
 use crate::objects::{Kind, Object, ObjectRules, Op, KINDS, OPS};
 use crate::random::Random;
 
@@ -33,12 +33,22 @@ pub fn random_size(random: &mut Random) -> Size {
     }
 }
 
+/// A capacity: mostly 1 or 2, so that the channel is often full, now and then any up to the limit.
+pub fn random_capacity(random: &mut Random) -> usize {
+    let most = if random.once_in(6) { CAPACITY_LIMIT as usize } else { 2 };
+    1 + random.under(most)
+}
+
 /// Objects and events with no answers yet. The processes are any of 0 to 7.
 pub fn shape(random: &mut Random, size: Size) -> History {
     let mut history = History::default();
     for _ in 0..size.objects {
         let kind = random.pick(&KINDS).0;
-        let width = (kind == Kind::Window).then(|| 1 + random.under(size.width));
+        let width = match kind {
+            Kind::Window => Some(1 + random.under(size.width)),
+            Kind::Channel => Some(random_capacity(random)),
+            _ => None,
+        };
         history.objects.push(Object { kind, width });
     }
     let mut processes: Vec<usize> = (0..8).collect();

@@ -1,4 +1,4 @@
-//! The objects of document 01: their kinds, their ops and what each op does.
+//! The objects of document 01 and the channels of T-02: their kinds, their ops and what each op does.
 
 #[derive(Clone, Copy, PartialEq, Eq, Debug)]
 pub enum Kind {
@@ -6,10 +6,16 @@ pub enum Kind {
     Queue,
     Stack,
     Window,
+    Channel,
 }
 
-pub const KINDS: [(Kind, &str); 4] =
-    [(Kind::Register, "register"), (Kind::Queue, "queue"), (Kind::Stack, "stack"), (Kind::Window, "window")];
+pub const KINDS: [(Kind, &str); 5] = [
+    (Kind::Register, "register"),
+    (Kind::Queue, "queue"),
+    (Kind::Stack, "stack"),
+    (Kind::Window, "window"),
+    (Kind::Channel, "channel"),
+];
 
 #[derive(Clone, Copy, PartialEq, Eq, Debug)]
 pub enum Op {
@@ -23,7 +29,7 @@ pub enum Op {
 pub const OPS: [(Op, &str); 5] =
     [(Op::Write, "write"), (Op::Read, "read"), (Op::Push, "push"), (Op::Pop, "pop"), (Op::Peek, "peek")];
 
-/// An object; the width is there for windows only.
+/// An object; the width is there for windows and channels only. A channel's is its capacity.
 #[derive(Clone, Copy, PartialEq, Eq, Debug)]
 pub struct Object {
     pub kind: Kind,
@@ -42,8 +48,13 @@ impl Kind {
     pub fn has(self, op: Op) -> bool {
         match self {
             Kind::Register | Kind::Window => matches!(op, Op::Write | Op::Read),
-            Kind::Queue | Kind::Stack => matches!(op, Op::Push | Op::Pop | Op::Peek),
+            Kind::Queue | Kind::Stack | Kind::Channel => matches!(op, Op::Push | Op::Pop | Op::Peek),
         }
+    }
+
+    /// Does a number stand in the width field? It is a window's width or a channel's capacity.
+    pub fn has_width(self) -> bool {
+        matches!(self, Kind::Window | Kind::Channel)
     }
 }
 
@@ -59,18 +70,25 @@ impl Op {
 }
 
 impl Object {
-    /// A register starts at 0, a queue and a stack start empty, a window of width k starts as k zeros.
+    /// A register starts at 0, a queue, a stack and a channel start empty, a window of width k starts as k zeros.
     pub fn start(&self) -> State {
         match self.kind {
             Kind::Register => vec![0],
-            Kind::Queue | Kind::Stack => vec![],
+            Kind::Queue | Kind::Stack | Kind::Channel => vec![],
             Kind::Window => vec![0; self.width.expect("a window has a width")],
         }
+    }
+
+    /// How many values a channel holds at most.
+    pub fn capacity(&self) -> usize {
+        self.width.expect("a channel has a capacity")
     }
 
     /// The lengths of the answers that the op can give.
     pub fn answer_lengths(&self, op: Op) -> Vec<usize> {
         match (op, self.kind) {
+            // A push onto a channel that is full answers the pushed value.
+            (Op::Push, Kind::Channel) => vec![0, 1],
             (Op::Write | Op::Push, _) => vec![0],
             (Op::Read, Kind::Window) => vec![self.width.expect("a window has a width")],
             (Op::Read, _) => vec![1],
@@ -79,8 +97,13 @@ impl Object {
     }
 }
 
-/// What the objects do. A wrong checker overrides it; the default is document 01's.
+/// What the objects do. A wrong checker overrides one of these; the defaults are those of the documents.
 pub trait ObjectRules {
+    /// Is it a channel with no slot left? The last slot is usable.
+    fn full(&self, object: &Object, state: &State) -> bool {
+        object.kind == Kind::Channel && state.len() >= object.capacity()
+    }
+
     /// The op changes the state and gives its answer.
     fn act(&self, object: &Object, state: &mut State, op: Op, value: Option<u64>) -> Vec<u64> {
         match op {
@@ -91,13 +114,16 @@ pub trait ObjectRules {
                 vec![]
             }
             Op::Read => state.clone(),
+            // A push onto a full channel changes nothing and answers the pushed value.
+            Op::Push if self.full(object, state) => vec![value.expect("a push has a value")],
             Op::Push => {
                 state.push(value.expect("a push has a value"));
                 vec![]
             }
             Op::Pop | Op::Peek if state.is_empty() => vec![],
             Op::Pop | Op::Peek => {
-                let place = if object.kind == Kind::Queue { 0 } else { state.len() - 1 };
+                // A stack gives its newest value, a queue and a channel their oldest.
+                let place = if object.kind == Kind::Stack { state.len() - 1 } else { 0 };
                 let answer = vec![state[place]];
                 if op == Op::Pop {
                     state.remove(place);

@@ -1,4 +1,5 @@
-//! The sample dispensers of document 01, the same with lost answers, and the histories of Figure 3 of document 004.
+//! The sample dispensers of document 01, the same with lost answers, small histories of channels, and the histories of
+//! Figure 3 of document 004.
 
 use crate::certificate::{Certificate, Criterion, List};
 use crate::history::{Event, History};
@@ -10,6 +11,10 @@ pub fn object(kind: Kind) -> Object {
 
 pub fn window(width: usize) -> Object {
     Object { kind: Kind::Window, width: Some(width) }
+}
+
+pub fn channel(capacity: usize) -> Object {
+    Object { kind: Kind::Channel, width: Some(capacity) }
 }
 
 /// An event on an object, written as in the samples: process, op, answer.
@@ -42,8 +47,17 @@ fn push(process: usize, value: u64) -> Event {
     event(process, 0, Op::Push, Some(value), &[])
 }
 
+/// A push onto a full channel: the pushed value comes back.
+fn refused(process: usize, value: u64) -> Event {
+    event(process, 0, Op::Push, Some(value), &[value])
+}
+
 fn pop(process: usize, answer: &[u64]) -> Event {
     event(process, 0, Op::Pop, None, answer)
+}
+
+fn peek(process: usize, answer: &[u64]) -> Event {
+    event(process, 0, Op::Peek, None, answer)
 }
 
 pub fn q() -> History {
@@ -105,7 +119,6 @@ pub fn claims_of_lost() -> Vec<Claim> {
     let alone = |object: Object, events: Vec<Event>| History { objects: vec![object], events };
     let queue = || object(Kind::Queue);
     let register = || object(Kind::Register);
-    let peek = |answer: &[u64]| event(0, 0, Op::Peek, None, answer);
     let pops = |answer: &[u64]| {
         alone(object(Kind::Stack), vec![push(0, 7), push(0, 8), lost(pop(0, &[])), pop(0, answer)])
     };
@@ -134,9 +147,86 @@ pub fn claims_of_lost() -> Vec<Claim> {
         ("a lost write left out", alone(register(), vec![lost(write(0, 7)), read(0, &[0])]), vec![], all()),
         ("a window's lost write", alone(window(2), vec![lost(write(0, 7)), read(0, &[0, 7])]), all(), vec![]),
         ("a window's lost write left out", alone(window(2), vec![lost(write(0, 7)), read(0, &[0, 0])]), vec![], all()),
-        ("a lost peek", alone(queue(), vec![push(0, 7), lost(peek(&[])), pop(0, &[7])]), all(), vec![]),
-        ("a lost peek that removes", alone(queue(), vec![push(0, 7), lost(peek(&[])), pop(0, &[])]), vec![], all()),
+        ("a lost peek", alone(queue(), vec![push(0, 7), lost(peek(0, &[])), pop(0, &[7])]), all(), vec![]),
+        ("a lost peek that removes", alone(queue(), vec![push(0, 7), lost(peek(0, &[])), pop(0, &[])]), vec![], all()),
         ("a wrong answer behind a lost one", alone(register(), vec![lost(read(0, &[])), read(0, &[1])]), vec![], all()),
+    ]
+}
+
+/// A channel of capacity 1 that takes 5, refuses 6 and gives 5: the sample of `samples/channel`.
+pub fn one_slot() -> History {
+    History { objects: vec![channel(1)], events: vec![push(0, 5), refused(1, 6), pop(0, &[5])] }
+}
+
+/// Small histories of one channel, each with the criteria that it meets and breaks by the words of documents 01 and 02.
+pub fn claims_of_channels() -> Vec<Claim> {
+    use Criterion::{Causal, Converge, Pram, Sequential, Weak};
+    let all = || vec![Pram, Weak, Causal, Converge, Sequential];
+    let of = |capacity: usize, events: Vec<Event>| History { objects: vec![channel(capacity)], events };
+    let lost_push = |value: u64| lost(push(0, value));
+    // A push of 5, another one of 6 by the same process, and two pops.
+    let two = |capacity: usize, second: Event, first_pop: &[u64], second_pop: &[u64]| {
+        of(capacity, vec![push(0, 5), second, pop(0, first_pop), pop(0, second_pop)])
+    };
+    vec![
+        ("one slot", one_slot(), all(), vec![]),
+        // One process: the view of each event has all earlier ones before it, so a history meets all five or none.
+        ("the last slot", of(1, vec![push(0, 5)]), all(), vec![]),
+        ("the last slot refused", of(1, vec![refused(0, 5)]), vec![], all()),
+        ("the second slot", of(2, vec![push(0, 5), push(0, 6), refused(0, 7)]), all(), vec![]),
+        ("the second slot refused", of(2, vec![push(0, 5), refused(0, 6)]), vec![], all()),
+        ("a third push taken", of(2, vec![push(0, 5), push(0, 6), push(0, 7)]), vec![], all()),
+        ("another value comes back", of(1, vec![push(0, 5), event(0, 0, Op::Push, Some(6), &[5])]), vec![], all()),
+        ("a refused push changes nothing", two(1, refused(0, 6), &[5], &[]), all(), vec![]),
+        ("a refused push goes in", two(1, refused(0, 6), &[5], &[6]), vec![], all()),
+        ("a refused push drops the oldest", of(1, vec![push(0, 5), refused(0, 6), pop(0, &[6])]), vec![], all()),
+        ("a pop frees a slot", of(1, vec![push(0, 5), pop(0, &[5]), push(0, 6), refused(0, 7)]), all(), vec![]),
+        ("a pop frees no slot", of(1, vec![push(0, 5), pop(0, &[5]), refused(0, 6)]), vec![], all()),
+        ("a peek frees a slot", of(1, vec![push(0, 5), peek(0, &[5]), push(0, 6)]), vec![], all()),
+        ("the oldest goes first", two(2, push(0, 6), &[5], &[6]), all(), vec![]),
+        ("the newest goes first", two(2, push(0, 6), &[6], &[5]), vec![], all()),
+        // A push whose answer is lost goes in where there is a slot, and is refused where there is none.
+        ("a lost push that is refused", two(1, lost_push(6), &[5], &[]), all(), vec![]),
+        ("a lost push that goes in", two(2, lost_push(6), &[5], &[6]), all(), vec![]),
+        ("a lost push into no slot", two(1, lost_push(6), &[5], &[6]), vec![], all()),
+        ("a lost push left out of two slots", two(2, lost_push(6), &[5], &[]), vec![], all()),
+        ("a lost push fills the last slot", of(1, vec![lost_push(5), refused(0, 6)]), all(), vec![]),
+        ("a lost push leaves the last slot", of(1, vec![lost_push(5), push(0, 6)]), vec![], all()),
+        // Both pushes taken: neither needs to know of the other, but in one view one of them finds the channel full.
+        (
+            "two for one slot",
+            of(1, vec![push(0, 5), push(1, 6)]),
+            vec![Pram, Weak, Causal, Converge],
+            vec![Sequential],
+        ),
+        // Both refused: each has the other before it in its process's view, and no causal order has both.
+        (
+            "none for one slot",
+            of(1, vec![refused(0, 5), refused(1, 6)]),
+            vec![Pram],
+            vec![Weak, Causal, Converge, Sequential],
+        ),
+        // As W, with lost pushes: each process has the other's push in the one slot.
+        (
+            "each peeks the other's",
+            of(1, vec![lost_push(4), peek(0, &[9]), lost(push(1, 9)), peek(1, &[4])]),
+            vec![Causal, Weak, Pram],
+            vec![Converge, Sequential],
+        ),
+        // As C: process 1 comes to know late of a push that then stands before its own and has the one slot.
+        (
+            "an earlier push known late",
+            of(1, vec![push(0, 4), push(1, 9), peek(1, &[9]), peek(1, &[4])]),
+            vec![Converge, Weak],
+            vec![Pram, Causal, Sequential],
+        ),
+        // As R: with no pop the slot keeps what it has, so no one view has both.
+        (
+            "the slot changes twice",
+            of(1, vec![push(0, 3), push(1, 8), peek(2, &[3]), peek(2, &[8]), peek(2, &[3])]),
+            vec![Weak],
+            vec![Pram, Causal, Converge, Sequential],
+        ),
     ]
 }
 

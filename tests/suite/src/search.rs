@@ -1,9 +1,9 @@
 //! Looks for a certificate of a history that is too large for the brute force: Figure 3 of document 004 has up to twelve events.
 //! Events are placed one by one in an order that extends the causal order, and each gets its past out of those already placed.
 //!
-//! A write or a push always gives the empty answer, so it needs no more in its past than its process's earlier events
-//! and their pasts: a smaller past puts fewer demands on every other event. The same holds of an event whose answer is
-//! lost. All other events try every past there is.
+//! A write, or a push onto a queue or a stack, always gives the empty answer, so it needs no more in its past than its
+//! process's earlier events and their pasts: a smaller past puts fewer demands on every other event. The same holds of
+//! an event whose answer is lost. All other events try every past there is, the pushes onto channels too.
 
 use std::collections::HashSet;
 
@@ -70,7 +70,9 @@ impl Causal<'_> {
     fn pasts_of(&self, e: usize, placed: &[usize], pasts: &[Option<Set>]) -> Vec<Set> {
         let closure = |f: usize| pasts[f].expect("it is placed") | 1 << f;
         let own = placed.iter().filter(|f| self.history.program_order(**f, e)).fold(0, |set, f| set | closure(*f));
-        if self.history.events[e].op.takes_value() || self.history.events[e].answer.is_none() {
+        let event = &self.history.events[e];
+        let always_empty = self.history.objects[event.object].answer_lengths(event.op) == [0];
+        if always_empty || event.answer.is_none() {
             return vec![own];
         }
         let mut found = vec![own];

@@ -4,7 +4,7 @@
 use crate::certificate::{Certificate, CertificateRules, Criterion, View};
 use crate::check::{CheckRules, Document01, Fault, Rules, NONE};
 use crate::checker::{Archive, Checker, Lent, Model, Shown};
-use crate::history::{Event, EventFields, History, HistoryRules};
+use crate::history::{Event, EventFields, History, HistoryRules, ObjectFields, CAPACITY_LIMIT};
 use crate::objects::{Kind, Object, ObjectRules, Op, State};
 use crate::texts::{Line, NumberRules, Refusal};
 
@@ -398,6 +398,312 @@ wrong_rules!(LostHasNoPast CheckRules {
     }
 });
 
+// Channels, replayed and read wrongly.
+
+wrong_rules!(LastSlotUnusable ObjectRules {
+    fn full(&self, object: &Object, state: &State) -> bool {
+        object.kind == Kind::Channel && state.len() + 1 >= object.capacity()
+    }
+});
+
+wrong_rules!(OneSlotMore ObjectRules {
+    fn full(&self, object: &Object, state: &State) -> bool {
+        object.kind == Kind::Channel && state.len() > object.capacity()
+    }
+});
+
+wrong_rules!(OneSlotMoreAtTheLimit ObjectRules {
+    fn full(&self, object: &Object, state: &State) -> bool {
+        object.kind == Kind::Channel && state.len() >= object.capacity() + usize::from(object.capacity() == 63)
+    }
+});
+
+wrong_rules!(NeverFull ObjectRules {
+    fn full(&self, _: &Object, _: &State) -> bool {
+        false
+    }
+});
+
+wrong_rules!(EightSlotsAtMost ObjectRules {
+    fn full(&self, object: &Object, state: &State) -> bool {
+        object.kind == Kind::Channel && state.len() >= object.capacity().min(8)
+    }
+});
+
+wrong_rules!(RefusedIsKept ObjectRules {
+    fn act(&self, object: &Object, state: &mut State, op: Op, value: Option<u64>) -> Vec<u64> {
+        let refused = op == Op::Push && self.full(object, state);
+        let answer = Document01.act(object, state, op, value);
+        if refused {
+            state.extend(value);
+        }
+        answer
+    }
+});
+
+wrong_rules!(RefusedAnswersNothing ObjectRules {
+    fn act(&self, object: &Object, state: &mut State, op: Op, value: Option<u64>) -> Vec<u64> {
+        let answer = Document01.act(object, state, op, value);
+        if op == Op::Push { vec![] } else { answer }
+    }
+});
+
+wrong_rules!(RefusedDropsOldest ObjectRules {
+    fn act(&self, object: &Object, state: &mut State, op: Op, value: Option<u64>) -> Vec<u64> {
+        if op == Op::Push && self.full(object, state) {
+            state.remove(0);
+            state.extend(value);
+            return value.into_iter().collect();
+        }
+        Document01.act(object, state, op, value)
+    }
+});
+
+wrong_rules!(RefusedAnswersOldest ObjectRules {
+    fn act(&self, object: &Object, state: &mut State, op: Op, value: Option<u64>) -> Vec<u64> {
+        let oldest = state.first().copied();
+        let refused = op == Op::Push && self.full(object, state);
+        let answer = Document01.act(object, state, op, value);
+        if refused { oldest.into_iter().collect() } else { answer }
+    }
+});
+
+wrong_rules!(ChannelAsStack ObjectRules {
+    fn act(&self, object: &Object, state: &mut State, op: Op, value: Option<u64>) -> Vec<u64> {
+        let turned = object.kind == Kind::Channel && op != Op::Push;
+        let kind = if turned { Kind::Stack } else { object.kind };
+        Document01.act(&Object { kind, width: object.width }, state, op, value)
+    }
+});
+
+wrong_rules!(TakenAnswersValue ObjectRules {
+    fn act(&self, object: &Object, state: &mut State, op: Op, value: Option<u64>) -> Vec<u64> {
+        let answer = Document01.act(object, state, op, value);
+        if op == Op::Push && object.kind == Kind::Channel { value.into_iter().collect() } else { answer }
+    }
+});
+
+wrong_rules!(PushesNeverAsked CheckRules {
+    fn differs(&self, event: &Event, given: &[u64]) -> bool {
+        event.op != Op::Push && Document01.differs(event, given)
+    }
+});
+
+wrong_rules!(PushesAskedByLength CheckRules {
+    fn differs(&self, event: &Event, given: &[u64]) -> bool {
+        match &event.answer {
+            Some(answer) if event.op == Op::Push => answer.len() != given.len(),
+            _ => Document01.differs(event, given),
+        }
+    }
+});
+
+wrong_rules!(RefusedByTheRecord CheckRules {
+    fn replay(&self, history: &History, order: &[usize], visible: &dyn Fn(usize) -> bool) -> Option<usize> {
+        // What was recorded as refused has no effect, whatever the channel holds in this view.
+        let refused = |event: &Event| event.op == Op::Push && event.answer.as_ref().is_some_and(|list| list.len() == 1);
+        let kept: Vec<usize> = order.iter().copied().filter(|e| visible(*e) || !refused(&history.events[*e])).collect();
+        Document01.replay(history, &kept, visible)
+    }
+});
+
+wrong_rules!(TakenByTheRecord CheckRules {
+    fn replay(&self, history: &History, order: &[usize], visible: &dyn Fn(usize) -> bool) -> Option<usize> {
+        // What was recorded as taken goes in, whatever the channel holds in this view.
+        replay_with(history, order, visible, &|e| history.events[e].answer == Some(vec![]))
+    }
+});
+
+wrong_rules!(UnseenPushesGoIn CheckRules {
+    fn replay(&self, history: &History, order: &[usize], visible: &dyn Fn(usize) -> bool) -> Option<usize> {
+        replay_with(history, order, visible, &|e| !visible(e))
+    }
+});
+
+wrong_rules!(LostPushesGoIn CheckRules {
+    fn replay(&self, history: &History, order: &[usize], visible: &dyn Fn(usize) -> bool) -> Option<usize> {
+        replay_with(history, order, visible, &|e| history.events[e].answer.is_none())
+    }
+});
+
+/// A replay in which some pushes go in though the channel is full. A visible one is asked as it should be.
+fn replay_with(
+    history: &History,
+    order: &[usize],
+    visible: &dyn Fn(usize) -> bool,
+    goes_in: &dyn Fn(usize) -> bool,
+) -> Option<usize> {
+    let mut states: Vec<State> = history.objects.iter().map(|object| object.start()).collect();
+    for e in order {
+        let event = &history.events[*e];
+        let object = &history.objects[event.object];
+        let state = &mut states[event.object];
+        let forced = event.op == Op::Push && Document01.full(object, state) && goes_in(*e);
+        let answer = Document01.act(object, state, event.op, event.value);
+        if forced {
+            state.extend(event.value);
+        }
+        if visible(*e) && Document01.differs(event, &answer) {
+            return Some(*e);
+        }
+    }
+    None
+}
+
+wrong_rules!(PopsFreeNoSlot CheckRules {
+    fn replay(&self, history: &History, order: &[usize], visible: &dyn Fn(usize) -> bool) -> Option<usize> {
+        // Full by the pushes taken so far, whatever was popped since.
+        let mut states: Vec<State> = history.objects.iter().map(|object| object.start()).collect();
+        let mut taken = vec![0; states.len()];
+        for e in order {
+            let event = &history.events[*e];
+            let object = &history.objects[event.object];
+            let push = event.op == Op::Push && object.kind == Kind::Channel;
+            let answer = if push && taken[event.object] >= object.capacity() {
+                event.value.into_iter().collect()
+            } else {
+                taken[event.object] += usize::from(push);
+                Document01.act(object, &mut states[event.object], event.op, event.value)
+            };
+            if visible(*e) && self.differs(event, &answer) {
+                return Some(*e);
+            }
+        }
+        None
+    }
+});
+
+wrong_rules!(OneCapacityForAll CheckRules {
+    fn replay(&self, history: &History, order: &[usize], visible: &dyn Fn(usize) -> bool) -> Option<usize> {
+        let is_channel = |object: &&mut Object| object.kind == Kind::Channel;
+        let mut changed = history.clone();
+        let first = history.objects.iter().find(|object| object.kind == Kind::Channel).and_then(|object| object.width);
+        changed.objects.iter_mut().filter(is_channel).for_each(|object| object.width = first);
+        Document01.replay(&changed, order, visible)
+    }
+});
+
+wrong_rules!(CapacityLimitedByEight HistoryRules {
+    fn width_limit(&self, _: Kind) -> u64 {
+        8
+    }
+});
+
+wrong_rules!(CapacityBelowSixtyFour HistoryRules {
+    fn width_limit(&self, kind: Kind) -> u64 {
+        if kind == Kind::Channel { 63 } else { 8 }
+    }
+});
+
+wrong_rules!(CapacitySixtyFiveRead HistoryRules {
+    fn width_limit(&self, kind: Kind) -> u64 {
+        if kind == Kind::Channel { 65 } else { 8 }
+    }
+});
+
+wrong_rules!(WidthsLimitedBySixtyFour HistoryRules {
+    fn width_limit(&self, _: Kind) -> u64 {
+        64
+    }
+});
+
+wrong_rules!(WidthsBesideWindowsLimitedBySixtyFour HistoryRules {
+    fn width_limit(&self, kind: Kind) -> u64 {
+        if kind == Kind::Window { 8 } else { 64 }
+    }
+});
+
+wrong_rules!(CapacityZeroRead HistoryRules {
+    fn object_over(&self, fields: &ObjectFields) -> bool {
+        let zero = fields.kind == Kind::Channel && fields.width == Some(0);
+        !zero && Document01.object_over(fields)
+    }
+});
+
+wrong_rules!(CapacityWraps HistoryRules {
+    fn object_line(&self, line: &[u8], next: u64) -> Result<Object, u32> {
+        let mut fields = self.object_layout(line, next).ok_or(2u32)?;
+        if fields.kind == Kind::Channel {
+            fields.width = fields.width.map(|width| width % 256);
+        }
+        match self.object_fault(&fields) {
+            Some(fault) => Err(fault),
+            None => Ok(Object { kind: fields.kind, width: fields.width.map(|width| width as usize) }),
+        }
+    }
+});
+
+wrong_rules!(CapacityLeftOut HistoryRules {
+    fn object_line(&self, line: &[u8], next: u64) -> Result<Object, u32> {
+        // Without a capacity the channel has as many slots as there may be.
+        let mut fields = self.object_layout(line, next).ok_or(2u32)?;
+        if fields.kind == Kind::Channel {
+            fields.width = fields.width.or(Some(CAPACITY_LIMIT));
+        }
+        match self.object_fault(&fields) {
+            Some(fault) => Err(fault),
+            None => Ok(Object { kind: fields.kind, width: fields.width.map(|width| width as usize) }),
+        }
+    }
+});
+
+wrong_rules!(WidthFourBeforeThree HistoryRules {
+    fn object_fault(&self, fields: &ObjectFields) -> Option<u32> {
+        if self.object_misfit(fields) { Some(4) } else { Document01.object_fault(fields) }
+    }
+});
+
+wrong_rules!(PushOnChannelAnswersNothing HistoryRules {
+    fn event_answer(&self, fields: &EventFields, object: &Object) -> bool {
+        let one = fields.op == Op::Push && fields.answer.as_ref().is_some_and(|answer| answer.len() == 1);
+        one || Document01.event_answer(fields, object)
+    }
+});
+
+wrong_rules!(PushOnChannelMustAnswer HistoryRules {
+    fn event_answer(&self, fields: &EventFields, object: &Object) -> bool {
+        let none = fields.op == Op::Push && fields.answer.as_ref().is_some_and(|answer| answer.is_empty());
+        none && object.kind == Kind::Channel || Document01.event_answer(fields, object)
+    }
+});
+
+wrong_rules!(PushOnQueueAnswers HistoryRules {
+    fn event_answer(&self, fields: &EventFields, object: &Object) -> bool {
+        let one = fields.op == Op::Push && fields.answer.as_ref().is_some_and(|answer| answer.len() == 1);
+        let let_pass = one && object.kind == Kind::Queue;
+        !let_pass && Document01.event_answer(fields, object)
+    }
+});
+
+wrong_rules!(PushOnChannelAnswersTwo HistoryRules {
+    fn event_answer(&self, fields: &EventFields, object: &Object) -> bool {
+        let two = fields.op == Op::Push && fields.answer.as_ref().is_some_and(|answer| answer.len() == 2);
+        let let_pass = two && object.kind == Kind::Channel;
+        !let_pass && Document01.event_answer(fields, object)
+    }
+});
+
+wrong_rules!(PushAnswersItsValueOrFive HistoryRules {
+    fn event_answer(&self, fields: &EventFields, object: &Object) -> bool {
+        // Reading judges the length alone.
+        let other = fields.op == Op::Push && fields.answer.iter().flatten().any(|value| Some(*value) != fields.value);
+        other || Document01.event_answer(fields, object)
+    }
+});
+
+wrong_rules!(ChannelHasRead HistoryRules {
+    fn event_misfit(&self, fields: &EventFields, object: &Object) -> bool {
+        let let_pass = object.kind == Kind::Channel && fields.op == Op::Read && fields.value.is_none();
+        !let_pass && Document01.event_misfit(fields, object)
+    }
+});
+
+wrong_rules!(ChannelUnknown HistoryRules {
+    fn object_layout(&self, line: &[u8], next: u64) -> Option<ObjectFields> {
+        Document01.object_layout(line, next).filter(|fields| fields.kind != Kind::Channel)
+    }
+});
+
 /// What is spoilt of what the archive gives.
 #[derive(Clone, Copy, PartialEq, Eq, Debug)]
 enum Spoil {
@@ -431,6 +737,8 @@ enum Spoil {
     WeakenMorePairs,
     WeakenOthersFalling,
     LostWrittenAsEmpty,
+    CapacityWrittenAsNone,
+    CapacityDigitsTurned,
 }
 
 struct Spoilt(Spoil);
@@ -521,6 +829,16 @@ impl Checker for Spoilt {
         if self.0 == Spoil::LostWrittenAsEmpty {
             for byte in buffer.part()[..*length as usize].iter_mut().filter(|byte| **byte == b'?') {
                 *byte = b'-';
+            }
+        }
+        // The lines of channels with a capacity of one digit, or of two.
+        let text = buffer.part()[..*length as usize].to_vec();
+        for at in (0..text.len()).filter(|at| text[*at..].starts_with(b" channel ")) {
+            let digits = text[at + 9..].iter().take_while(|byte| byte.is_ascii_digit()).count();
+            match self.0 {
+                Spoil::CapacityWrittenAsNone if digits == 1 => buffer.part()[at + 9] = b'-',
+                Spoil::CapacityDigitsTurned if digits == 2 => buffer.part().swap(at + 9, at + 10),
+                _ => {}
             }
         }
         self.written(answer, &before, buffer, length)
@@ -671,5 +989,42 @@ pub fn wrong_checkers() -> Vec<(&'static str, Box<dyn Checker>)> {
         model("an event whose answer is lost may be left out of a view", LostLeftOutOfViews),
         model("no 11 for an event whose answer is lost", LostHasNoPast),
         spoilt("a lost answer is written as the empty one", Spoil::LostWrittenAsEmpty),
+        model("the last slot of a channel is not usable", LastSlotUnusable),
+        model("a channel has one slot more", OneSlotMore),
+        model("a channel of 63 has one slot more", OneSlotMoreAtTheLimit),
+        model("a channel has eight slots at most", EightSlotsAtMost),
+        model("a channel is never full", NeverFull),
+        model("a refused push answers its value and goes in", RefusedIsKept),
+        model("a refused push answers nothing", RefusedAnswersNothing),
+        model("a refused push drops the oldest value", RefusedDropsOldest),
+        model("a refused push answers the oldest value", RefusedAnswersOldest),
+        model("a push onto a channel answers its value though it is taken", TakenAnswersValue),
+        model("a channel pops the newest", ChannelAsStack),
+        model("the answers of pushes are never asked", PushesNeverAsked),
+        model("of the answer of a push only the length is asked", PushesAskedByLength),
+        model("a push that was recorded as refused has no effect in other views", RefusedByTheRecord),
+        model("a push that was recorded as taken goes in though the channel is full", TakenByTheRecord),
+        model("a push whose answer isn't visible goes in though the channel is full", UnseenPushesGoIn),
+        model("a push whose answer is lost goes in though the channel is full", LostPushesGoIn),
+        model("a pop frees no slot", PopsFreeNoSlot),
+        model("all channels have the capacity of the first", OneCapacityForAll),
+        model("a capacity is limited by 8", CapacityLimitedByEight),
+        model("a capacity of 64 is refused", CapacityBelowSixtyFour),
+        model("a capacity of 65 is read", CapacitySixtyFiveRead),
+        model("a capacity of 0 is read", CapacityZeroRead),
+        model("a capacity wraps at 256", CapacityWraps),
+        model("the widths of other kinds are limited by 64", WidthsLimitedBySixtyFour),
+        model("the widths of registers, queues and stacks are limited by 64", WidthsBesideWindowsLimitedBySixtyFour),
+        model("- is read as the capacity of a channel", CapacityLeftOut),
+        model("4 before 3 for a width", WidthFourBeforeThree),
+        model("5 for one value as the answer of a channel's push", PushOnChannelAnswersNothing),
+        model("5 for no value as the answer of a channel's push", PushOnChannelMustAnswer),
+        model("no 5 for one value as the answer of a queue's push", PushOnQueueAnswers),
+        model("no 5 for two values as the answer of a channel's push", PushOnChannelAnswersTwo),
+        model("5 for another value than the pushed one", PushAnswersItsValueOrFive),
+        model("a channel has read", ChannelHasRead),
+        model("channels aren't read", ChannelUnknown),
+        spoilt("a capacity of one digit is written as -", Spoil::CapacityWrittenAsNone),
+        spoilt("the two digits of a capacity change places", Spoil::CapacityDigitsTurned),
     ]
 }
