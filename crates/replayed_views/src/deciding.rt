@@ -154,14 +154,15 @@ fn at_most(number: u8, limit: u8) -> u8
     if number < limit { number } else { limit }
 }
 
-// For each event the latest earlier event of its process, or the event itself where there is none.
-pub(crate) fn earlier_views(events: [Light; 64]) -> [u8; 64]
+// For each of the first m events the latest earlier event of its process, or the event itself where there is none.
+pub(crate) fn earlier_views(events: [Light; 64], m: usize) -> [u8; 64]
+    requires { ⌜ m ≤ 64 ⌝ }
     ensures { λ r. ⌜ ((k : ℕ) → k < 64 → getD r k 0 ≤ k) ⌝ }
 {
     let mut last = [64u8; 256];
     let mut earlier = [0u8; 64];
     let mut k: usize = 0;
-    while k < 64 {
+    while k < m {
         let e = events[k];
         let process = e.process;
         let p = process.0 as usize;

@@ -53,7 +53,7 @@ pub fn first_wrong(
 {
     // Where one event's answer decides a view, only the events of its object are replayed.
     let rows = object_rows(events);
-    let earlier = earlier_views(events);
+    let earlier = earlier_views(events, m);
     let mut k = 0;
     while k < m {
         let view = views[k];

@@ -1,8 +1,8 @@
--- No entry made so far is above its place. Assumes nothing.
+-- No entry is above its place, those that are not made yet are 0. Assumes nothing.
 use Prim.Native.Nat.{ℕ, _-_, _≤_, _<_}
 use native.Mathlib.Omega.{arith}
 use mathlib.Core.Path.{_≡_, refl, _∙_}
-use lib.ListN.{length, getD, length-set}
+use lib.ListN.{length, getD, length-set, getD-replicate}
 use lib.Seq.{getD-set-same, getD-set-other}
 use Rattle.layout.proofs.Cases.{by-eq}
 use Rattle.replayed_views.proofs.deciding.earlier_views.Statement.{statement}
@@ -10,14 +10,14 @@ use Rattle.replayed_views.proofs.deciding.earlier_views.Tie as tie
 use borrow.Author.Needs.{needs}
 
 abbrev Inv-loop : tie.InvT-loop
-Inv-loop events last₀ earlier₀ k₀ last earlier k =
-    (k ≤ 64) × (length last ≡ 256) × (length earlier ≡ 64) × ((j : ℕ) → j < k → getD earlier j 0 ≤ j)
+Inv-loop m events last₀ earlier₀ k₀ last earlier k =
+    (m ≤ 64) × (length last ≡ 256) × (length earlier ≡ 64) × ((j : ℕ) → j < 64 → getD earlier j 0 ≤ j)
 
 abbrev μ-loop : tie.MeasureT-loop
-μ-loop events last₀ earlier₀ k₀ last earlier k = 64 - k
+μ-loop m events last₀ earlier₀ k₀ last earlier k = m - k
 
 loop-holds : tie.Need-loop-holds Inv-loop μ-loop
-loop-holds c = (omega arith, refl, refl, λ j h. absurd (omega arith))
+loop-holds c = (c .pre, refl, refl, λ j h. rw (getD-replicate {A = ℕ} 64 j 0 0 h) (omega arith))
 
 mul-e : tie.Need-mul-e Inv-loop μ-loop
 mul-e c = search needs
@@ -52,17 +52,17 @@ loop-less c = search needs
 loop-again : tie.Need-loop-again Inv-loop μ-loop
 loop-again c =
     let l = c .before .before .before .before .before .loop in
-    let h : l .k < 64 = omega arith in (
-      omega arith,
+    let h : l .k < 64 = omega (arith, l .inv .0) in (
+      l .inv .0,
       length-set (l .last) _ _ ∙ l .inv .1,
       length-set (l .earlier) _ _ ∙ l .inv .2,
       λ j k. by-eq j (l .k)
           (λ q. rw (q, getD-set-same (l .earlier) (l .k) (c .at-most .result) 0 (omega (arith, l .inv .2))) (c .at-most .ensures))
-          (λ q. rw (getD-set-other (l .earlier) (l .k) j (c .at-most .result) 0 q) (l .inv .3 j (omega (arith, q)))),
+          (λ q. rw (getD-set-other (l .earlier) (l .k) j (c .at-most .result) 0 q) (l .inv .3 j k)),
     )
 
 returns : tie.Need-returns Inv-loop μ-loop
-returns c = λ k h. let l = c .before .loop in l .inv .3 k (omega (arith, l .inv .0, c .loop-test .left))
+returns c = c .before .loop .inv .3
 
 pub earlier-views-spec : {M : Type 1} → statement M
 earlier-views-spec =
