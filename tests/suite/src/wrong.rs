@@ -621,29 +621,23 @@ wrong_rules!(CapacityZeroRead HistoryRules {
 });
 
 wrong_rules!(CapacityWraps HistoryRules {
-    fn object_line(&self, line: &[u8], next: u64) -> Result<Object, u32> {
-        let mut fields = self.object_layout(line, next).ok_or(2u32)?;
+    fn object_layout(&self, line: &[u8], next: u64) -> Option<ObjectFields> {
+        let mut fields = Document01.object_layout(line, next)?;
         if fields.kind == Kind::Channel {
             fields.width = fields.width.map(|width| width % 256);
         }
-        match self.object_fault(&fields) {
-            Some(fault) => Err(fault),
-            None => Ok(Object { kind: fields.kind, width: fields.width.map(|width| width as usize) }),
-        }
+        Some(fields)
     }
 });
 
 wrong_rules!(CapacityLeftOut HistoryRules {
-    fn object_line(&self, line: &[u8], next: u64) -> Result<Object, u32> {
+    fn object_layout(&self, line: &[u8], next: u64) -> Option<ObjectFields> {
         // Without a capacity the channel has as many slots as there may be.
-        let mut fields = self.object_layout(line, next).ok_or(2u32)?;
+        let mut fields = Document01.object_layout(line, next)?;
         if fields.kind == Kind::Channel {
             fields.width = fields.width.or(Some(CAPACITY_LIMIT));
         }
-        match self.object_fault(&fields) {
-            Some(fault) => Err(fault),
-            None => Ok(Object { kind: fields.kind, width: fields.width.map(|width| width as usize) }),
-        }
+        Some(fields)
     }
 });
 
