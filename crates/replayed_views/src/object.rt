@@ -59,20 +59,21 @@ fn replay_object(
         let at = no as usize;
         let f = events[at];
         let op = f.op;
-        let step = s.step(EventOp {
-            no: EventNo(no),
-            op,
-        });
         if no == e.0 {
-            let given = step.answer;
+            let given = s.answer(EventOp {
+                no: EventNo(no),
+                op,
+            });
             let answer = answers[at];
             let count = counts[at] as usize;
             if !fits_given(values, answer, count, given) {
                 return at;
             }
         }
-        let t = step.state;
-        s = t;
+        s = s.changed(EventOp {
+            no: EventNo(no),
+            op,
+        });
         i += 1;
     }
     64

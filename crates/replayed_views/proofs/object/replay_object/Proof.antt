@@ -86,16 +86,15 @@ ready c = (stands c .ends, omega (arith, stands c .room, c .before .before .pre 
 
 -- the answer is another event's, or is what the state gives
 nothing-wrong : (c : tie.Joined1 Inv-loop μ-loop)
-    → let t = c .before .before .before .before in
+    → let t = c .before .before .before in
     let a = t .before .before .args in
     Judged false (eqb (number t) (a .e .0)) (a .values .now) (recorded t) (t .before .loop .s) (op t) (number t) false
 nothing-wrong c =
-    let p = c .before .before in
-    let t = p .before .before in
+    let t = c .before .before .before in
     let a = t .before .before .args in
     ⊎-elim
     (λ w.
-    let j = judged-given false (eqb (number t) (a .e .0)) (a .values .now) (recorded t) (t .before .loop .s) (op t) (number t) (p .step .result .answer) (p .step .ensures .1) (w .4 .ensures) in
+    let j = judged-given false (eqb (number t) (a .e .0)) (a .values .now) (recorded t) (t .before .loop .s) (op t) (number t) (w .1 .result) (w .1 .ensures) (w .4 .ensures) in
     judged-seen false (eqb (number t) (a .e .0)) (a .values .now) (recorded t) (t .before .loop .s) (op t) (number t) (eq-eqb (number t) (a .e .0) (w .0 .taken)) j (w .5 .left))
     (λ w. judged-unseen false (eqb (number t) (a .e .0)) (a .values .now) (recorded t) (t .before .loop .s) (op t) (number t) (ne-eqb (number t) (a .e .0) (w .left)))
     (c .if1 .came)
@@ -115,8 +114,8 @@ mul-f c = omega (arith, below c)
 array-copy-out-f : tie.Need-array-copy-out-f Inv-loop μ-loop
 array-copy-out-f c = below c
 
-step-requires : tie.Need-step-requires Inv-loop μ-loop
-step-requires c κs = ready (c .before)
+answer-requires : tie.Need-answer-requires Inv-loop μ-loop
+answer-requires c κs = let r = ready (c .before .before .before) in (r .0, omega (arith, r .1))
 
 mul-answer : tie.Need-mul-answer Inv-loop μ-loop
 mul-answer c = search needs
@@ -128,29 +127,32 @@ element-copy-out-count : tie.Need-element-copy-out-count Inv-loop μ-loop
 element-copy-out-count c = search needs
 
 cast-count : tie.Need-cast-count Inv-loop μ-loop
-cast-count c = omega (arith, short-answer (c .before .before .before .before .before .before .before))
+cast-count c = omega (arith, short-answer (c .before .before .before .before .before .before))
 
 fits-given-requires : tie.Need-fits-given-requires Inv-loop μ-loop
 fits-given-requires c κs =
-    let p = c .before .before .before .before .before in
-    let t = p .before .before in
-    (t .before .before .pre .values, p .step .ensures .1 .few)
+    let p = c .before .before in
+    let t = p .before .before .before .before in
+    (t .before .before .pre .values, p .answer .ensures .few)
 
 returns : tie.Need-returns Inv-loop μ-loop
 returns c =
     let d = c .before in
-    let n = d .before .before .before .before in
-    let p = n .before .before in
-    let t = p .before .before in
+    let p = d .before .before .before in
+    let n = p .before in
+    let t = n .before .before .before in
     let l = t .before .loop in
     let s = t .before .before in
     let a = s .args in
-    let g = judged-given false (eqb (number t) (a .e .0)) (a .values .now) (recorded t) (l .s) (op t) (number t) (p .step .result .answer) (p .step .ensures .1) (d .fits-given .ensures) in
+    let g = judged-given false (eqb (number t) (a .e .0)) (a .values .now) (recorded t) (l .s) (op t) (number t) (p .answer .result) (p .answer .ensures) (d .fits-given .ensures) in
     let j = judged-seen false (eqb (number t) (a .e .0)) (a .values .now) (recorded t) (l .s) (op t) (number t) (eq-eqb (number t) (a .e .0) (n .if1 .taken)) g refl in
     found-some (number t) (below t)
     ∙ sym (whole-part (a .objects) (a .size) (a .t2) (a .values .now) (a .answers .now) (a .counts .now) (a .e .0) (place s) (a .start) (take (a .m) (a .t8))
     (l .inv .1 (a .objects) (s .pre) .1
     ∙ part-stops (a .objects) (a .size) (a .t2) (a .values .now) (a .answers .now) (a .counts .now) (a .e .0) (place s) (l .s) (a .t8) (a .m) (l .i) (in-part t) (part-holds t) (is-event t) _ (l .i) (stands t) (has-op t (a .objects) (s .pre)) j (c .if2 .taken)))
+
+changed-requires : tie.Need-changed-requires Inv-loop μ-loop
+changed-requires c κs = ready (c .before .before .before)
 
 add-i : tie.Need-add-i Inv-loop μ-loop
 add-i c = search needs
@@ -161,8 +163,7 @@ loop-less c = search needs
 loop-again : tie.Need-loop-again Inv-loop μ-loop
 loop-again c =
     let n = c .before in
-    let p = n .before .before in
-    let t = p .before .before in
+    let t = n .before .before .before in
     let l = t .before .loop in
     let s = t .before .before in
     let a = s .args in (
@@ -170,9 +171,9 @@ loop-again c =
       λ os r.
           let st = l .inv .1 os r .0 in
           let has = has-op t os r in (
-            stands-on (getD os (place s) noObject) (l .i) (l .s) st (op t) has (number t) (p .step .result .state) (p .step .ensures .0),
+            stands-on (getD os (place s) noObject) (l .i) (l .s) st (op t) has (number t) (c .changed .result) (c .changed .ensures),
             l .inv .1 os r .1
-                ∙ part-on os (a .size) (a .t2) (a .values .now) (a .answers .now) (a .counts .now) (a .e .0) (place s) (l .s) (a .t8) (a .m) (l .i) (in-part t) (part-holds t) (r .event (l .i) (in-part t)) false (l .i) st has (nothing-wrong n) refl (p .step .result .state) (p .step .ensures .0),
+                ∙ part-on os (a .size) (a .t2) (a .values .now) (a .answers .now) (a .counts .now) (a .e .0) (place s) (l .s) (a .t8) (a .m) (l .i) (in-part t) (part-holds t) (r .event (l .i) (in-part t)) false (l .i) st has (nothing-wrong n) refl (c .changed .result) (c .changed .ensures),
           ),
     )
 
@@ -196,13 +197,14 @@ replay-object-spec =
     cast-at
     mul-f
     array-copy-out-f
-    step-requires
+    answer-requires
     mul-answer
     element-copy-out-answer
     element-copy-out-count
     cast-count
     fits-given-requires
     returns
+    changed-requires
     add-i
     loop-less
     loop-again
