@@ -74,15 +74,11 @@ module _ (os : List Object) (size : ℕ) (ls : List Light) (vs cs : List ℕ) (v
       let below : (i : ℕ) → i < cut .count → getD (cut .events) i 0 < size =
       λ i h. kept-below view n size (r .event) (inRow row) (getD (cut .events) i 0) (kept i h) in
       record {
-        values = r .values;
-        small = r .small;
+        parts = r .parts;
         short = few;
-        own = r .own;
         event = below;
+        own = r .own;
         object = λ f l t. r .object f l (mem-keep (inRow row) f (take n view) (ap (mem f) (sym (q .0)) ∙ t) .0);
-        fits = r .fits;
-        answer = r .answer;
-        silent = r .silent;
         start = r .start;
       }
 
@@ -91,16 +87,12 @@ module _ (os : List Object) (size : ℕ) (ls : List Light) (vs cs : List ℕ) (v
     pub row-ready : ReadyKept os size ls vs cs (getD starts (getD ls e noLight .object) noState) view n (inRow row) e
     row-ready =
         record {
-          values = r .values;
-          small = r .small;
+          parts = r .parts;
           short = r .short;
-          own = below;
           event = r .event;
+          own = below;
           object = λ f h t. eqb-true _ _ (and-right (g f) _ (sym (is-row f h) ∙ t));
-          fits = r .fits;
-          answer = r .answer;
-          silent = r .silent e below;
-          start = r .start (getD ls e noLight .object) (r .object e below);
+          start = r .start (getD ls e noLight .object) (r .parts .object e below);
         }
 
     -- the replay of the events that pass is that of those in the row
@@ -112,7 +104,7 @@ module _ (os : List Object) (size : ℕ) (ls : List Light) (vs cs : List ℕ) (v
         let o = getD ls e noLight .object in
         let on : (f : ℕ) → f < size → event h f .object ≡ getD ls f noLight .object =
         λ f l. ap (λ (x : Event). x .object) (event-at os size ls vs answers cs f l) in
-        one-object h e o (on e below) (contentsIn vs starts) (keep g (take n view)) (omega (arith, r .object e below, long, length-map starts (contentsOf vs)))
+        one-object h e o (on e below) (contentsIn vs starts) (keep g (take n view)) (omega (arith, r .parts .object e below, long, length-map starts (contentsOf vs)))
         ∙ ap (λ (c : List ℕ). oneWrong h e o c (keep (onObject h o) (keep g (take n view)))) (getD-contents vs starts o)
         ∙ ap (oneWrong h e o (contentsOf vs (getD starts o noState)))
         (keep-both (onObject h o) g (inRow row) (take n view)

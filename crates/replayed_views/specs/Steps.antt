@@ -4,11 +4,10 @@ use mathlib.Core.Path.{_≡_}
 use mathlib.Core.Bool.{Bool, true, false, not, _&&_}
 use mathlib.Core.List.{List, [], _∷_}
 use mathlib.Core.Option.{Option, none}
-use lib.ListN.{length, getD}
+use lib.ListN.{getD}
 use lib.Dec.{eqb}
 use Rattle.history.specs.declared.record.Object.{Object}
 use Rattle.history.specs.Record.{noObject}
-use Rattle.history.specs.Kinds.{hasOp}
 use Rattle.criteria.specs.Object.{after, gives}
 use Rattle.criteria.specs.Tests.{or, foundIf}
 use Rattle.criteria.specs.History.{History, event, object, only}
@@ -18,7 +17,7 @@ use Rattle.objects.specs.declared.state.State.{State}
 use Rattle.replays.specs.declared.replay.Light.{Light}
 use Rattle.replays.specs.declared.replay.Visible.{Visible}
 use Rattle.replays.specs.declared.replay.Visible.the-variants.{All, Of, Only}
-use Rattle.replays.specs.Replay.{noLight, lightHistory, isVisible, Stands, Silent}
+use Rattle.replays.specs.Replay.{noLight, lightHistory, isVisible, Stands, SoundParts}
 
 -- The first wrong answer among events of the object o, where only e's answer is visible, from what the object holds.
 abbrev pub oneWrong : History → ℕ → ℕ → List ℕ → List ℕ → Option ℕ
@@ -27,21 +26,14 @@ oneWrong h e o c (f ∷ fs) =
     or (foundIf (only e f && not (fits (event h f .answer) (gives (object h o) (event h f .op) (event h f .value) c))) f)
     (oneWrong h e o (after (object h o) (event h f .op) (event h f .value) c) fs)
 
--- What the replay of one object's events takes for granted: there are values of 64 events and of the start, e is an event, the view
--- holds events, those of them that are kept are of e's object, an event's object has its op, no recorded answer has more than eight
--- values and 9 stands for one that was lost, e's answer is right whatever its object holds if e is silent, and the state of e's object
--- stands before any event.
+-- What the replay of one object's events takes for granted: the parts of the history are sound, the view holds events, e is one, those
+-- that are kept are of e's object, and the state of e's object stands before any event.
 pub record ReadyKept (os : List Object) (size : ℕ) (ls : List Light) (vs cs : List ℕ) (first : State) (view : List ℕ) (n : ℕ) (kept : ℕ → Bool) (e : ℕ) : Type 0 where
-  pub values : length vs ≡ 65
-  pub small : size ≤ 64
+  pub parts : SoundParts os size ls vs cs
   pub short : n ≤ 64
-  pub own : e < size
   pub event : (i : ℕ) → i < n → getD view i 0 < size
+  pub own : e < size
   pub object : (f : ℕ) → f < size → kept f ≡ true → getD ls f noLight .object ≡ getD ls e noLight .object
-  pub fits : (f : ℕ) → f < size → hasOp (getD os (getD ls f noLight .object) noObject .kind) (getD ls f noLight .op) ≡ true
-  pub answer : (f : ℕ) → f < size → getD cs f 0 ≤ 9
-  pub silent : getD ls e noLight .silent ≡ true
-      → Silent (getD os (getD ls e noLight .object) noObject) (getD ls e noLight .op) (getD cs e 0)
   pub start : Stands (getD os (getD ls e noLight .object) noObject) 0 first
 
 -- The answers of process p are the visible ones.

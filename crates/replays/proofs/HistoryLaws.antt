@@ -35,7 +35,7 @@ use Rattle.objects.specs.State.{valueIn, contentsOf, noState, Fresh}
 use Rattle.replays.specs.declared.replay.Light.{Light}
 use Rattle.replays.specs.declared.replay.Visible.{Visible}
 use Rattle.replays.specs.declared.replay.Visible.the-variants.{All, Of, Only}
-use Rattle.replays.specs.Replay.{recordedAs, noLight, eventAt, lightHistory, contentsIn, isVisible, Silent, Ready}
+use Rattle.replays.specs.Replay.{recordedAs, noLight, eventAt, lightHistory, contentsIn, isVisible, Silent, SoundParts, Ready}
 use Rattle.replays.specs.Light.{neverAnswers, isSilent, lightOf, countOf}
 use Rattle.replays.proofs.ReplayLaws.{fresh-stands}
 use Rattle.replays.proofs.LightLaws.{Made}
@@ -207,18 +207,23 @@ module _ (h : written-history.History) (s : Sound h) (ls : List Light) (vs cs : 
   light-at : (e : ℕ) → e < h .count → getD ls e noLight ≡ lightOf (h .objects) (getD (h .events) e noEvent)
   light-at e l = lights e (omega (arith, s .count))
 
-  pub ready-of : Ready (h .objects) (h .count) ls vs cs states view n
-  ready-of = record {
+  parts-of : SoundParts (h .objects) (h .count) ls vs cs
+  parts-of = record {
     values = values-long;
     small = s .count;
-    short = short-view;
-    event = entries;
     object = λ e l. rw (light-at e l) (omega (arith, sound-at e l .declared, s .objects, s .declared));
-    fits = λ e l. rw (light-at e l, agree (getD (h .events) e noEvent .object)) (sound-at e l .op);
+    op = λ e l. rw (light-at e l, agree (getD (h .events) e noEvent .object)) (sound-at e l .op);
     answer = λ e l. rw (counts e (omega (arith, s .count))) (count-small (getD (h .events) e noEvent .answer) (sound-at e l .few));
     silent = λ e l t.
         let x = getD (h .events) e noEvent in
         rw (light-at e l, counts e (omega (arith, s .count)))
         (silent-right (getD (h .objects) (x .object) noObject) (x .op) (x .answer) (rw (light-at e l) at t));
+  }
+
+  pub ready-of : Ready (h .objects) (h .count) ls vs cs states view n
+  ready-of = record {
+    parts = parts-of;
+    short = short-view;
+    event = entries;
     start = λ o l. fresh-stands (getD (h .objects) o noObject) (getD states o noState) (fresh-as o l);
   }

@@ -71,17 +71,22 @@ pub record Stands (o : Object) (m : ℕ) (s : State) : Type 0 where
 abbrev pub Silent : Object → Op → ℕ → Type 0
 Silent o op count = (v : ℕ) (answer c : List ℕ) → fits (recordedAs count answer) (gives o op v c) ≡ true
 
--- What a replay takes for granted: there are values of 64 events and of the start, the view holds events, an event's object is one of
--- the sixteen and has its op, no recorded answer has more than eight values and 9 stands for one that was lost, a silent event's answer
--- is right whatever its object holds, and each object's state stands before any event.
-pub record Ready (os : List Object) (size : ℕ) (ls : List Light) (vs cs : List ℕ) (starts : List State) (view : List ℕ) (n : ℕ) : Type 0 where
+-- What the replays take for granted of the parts of a history: there are values of 64 events and of the start, an event's object is one
+-- of the sixteen and has its op, no recorded answer has more than eight values and 9 stands for one that was lost, and a silent event's
+-- answer is right whatever its object holds.
+pub record SoundParts (os : List Object) (size : ℕ) (ls : List Light) (vs cs : List ℕ) : Type 0 where
   pub values : length vs ≡ 65
   pub small : size ≤ 64
-  pub short : n ≤ 64
-  pub event : (i : ℕ) → i < n → getD view i 0 < size
   pub object : (e : ℕ) → e < size → getD ls e noLight .object < 16
-  pub fits : (e : ℕ) → e < size → hasOp (getD os (getD ls e noLight .object) noObject .kind) (getD ls e noLight .op) ≡ true
+  pub op : (e : ℕ) → e < size → hasOp (getD os (getD ls e noLight .object) noObject .kind) (getD ls e noLight .op) ≡ true
   pub answer : (e : ℕ) → e < size → getD cs e 0 ≤ 9
   pub silent : (e : ℕ) → e < size → getD ls e noLight .silent ≡ true
       → Silent (getD os (getD ls e noLight .object) noObject) (getD ls e noLight .op) (getD cs e 0)
+
+-- What the replay of a view takes for granted: the parts are sound, the view holds events, and each object's state stands before any
+-- event.
+pub record Ready (os : List Object) (size : ℕ) (ls : List Light) (vs cs : List ℕ) (starts : List State) (view : List ℕ) (n : ℕ) : Type 0 where
+  pub parts : SoundParts os size ls vs cs
+  pub short : n ≤ 64
+  pub event : (i : ℕ) → i < n → getD view i 0 < size
   pub start : (o : ℕ) → o < 16 → Stands (getD os o noObject) 0 (getD starts o noState)

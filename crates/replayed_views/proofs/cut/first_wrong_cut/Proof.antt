@@ -39,7 +39,7 @@ abbrev place : tie.In-loop Inv-loop μ-loop → ℕ
 place c = getD (c .before .before .before .args .t2) (c .before .loop .e) noLight .object
 
 is-object : (c : tie.In-loop Inv-loop μ-loop) → place c < 16
-is-object c = c .before .before .before .pre .object (c .before .loop .e) (next-e c)
+is-object c = c .before .before .before .pre .parts .object (c .before .loop .e) (next-e c)
 
 -- the events of its past and it that are of its object
 is-row : (c : tie.After-both Inv-loop μ-loop) (f : ℕ)
@@ -50,7 +50,7 @@ is-row c f l =
     let w = c .before .before .before in
     let i = w .before .before in
     let o = i .before .before in
-    c .both .ensures f ∙ ap₂ _&&_ (w .with-event .ensures f) (o .object-rows .ensures (place i) (is-object i) f (omega (arith, o .before .pre .small)))
+    c .both .ensures f ∙ ap₂ _&&_ (w .with-event .ensures f) (o .object-rows .ensures (place i) (is-object i) f (omega (arith, o .before .pre .parts .small)))
 
 found-here : (c : tie.After-replay-row Inv-loop μ-loop)
     → let i = c .before .before .before .before .before .before .before in

@@ -57,10 +57,10 @@ is-event : (c : tie.In-loop Inv-loop μ-loop) → number c < c .before .before .
 is-event c = c .before .before .pre .event (c .before .loop .i) (in-part c)
 
 below : (c : tie.In-loop Inv-loop μ-loop) → number c < 64
-below c = omega (arith, is-event c, c .before .before .pre .small)
+below c = omega (arith, is-event c, c .before .before .pre .parts .small)
 
 short-answer : (c : tie.In-loop Inv-loop μ-loop) → getD (c .before .before .args .counts .now) (number c) 0 ≤ 9
-short-answer c = c .before .before .pre .answer (number c) (is-event c)
+short-answer c = c .before .before .pre .parts .answer (number c) (is-event c)
 
 part-holds : (c : tie.In-loop Inv-loop μ-loop) → c .before .before .args .m ≤ length (c .before .before .args .t8)
 part-holds c =
@@ -75,7 +75,7 @@ has-op : (c : tie.In-loop Inv-loop μ-loop) (os : List Object)
 has-op c os r =
     let i = c .before .loop .i in
     let a = c .before .before .args in
-    rw (r .object (number c) (r .event i (in-part c)) (entry-in (a .t8) (a .m) i (in-part c) (part-holds c))) at (r .fits (number c) (r .event i (in-part c)))
+    rw (r .object (number c) (r .event i (in-part c)) (entry-in (a .t8) (a .m) i (in-part c) (part-holds c))) at (r .parts .op (number c) (r .event i (in-part c)))
 
 -- the state stands
 stands : (c : tie.In-loop Inv-loop μ-loop) → Stands (getD (c .before .before .args .objects) (place (c .before .before)) noObject) (c .before .loop .i) (c .before .loop .s)
@@ -133,7 +133,7 @@ fits-given-requires : tie.Need-fits-given-requires Inv-loop μ-loop
 fits-given-requires c κs =
     let p = c .before .before in
     let t = p .before .before .before .before in
-    (t .before .before .pre .values, p .answer .ensures .few)
+    (t .before .before .pre .parts .values, p .answer .ensures .few)
 
 returns : tie.Need-returns Inv-loop μ-loop
 returns c =

@@ -40,12 +40,12 @@ returns c =
     let s = c .before .before .before in
     let a = s .args in
     sym (whole-part (a .objects) (a .size) (a .t2) (a .values .now) (a .answers .now) (a .counts .now) (a .e .0) (place s) (a .start) (kept s)
-    (part-silent (a .objects) (a .size) (a .t2) (a .values .now) (a .answers .now) (a .counts .now) (a .e .0) (place s) (s .pre .own) (s .pre .silent (c .if1 .taken)) (a .start) (kept s)))
+    (part-silent (a .objects) (a .size) (a .t2) (a .values .now) (a .answers .now) (a .counts .now) (a .e .0) (place s) (s .pre .own) (s .pre .parts .silent (s .args .e .0) (s .pre .own) (c .if1 .taken)) (a .start) (kept s)))
 
 cut-to-requires : tie.Need-cut-to-requires
 cut-to-requires c κs =
     let s = c .before .before .before in
-    (s .pre .short, entry-small (s .args .size) (s .args .view) (s .args .n) (s .pre .small) (s .pre .event))
+    (s .pre .short, entry-small (s .args .size) (s .args .view) (s .args .n) (s .pre .parts .small) (s .pre .event))
 
 replay-object-requires : tie.Need-replay-object-requires
 replay-object-requires c κs =

@@ -80,13 +80,13 @@ abbrev row : tie.After-deciding Inv-loop μ-loop → ℕ
 row c = getD (turn c .before .before .before .object-rows .result) (object c) 0
 
 is-object : (c : tie.After-deciding Inv-loop μ-loop) → c .deciding .result < 64 → object c < 16
-is-object c h = let i = turn c in ready i (i .before .loop .k) (next-k i) .object (c .deciding .result) (c .deciding .ensures h .0)
+is-object c h = let i = turn c in ready i (i .before .loop .k) (next-k i) .parts .object (c .deciding .result) (c .deciding .ensures h .0)
 
 is-row : (c : tie.After-deciding Inv-loop μ-loop) → c .deciding .result < 64 → (f : ℕ) → f < start (turn c) .args .size
     → inRow (row c) f ≡ true && eqb (getD (start (turn c) .args .t2) f noLight .object) (object c)
 is-row c h f l =
     let i = turn c in
-    i .before .before .before .object-rows .ensures (object c) (is-object c h) f (omega (arith, ready i (i .before .loop .k) (next-k i) .small))
+    i .before .before .before .object-rows .ensures (object c) (is-object c h) f (omega (arith, ready i (i .before .loop .k) (next-k i) .parts .small))
 
 -- what is known of the earlier view
 right-before : (c : tie.After-deciding Inv-loop μ-loop)
@@ -174,7 +174,7 @@ deciding-requires c κs =
     let i = b .before .before .before .before in
     let l = i .before .loop in
     let r = ready i (l .k) (next-k i) in (
-      r .small,
+      r .parts .small,
       known-short (place i) (l .k) (getD (start i .args .t9) (place i) 0) (b .length-below .result) (b .length-below .ensures) (λ h. ready i (place i) (omega (arith, next-k i)) .short),
       r .short,
       r .event,

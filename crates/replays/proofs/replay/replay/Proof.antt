@@ -60,13 +60,13 @@ is-event : (c : tie.In-loop Inv-loop μ-loop) → number c < c .before .before .
 is-event c = c .before .before .pre .event (c .before .loop .i) (in-view c)
 
 below : (c : tie.In-loop Inv-loop μ-loop) → number c < 64
-below c = let a = is-event c in let b = c .before .before .pre .small in omega (arith, a, b)
+below c = let a = is-event c in let b = c .before .before .pre .parts .small in omega (arith, a, b)
 
 is-object : (c : tie.In-loop Inv-loop μ-loop) → place c < 16
-is-object c = c .before .before .pre .object (number c) (is-event c)
+is-object c = c .before .before .pre .parts .object (number c) (is-event c)
 
 short-answer : (c : tie.In-loop Inv-loop μ-loop) → getD (c .before .before .args .counts .now) (number c) 0 ≤ 9
-short-answer c = c .before .before .pre .answer (number c) (is-event c)
+short-answer c = c .before .before .pre .parts .answer (number c) (is-event c)
 
 view-holds : (c : tie.In-loop Inv-loop μ-loop) → c .before .before .args .n ≤ length (c .before .before .args .t8)
 view-holds c =
@@ -152,7 +152,7 @@ element-copy-out-answer c = below (c .before .before .before .before .before .be
 fits-given-requires : tie.Need-fits-given-requires Inv-loop μ-loop
 fits-given-requires c κs =
     let t = c .before .before .before .before .before .before .before .before .before .before in
-    (t .before .before .pre .values, c .before .before .step .ensures .1 .few)
+    (t .before .before .pre .parts .values, c .before .before .step .ensures .1 .few)
 
 returns : tie.Need-returns Inv-loop μ-loop
 returns c =
@@ -169,7 +169,7 @@ returns c =
     found-some (number t) (below t)
     ∙ sym (whole (a .args .objects) (a .args .size) (a .args .t2) (a .args .values .now) (a .args .answers .now) (a .args .counts .now) (a .args .who) (a .args .starts) (take (a .args .n) (a .args .t8))
     (l .loop .inv .2 (a .args .objects) (a .pre) .1
-    ∙ turn-stops (a .args .objects) (a .args .size) (a .args .t2) (a .args .values .now) (a .args .answers .now) (a .args .counts .now) (a .args .who) (l .loop .states) (a .args .t8) (a .args .n) (l .loop .i) (in-view t) (view-holds t) (is-event t) _ (l .loop .i) (stands t) (a .pre .fits (number t) (is-event t)) (a .pre .silent (number t) (is-event t)) j (c .if2 .taken)))
+    ∙ turn-stops (a .args .objects) (a .args .size) (a .args .t2) (a .args .values .now) (a .args .answers .now) (a .args .counts .now) (a .args .who) (l .loop .states) (a .args .t8) (a .args .n) (l .loop .i) (in-view t) (view-holds t) (is-event t) _ (l .loop .i) (stands t) (a .pre .parts .op (number t) (is-event t)) (a .pre .parts .silent (number t) (is-event t)) j (c .if2 .taken)))
 
 mul-states : tie.Need-mul-states Inv-loop μ-loop
 mul-states c = let h = is-object (c .before .before .before .before .before .before .before .before .before .before .before .before .before) in omega (arith, h)
@@ -212,12 +212,12 @@ loop-again c =
       λ os r.
           let e = r .event (l .loop .i) (in-view t) in
           let all = l .loop .inv .2 os r .0 in
-          let st = all (place t) (r .object (number t) e) in
-          let has = r .fits (number t) e in
+          let st = all (place t) (r .parts .object (number t) e) in
+          let has = r .parts .op (number t) e in
           rw (f .3) (
             all-on os (l .loop .i) (l .loop .states) (place t) (f .0) (l .loop .inv .1) all (stands-on (getD os (place t) noObject) (l .loop .i) (state t) st (op t) has (number t) (f .0) (f .1)),
             l .loop .inv .2 os r .1
-                ∙ turn-on os (a .args .size) (a .args .t2) (a .args .values .now) (a .args .answers .now) (a .args .counts .now) (a .args .who) (l .loop .states) (a .args .t8) (a .args .n) (l .loop .i) (in-view t) (view-holds t) e false (l .loop .i) st has (r .silent (number t) e) (f .2) refl (f .0) (f .1),
+                ∙ turn-on os (a .args .size) (a .args .t2) (a .args .values .now) (a .args .answers .now) (a .args .counts .now) (a .args .who) (l .loop .states) (a .args .t8) (a .args .n) (l .loop .i) (in-view t) (view-holds t) e false (l .loop .i) st has (r .parts .silent (number t) e) (f .2) refl (f .0) (f .1),
           ),
     )
 
