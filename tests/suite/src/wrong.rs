@@ -27,6 +27,18 @@ macro_rules! wrong_rules {
     ($name:ident Rules { $($body:tt)* }) => { wrong_rules!(@ $name [] [] [] [] [] [$($body)*]); };
 }
 
+/// A checker that has other limits of a width, by the kind.
+macro_rules! wrong_width_limit {
+    ($name:ident, $limit:expr) => {
+        wrong_rules!($name HistoryRules {
+            fn width_limit(&self, kind: Kind) -> u64 {
+                let limit: fn(Kind) -> u64 = $limit;
+                limit(kind)
+            }
+        });
+    };
+}
+
 // The old console habits first.
 
 wrong_rules!(EndsEarly CheckRules {
@@ -583,35 +595,11 @@ wrong_rules!(OneCapacityForAll CheckRules {
     }
 });
 
-wrong_rules!(CapacityLimitedByEight HistoryRules {
-    fn width_limit(&self, _: Kind) -> u64 {
-        8
-    }
-});
-
-wrong_rules!(CapacityBelowSixtyFour HistoryRules {
-    fn width_limit(&self, kind: Kind) -> u64 {
-        if kind == Kind::Channel { 63 } else { 8 }
-    }
-});
-
-wrong_rules!(CapacitySixtyFiveRead HistoryRules {
-    fn width_limit(&self, kind: Kind) -> u64 {
-        if kind == Kind::Channel { 65 } else { 8 }
-    }
-});
-
-wrong_rules!(WidthsLimitedBySixtyFour HistoryRules {
-    fn width_limit(&self, _: Kind) -> u64 {
-        64
-    }
-});
-
-wrong_rules!(WidthsBesideWindowsLimitedBySixtyFour HistoryRules {
-    fn width_limit(&self, kind: Kind) -> u64 {
-        if kind == Kind::Window { 8 } else { 64 }
-    }
-});
+wrong_width_limit!(CapacityLimitedByEight, |_| 8);
+wrong_width_limit!(CapacityBelowSixtyFour, |kind| if kind == Kind::Channel { 63 } else { 8 });
+wrong_width_limit!(CapacitySixtyFiveRead, |kind| if kind == Kind::Channel { 65 } else { 8 });
+wrong_width_limit!(WidthsLimitedBySixtyFour, |_| 64);
+wrong_width_limit!(WidthsBesideWindowsLimitedBySixtyFour, |kind| if kind == Kind::Window { 8 } else { 64 });
 
 wrong_rules!(CapacityZeroRead HistoryRules {
     fn object_over(&self, fields: &ObjectFields) -> bool {
