@@ -60,20 +60,24 @@ fn replay_object(
         let f = events[at];
         let op = f.op;
         if no == e.0 {
-            let given = s.answer(EventOp {
+            let step = s.step(EventOp {
                 no: EventNo(no),
                 op,
             });
+            let given = step.answer;
             let answer = answers[at];
             let count = counts[at] as usize;
             if !fits_given(values, answer, count, given) {
                 return at;
             }
+            let t = step.state;
+            s = t;
+        } else {
+            s = s.changed(EventOp {
+                no: EventNo(no),
+                op,
+            });
         }
-        s = s.changed(EventOp {
-            no: EventNo(no),
-            op,
-        });
         i += 1;
     }
     64

@@ -16,6 +16,8 @@ use Rattle.history.specs.declared.record.Op.{Op}
 use Rattle.history.specs.Record.{noObject}
 use Rattle.history.specs.Kinds.{hasOp}
 use Rattle.criteria.specs.Tests.{mem}
+use Rattle.objects.specs.declared.state.State.{State}
+use Rattle.objects.specs.State.{Changed}
 use Rattle.replays.specs.Replay.{recordedAs, Stands, noLight}
 use Rattle.replays.specs.Steps.{Judged}
 use Rattle.replayed_views.specs.Steps.{ReadyKept}
@@ -84,19 +86,22 @@ stands c = c .before .loop .inv .1 (c .before .before .args .objects) (c .before
 ready : (c : tie.In-loop Inv-loop μ-loop) → (c .before .loop .s .head ≤ c .before .loop .s .tail) × (c .before .loop .s .tail < 72)
 ready c = (stands c .ends, omega (arith, stands c .room, c .before .before .pre .short, in-part c))
 
--- the answer is another event's, or is what the state gives
-nothing-wrong : (c : tie.Joined1 Inv-loop μ-loop)
+-- what an event makes of the object: a state that follows, and no wrong answer that is visible
+follows : (c : tie.Joined1 Inv-loop μ-loop)
     → let t = c .before .before .before in
     let a = t .before .before .args in
-    Judged false (eqb (number t) (a .e .0)) (a .values .now) (recorded t) (t .before .loop .s) (op t) (number t) false
-nothing-wrong c =
+    (s : State) × Changed (t .before .loop .s) (op t) (number t) s
+    × Judged false (eqb (number t) (a .e .0)) (a .values .now) (recorded t) (t .before .loop .s) (op t) (number t) false
+    × (c .if1 .s ≡ s)
+follows c =
     let t = c .before .before .before in
     let a = t .before .before .args in
     ⊎-elim
     (λ w.
-    let j = judged-given false (eqb (number t) (a .e .0)) (a .values .now) (recorded t) (t .before .loop .s) (op t) (number t) (w .1 .result) (w .1 .ensures) (w .4 .ensures) in
-    judged-seen false (eqb (number t) (a .e .0)) (a .values .now) (recorded t) (t .before .loop .s) (op t) (number t) (eq-eqb (number t) (a .e .0) (w .0 .taken)) j (w .5 .left))
-    (λ w. judged-unseen false (eqb (number t) (a .e .0)) (a .values .now) (recorded t) (t .before .loop .s) (op t) (number t) (ne-eqb (number t) (a .e .0) (w .left)))
+    let j = judged-given false (eqb (number t) (a .e .0)) (a .values .now) (recorded t) (t .before .loop .s) (op t) (number t) (w .1 .result .answer) (w .1 .ensures .1) (w .5 .ensures) in
+    (w .1 .result .state, w .1 .ensures .0, judged-seen false (eqb (number t) (a .e .0)) (a .values .now) (recorded t) (t .before .loop .s) (op t) (number t) (eq-eqb (number t) (a .e .0) (w .0 .taken)) j (w .6 .left), w .8))
+    (λ w.
+    (w .1 .result, w .1 .ensures, judged-unseen false (eqb (number t) (a .e .0)) (a .values .now) (recorded t) (t .before .loop .s) (op t) (number t) (ne-eqb (number t) (a .e .0) (w .0 .left)), w .2))
     (c .if1 .came)
 
 loop-holds : tie.Need-loop-holds Inv-loop μ-loop
@@ -114,8 +119,8 @@ mul-f c = omega (arith, below c)
 array-copy-out-f : tie.Need-array-copy-out-f Inv-loop μ-loop
 array-copy-out-f c = below c
 
-answer-requires : tie.Need-answer-requires Inv-loop μ-loop
-answer-requires c κs = let r = ready (c .before .before .before) in (r .0, omega (arith, r .1))
+step-requires : tie.Need-step-requires Inv-loop μ-loop
+step-requires c κs = ready (c .before .before .before)
 
 mul-answer : tie.Need-mul-answer Inv-loop μ-loop
 mul-answer c = search needs
@@ -127,24 +132,24 @@ element-copy-out-count : tie.Need-element-copy-out-count Inv-loop μ-loop
 element-copy-out-count c = search needs
 
 cast-count : tie.Need-cast-count Inv-loop μ-loop
-cast-count c = omega (arith, short-answer (c .before .before .before .before .before .before))
+cast-count c = omega (arith, short-answer (c .before .before .before .before .before .before .before))
 
 fits-given-requires : tie.Need-fits-given-requires Inv-loop μ-loop
 fits-given-requires c κs =
-    let p = c .before .before in
+    let p = c .before .before .before in
     let t = p .before .before .before .before in
-    (t .before .before .pre .parts .values, p .answer .ensures .few)
+    (t .before .before .pre .parts .values, p .step .ensures .1 .few)
 
 returns : tie.Need-returns Inv-loop μ-loop
 returns c =
     let d = c .before in
-    let p = d .before .before .before in
+    let p = d .before .before .before .before in
     let n = p .before in
     let t = n .before .before .before in
     let l = t .before .loop in
     let s = t .before .before in
     let a = s .args in
-    let g = judged-given false (eqb (number t) (a .e .0)) (a .values .now) (recorded t) (l .s) (op t) (number t) (p .answer .result) (p .answer .ensures) (d .fits-given .ensures) in
+    let g = judged-given false (eqb (number t) (a .e .0)) (a .values .now) (recorded t) (l .s) (op t) (number t) (p .step .result .answer) (p .step .ensures .1) (d .fits-given .ensures) in
     let j = judged-seen false (eqb (number t) (a .e .0)) (a .values .now) (recorded t) (l .s) (op t) (number t) (eq-eqb (number t) (a .e .0) (n .if1 .taken)) g refl in
     found-some (number t) (below t)
     ∙ sym (whole-part (a .objects) (a .size) (a .t2) (a .values .now) (a .answers .now) (a .counts .now) (a .e .0) (place s) (a .start) (take (a .m) (a .t8))
@@ -162,18 +167,19 @@ loop-less c = search needs
 
 loop-again : tie.Need-loop-again Inv-loop μ-loop
 loop-again c =
-    let n = c .before in
-    let t = n .before .before .before in
+    let t = c .before .before .before in
     let l = t .before .loop in
     let s = t .before .before in
-    let a = s .args in (
+    let a = s .args in
+    let f = follows c in (
       omega (arith, in-part t),
       λ os r.
           let st = l .inv .1 os r .0 in
-          let has = has-op t os r in (
-            stands-on (getD os (place s) noObject) (l .i) (l .s) st (op t) has (number t) (c .changed .result) (c .changed .ensures),
+          let has = has-op t os r in
+          rw (f .3) (
+            stands-on (getD os (place s) noObject) (l .i) (l .s) st (op t) has (number t) (f .0) (f .1),
             l .inv .1 os r .1
-                ∙ part-on os (a .size) (a .t2) (a .values .now) (a .answers .now) (a .counts .now) (a .e .0) (place s) (l .s) (a .t8) (a .m) (l .i) (in-part t) (part-holds t) (r .event (l .i) (in-part t)) false (l .i) st has (nothing-wrong n) refl (c .changed .result) (c .changed .ensures),
+                ∙ part-on os (a .size) (a .t2) (a .values .now) (a .answers .now) (a .counts .now) (a .e .0) (place s) (l .s) (a .t8) (a .m) (l .i) (in-part t) (part-holds t) (r .event (l .i) (in-part t)) false (l .i) st has (f .2) refl (f .0) (f .1),
           ),
     )
 
@@ -197,7 +203,7 @@ replay-object-spec =
     cast-at
     mul-f
     array-copy-out-f
-    answer-requires
+    step-requires
     mul-answer
     element-copy-out-answer
     element-copy-out-count
