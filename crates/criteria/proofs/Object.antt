@@ -1,5 +1,5 @@
--- What objects hold: a write leaves no more values than there were; a channel's last slot is usable, a full channel refuses, and it
--- never holds more than its capacity (document 02, T-02). Assumes nothing.
+-- What objects hold: of at most m values, and at least one, a write leaves at most m; a channel's last slot is usable, a full channel
+-- refuses, and it never holds more than its capacity (document 02, T-02). Assumes nothing.
 use mathlib.Core.Path.{_≡_, refl, sym, ap, ap₂, subst, _∙_}
 use mathlib.Core.Bool.{Bool, true, false, _&&_, false≢true}
 use mathlib.Core.List.{List, [], _∷_, _++_, map}
@@ -13,6 +13,7 @@ use Rattle.history.specs.declared.record.Kind.the-variants.{Register, Queue, St
 use Rattle.history.specs.declared.record.Op.{Op}
 use Rattle.history.specs.declared.record.Op.the-variants.{Write, Read, Push, Pop, Peek}
 use Rattle.history.specs.declared.record.Object.{Object}
+use Rattle.history.specs.Record.{noObject}
 use Rattle.history.specs.Kinds.{isChannel}
 use Rattle.criteria.specs.Object.{freshOf, fresh, untop, full, after, gives}
 use Rattle.criteria.specs.History.{History, event, object}
@@ -78,7 +79,7 @@ at-set (y ∷ s) zero x (suc j) m h g = g
 at-set (y ∷ s) (suc i) x zero m h g = g
 at-set (y ∷ s) (suc i) x (suc j) m h g = at-set s i x j m (λ e. h (ap suc e)) g
 
-start-empty : (os : List Object) (o : ℕ) → isChannel (getD os o record { kind = Register; width = 0 } .kind) ≡ true → getD (map fresh os) o [] ≡ []
+start-empty : (os : List Object) (o : ℕ) → isChannel (getD os o noObject .kind) ≡ true → getD (map fresh os) o [] ≡ []
 start-empty [] o c = refl
 start-empty (x ∷ os) zero c = fresh-empty (x .kind) (x .width) c
 start-empty (x ∷ os) (suc o) c = start-empty os o c

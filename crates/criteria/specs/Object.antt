@@ -40,7 +40,8 @@ untop Stack s = take (length s - 1) s
 untop Window s = drop 1 s
 untop Channel s = drop 1 s
 
--- "a queue with a capacity of 1 to 64 in the width field"; "The last slot is usable": full is to hold as many values as the width says.
+-- "a queue with a capacity of 1 to 64 in the width field"; "The last slot is usable": a channel is full when it holds as many values as
+-- its width says, and no other kind ever is.
 abbrev pub full : Object → List ℕ → Bool
 full o s = isChannel (o .kind) && leb (o .width) (length s)
 

@@ -58,8 +58,7 @@ pub record Fresh (o : Object) (r : State) : Type 0 where
   pub tail : r .tail ≤ 8
   pub contents : (vs : List ℕ) → valueIn vs 64 ≡ 0 → contentsOf vs r ≡ fresh o
 
--- The state can be one of the object, whose kind has the op: pop takes the end that the kind says, and the state holds at most as many
--- values as the object does.
+-- The state can be one of the object, whose kind has the op: pop takes the end that the kind says, and the limit is the object's.
 pub record Suits (o : Object) (op : Op) (s : State) : Type 0 where
   pub newest : isStack (o .kind) ≡ s .newest
   pub limit : limitOf o ≡ s .limit

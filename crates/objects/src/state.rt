@@ -1,4 +1,5 @@
-// The state of an object in a replay: methods by value take an event and hand back state and answer.
+// The state of an object in a replay: methods by value take an event and hand back state and answer (`step`), or one of the two
+// (`changed`, `answer`).
 ghost use mathlib.Core.Path.{_≡_};
 ghost use Prim.Native.Nat.{ℕ, _-_, _≤_, _<_};
 ghost use mathlib.Core.Logic.{_⊎_};

@@ -78,7 +78,7 @@ module _ (os : List Object) (size : ℕ) (ls : List Light) (vs cs : List ℕ) (v
         short = few;
         event = below;
         own = r .own;
-        object = λ f l t. r .object f l (mem-keep (inRow row) f (take n view) (ap (mem f) (sym (q .0)) ∙ t) .0);
+        same = λ f l t. r .same f l (mem-keep (inRow row) f (take n view) (ap (mem f) (sym (q .0)) ∙ t) .0);
         start = r .start;
       }
 
@@ -91,7 +91,7 @@ module _ (os : List Object) (size : ℕ) (ls : List Light) (vs cs : List ℕ) (v
           short = r .short;
           event = r .event;
           own = below;
-          object = λ f h t. eqb-true _ _ (and-right (g f) _ (sym (is-row f h) ∙ t));
+          same = λ f h t. eqb-true _ _ (and-right (g f) _ (sym (is-row f h) ∙ t));
           start = r .start (getD ls e noLight .object) (r .parts .object e below);
         }
 

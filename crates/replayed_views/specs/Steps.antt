@@ -26,14 +26,14 @@ oneWrong h e o c (f ∷ fs) =
     or (foundIf (only e f && not (fits (event h f .answer) (gives (object h o) (event h f .op) (event h f .value) c))) f)
     (oneWrong h e o (after (object h o) (event h f .op) (event h f .value) c) fs)
 
--- What the replay of one object's events takes for granted: the parts of the history are sound, the view holds events, e is one, those
--- that are kept are of e's object, and the state of e's object stands before any event.
+-- What the replay of one object's events takes for granted: the parts of the history are sound, the view has at most 64 entries, all of
+-- them events, e is an event, the events that are kept are of e's object, and the state of that object stands before any event.
 pub record ReadyKept (os : List Object) (size : ℕ) (ls : List Light) (vs cs : List ℕ) (first : State) (view : List ℕ) (n : ℕ) (kept : ℕ → Bool) (e : ℕ) : Type 0 where
   pub parts : SoundParts os size ls vs cs
   pub short : n ≤ 64
   pub event : (i : ℕ) → i < n → getD view i 0 < size
   pub own : e < size
-  pub object : (f : ℕ) → f < size → kept f ≡ true → getD ls f noLight .object ≡ getD ls e noLight .object
+  pub same : (f : ℕ) → f < size → kept f ≡ true → getD ls f noLight .object ≡ getD ls e noLight .object
   pub start : Stands (getD os (getD ls e noLight .object) noObject) 0 first
 
 -- The answers of process p are the visible ones.

@@ -79,12 +79,13 @@ module _ (vs xs : List ℕ) (g : Given) (n : ℕ) (lx : length xs ≡ 8) (lk : l
   same-ends i e = rw (e, slice-empty (g .count) xs, slice-empty (g .count) (g .numbers))
 
 -- ---- one event's test
-module _ (silent seen : Bool) (vs : List ℕ) (answer : Option (List ℕ)) (s : State) (op : Op) (number : ℕ) where
+module _ (silent : Bool) (vs : List ℕ) (answer : Option (List ℕ)) (s : State) (op : Op) (number : ℕ) where
   pub judged-given : {b : Bool} (g : Given) → Answered s op number g → b ≡ fits answer (givenOf vs g)
       → Judged silent true vs answer s op number (not b)
   unfolding Judged
   judged-given g g′ q o suits few silent-fits = rw (q, g′ .values vs o suits few)
 
+module _ (silent seen : Bool) (vs : List ℕ) (answer : Option (List ℕ)) (s : State) (op : Op) (number : ℕ) where
   pub judged-seen : {d b : Bool} → seen ≡ true → Judged silent true vs answer s op number d → d ≡ b → Judged silent seen vs answer s op number b
   unfolding Judged
   judged-seen t j q o suits few silent-fits = rw t (sym q ∙ j o suits few silent-fits)

@@ -1,4 +1,4 @@
--- The light record of an event, and the count of an answer, 9 where it was lost.
+-- Which answers need not be asked, the light record of an event, and the count of an answer.
 use Prim.Native.Nat.{ℕ}
 use mathlib.Core.Bool.{Bool, cond, not, _&&_, _||_}
 use mathlib.Core.List.{List}
@@ -29,5 +29,6 @@ lightWith k e = record { process = e .process; object = e .object; op = e .op; s
 abbrev pub lightOf : List Object → Event → Light
 lightOf os e = lightWith (getD os (e .object) noObject .kind) e
 
+-- The count of an answer, and 9 where it was lost.
 abbrev pub countOf : Answer → ℕ
 countOf a = cond (a .lost) 9 (a .count)

@@ -58,8 +58,8 @@ isVisible h (Only f) e = only (f .0) e
 abbrev pub foundEvent : ℕ → Option ℕ
 foundEvent e = cond (ltb e 64) (some e) none
 
--- A state of the object after at most m events, if it started with at most eight values. A register or a window never holds more
--- than eight.
+-- A state of the object after at most m events, if it started with at most eight values: pop takes the end that the kind says, and the
+-- limit is the object's. A register or a window never holds more than eight values.
 pub record Stands (o : Object) (m : ℕ) (s : State) : Type 0 where
   pub newest : isStack (o .kind) ≡ s .newest
   pub limit : limitOf o ≡ s .limit
@@ -71,9 +71,9 @@ pub record Stands (o : Object) (m : ℕ) (s : State) : Type 0 where
 abbrev pub Silent : Object → Op → ℕ → Type 0
 Silent o op count = (v : ℕ) (answer c : List ℕ) → fits (recordedAs count answer) (gives o op v c) ≡ true
 
--- What the replays take for granted of the parts of a history: there are values of 64 events and of the start, an event's object is one
--- of the sixteen and has its op, no recorded answer has more than eight values and 9 stands for one that was lost, and a silent event's
--- answer is right whatever its object holds.
+-- What the replays take for granted of the parts of a history: there are values of 64 events and of the start, and at most 64 events;
+-- an event's object is one of the sixteen and has its op; no recorded answer has more than eight values, and 9 stands for one that was
+-- lost; and a silent event's answer is right whatever its object holds.
 pub record SoundParts (os : List Object) (size : ℕ) (ls : List Light) (vs cs : List ℕ) : Type 0 where
   pub values : length vs ≡ 65
   pub small : size ≤ 64
@@ -83,8 +83,8 @@ pub record SoundParts (os : List Object) (size : ℕ) (ls : List Light) (vs cs :
   pub silent : (e : ℕ) → e < size → getD ls e noLight .silent ≡ true
       → Silent (getD os (getD ls e noLight .object) noObject) (getD ls e noLight .op) (getD cs e 0)
 
--- What the replay of a view takes for granted: the parts are sound, the view holds events, and each object's state stands before any
--- event.
+-- What the replay of a view takes for granted: the parts are sound, the view has at most 64 entries, all of them events, and each
+-- object's state stands before any event.
 pub record Ready (os : List Object) (size : ℕ) (ls : List Light) (vs cs : List ℕ) (starts : List State) (view : List ℕ) (n : ℕ) : Type 0 where
   pub parts : SoundParts os size ls vs cs
   pub short : n ≤ 64

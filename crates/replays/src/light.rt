@@ -23,8 +23,8 @@ fn never_answers(kind: Kind, op: Op) -> bool
     ensures { λ r. ⌜ r ≡ neverAnswers kind op ⌝ }
 {
     let takes = takes_value(op);
-    let capacity = is_channel(kind);
-    takes & !capacity
+    let channel = is_channel(kind);
+    takes & !channel
 }
 
 // Whether the answer was lost, or has no value and the op never answers.

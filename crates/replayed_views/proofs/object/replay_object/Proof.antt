@@ -77,7 +77,7 @@ has-op : (c : tie.In-loop Inv-loop μ-loop) (os : List Object)
 has-op c os r =
     let i = c .before .loop .i in
     let a = c .before .before .args in
-    rw (r .object (number c) (r .event i (in-part c)) (entry-in (a .t8) (a .m) i (in-part c) (part-holds c))) at (r .parts .op (number c) (r .event i (in-part c)))
+    rw (r .same (number c) (r .event i (in-part c)) (entry-in (a .t8) (a .m) i (in-part c) (part-holds c))) at (r .parts .op (number c) (r .event i (in-part c)))
 
 -- the state stands
 stands : (c : tie.In-loop Inv-loop μ-loop) → Stands (getD (c .before .before .args .objects) (place (c .before .before)) noObject) (c .before .loop .i) (c .before .loop .s)
@@ -98,7 +98,7 @@ follows c =
     let a = t .before .before .args in
     ⊎-elim
     (λ w.
-    let j = judged-given false (eqb (number t) (a .e .0)) (a .values .now) (recorded t) (t .before .loop .s) (op t) (number t) (w .1 .result .answer) (w .1 .ensures .1) (w .5 .ensures) in
+    let j = judged-given false (a .values .now) (recorded t) (t .before .loop .s) (op t) (number t) (w .1 .result .answer) (w .1 .ensures .1) (w .5 .ensures) in
     (w .1 .result .state, w .1 .ensures .0, judged-seen false (eqb (number t) (a .e .0)) (a .values .now) (recorded t) (t .before .loop .s) (op t) (number t) (eq-eqb (number t) (a .e .0) (w .0 .taken)) j (w .6 .left), w .8))
     (λ w.
     (w .1 .result, w .1 .ensures, judged-unseen false (eqb (number t) (a .e .0)) (a .values .now) (recorded t) (t .before .loop .s) (op t) (number t) (ne-eqb (number t) (a .e .0) (w .0 .left)), w .2))
@@ -149,7 +149,7 @@ returns c =
     let l = t .before .loop in
     let s = t .before .before in
     let a = s .args in
-    let g = judged-given false (eqb (number t) (a .e .0)) (a .values .now) (recorded t) (l .s) (op t) (number t) (p .step .result .answer) (p .step .ensures .1) (d .fits-given .ensures) in
+    let g = judged-given false (a .values .now) (recorded t) (l .s) (op t) (number t) (p .step .result .answer) (p .step .ensures .1) (d .fits-given .ensures) in
     let j = judged-seen false (eqb (number t) (a .e .0)) (a .values .now) (recorded t) (l .s) (op t) (number t) (eq-eqb (number t) (a .e .0) (n .if1 .taken)) g refl in
     found-some (number t) (below t)
     ∙ sym (whole-part (a .objects) (a .size) (a .t2) (a .values .now) (a .answers .now) (a .counts .now) (a .e .0) (place s) (a .start) (take (a .m) (a .t8))

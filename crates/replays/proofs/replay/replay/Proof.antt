@@ -99,7 +99,7 @@ follows c =
     judged-unasked (silent t) (seen t) vs (recorded t) (state t) (op t) (number t) (q .asks .ensures) in
     ⊎-elim
     (λ w.
-    let j = judged-given (silent t) (seen t) vs (recorded t) (state t) (op t) (number t) (w .2 .result .answer) (w .2 .ensures .1) (w .5 .ensures) in
+    let j = judged-given (silent t) vs (recorded t) (state t) (op t) (number t) (w .2 .result .answer) (w .2 .ensures .1) (w .5 .ensures) in
     (w .2 .result .state, w .2 .ensures .0, judged-asked (silent t) (seen t) vs (recorded t) (state t) (op t) (number t) (q .asks .ensures) (w .0 .taken) j (w .6 .left), w .8))
     (⊎-elim
     (λ w. (w .4 .result, w .4 .ensures, unasked (w .0 .left), w .5))
@@ -164,7 +164,7 @@ returns c =
     let l = t .before in
     let a = l .before in
     let vs = a .args .values .now in
-    let g = judged-given (silent t) (seen t) vs (recorded t) (state t) (op t) (number t) (p .step .result .answer) (p .step .ensures .1) (d .fits-given .ensures) in
+    let g = judged-given (silent t) vs (recorded t) (state t) (op t) (number t) (p .step .result .answer) (p .step .ensures .1) (d .fits-given .ensures) in
     let j = judged-asked (silent t) (seen t) vs (recorded t) (state t) (op t) (number t) (q .asks .ensures) (n .if1 .taken) g refl in
     found-some (number t) (below t)
     ∙ sym (whole (a .args .objects) (a .args .size) (a .args .t2) (a .args .values .now) (a .args .answers .now) (a .args .counts .now) (a .args .who) (a .args .starts) (take (a .args .n) (a .args .t8))
