@@ -167,7 +167,7 @@ pub fn channels(comparer: &mut Comparer, _: &mut Random, _: usize) {
     say("two slots", 2, lines, "0,1,2", 16, Some(1));
     // The push of 6 first: it has the slot.
     say("one slot, 6 first", 1, lines, "1,0,2", 16, Some(1));
-    // The pop first: it finds nothing.
+    // The pop between the two pushes frees the slot.
     say("one slot, the pop between", 1, "0 0 0 push 5 -\n1 1 0 push 6 -\n2 2 0 pop - 5\n", "0,2,1", 0, None);
     say("a refused push as taken", 1, &lines.replace("6 6", "6 -"), "0,1,2", 16, Some(1));
     say("a taken push as refused", 1, &lines.replace("5 -", "5 5"), "0,1,2", 16, Some(0));

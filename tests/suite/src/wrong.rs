@@ -424,7 +424,7 @@ wrong_rules!(OneSlotMore ObjectRules {
     }
 });
 
-wrong_rules!(OneSlotMoreAtTheLimit ObjectRules {
+wrong_rules!(OneSlotMoreOfSixtyThree ObjectRules {
     fn full(&self, object: &Object, state: &State) -> bool {
         object.kind == Kind::Channel && state.len() >= object.capacity() + usize::from(object.capacity() == 63)
     }
@@ -538,23 +538,17 @@ wrong_rules!(LostPushesGoIn CheckRules {
     }
 });
 
-/// A replay in which some pushes go in though the channel is full. A visible one is asked as it should be.
-fn replay_with(
+/// A replay in which `act` says what an event does to its object and answers.
+fn replay_by(
     history: &History,
     order: &[usize],
     visible: &dyn Fn(usize) -> bool,
-    goes_in: &dyn Fn(usize) -> bool,
+    act: &mut dyn FnMut(usize, &Object, &mut State) -> Vec<u64>,
 ) -> Option<usize> {
     let mut states: Vec<State> = history.objects.iter().map(|object| object.start()).collect();
     for e in order {
         let event = &history.events[*e];
-        let object = &history.objects[event.object];
-        let state = &mut states[event.object];
-        let forced = event.op == Op::Push && Document01.full(object, state) && goes_in(*e);
-        let answer = Document01.act(object, state, event.op, event.value);
-        if forced {
-            state.extend(event.value);
-        }
+        let answer = act(*e, &history.objects[event.object], &mut states[event.object]);
         if visible(*e) && Document01.differs(event, &answer) {
             return Some(*e);
         }
@@ -562,26 +556,37 @@ fn replay_with(
     None
 }
 
+/// A replay in which some pushes go in though the channel is full. A visible one is asked as it should be.
+fn replay_with(
+    history: &History,
+    order: &[usize],
+    visible: &dyn Fn(usize) -> bool,
+    goes_in: &dyn Fn(usize) -> bool,
+) -> Option<usize> {
+    replay_by(history, order, visible, &mut |e, object, state| {
+        let event = &history.events[e];
+        let forced = event.op == Op::Push && Document01.full(object, state) && goes_in(e);
+        let answer = Document01.act(object, state, event.op, event.value);
+        if forced {
+            state.extend(event.value);
+        }
+        answer
+    })
+}
+
 wrong_rules!(PopsFreeNoSlot CheckRules {
     fn replay(&self, history: &History, order: &[usize], visible: &dyn Fn(usize) -> bool) -> Option<usize> {
         // Full by the pushes taken so far, whatever was popped since.
-        let mut states: Vec<State> = history.objects.iter().map(|object| object.start()).collect();
-        let mut taken = vec![0; states.len()];
-        for e in order {
-            let event = &history.events[*e];
-            let object = &history.objects[event.object];
+        let mut taken = vec![0; history.objects.len()];
+        replay_by(history, order, visible, &mut |e, object, state| {
+            let event = &history.events[e];
             let push = event.op == Op::Push && object.kind == Kind::Channel;
-            let answer = if push && taken[event.object] >= object.capacity() {
-                event.value.into_iter().collect()
-            } else {
-                taken[event.object] += usize::from(push);
-                Document01.act(object, &mut states[event.object], event.op, event.value)
-            };
-            if visible(*e) && self.differs(event, &answer) {
-                return Some(*e);
+            if push && taken[event.object] >= object.capacity() {
+                return event.value.into_iter().collect();
             }
-        }
-        None
+            taken[event.object] += usize::from(push);
+            Document01.act(object, state, event.op, event.value)
+        })
     }
 });
 
@@ -973,7 +978,7 @@ pub fn wrong_checkers() -> Vec<(&'static str, Box<dyn Checker>)> {
         spoilt("a lost answer is written as the empty one", Spoil::LostWrittenAsEmpty),
         model("the last slot of a channel is not usable", LastSlotUnusable),
         model("a channel has one slot more", OneSlotMore),
-        model("a channel of 63 has one slot more", OneSlotMoreAtTheLimit),
+        model("a channel of 63 has one slot more", OneSlotMoreOfSixtyThree),
         model("a channel has eight slots at most", EightSlotsAtMost),
         model("a channel is never full", NeverFull),
         model("a refused push answers its value and goes in", RefusedIsKept),
