@@ -1,5 +1,5 @@
--- What objects hold: of at most m values, and at least one, a write leaves at most m; a channel's last slot is usable, a full channel
--- refuses, and it never holds more than its capacity (document 02, T-02). Assumes nothing.
+-- What objects hold: a write onto at most m values, where m is at least 1, leaves at most m; a channel's last slot is usable, a full
+-- channel refuses, and it never holds more than its capacity (document 02, T-02). Assumes nothing.
 use mathlib.Core.Path.{_≡_, refl, sym, ap, ap₂, subst, _∙_}
 use mathlib.Core.Bool.{Bool, true, false, _&&_, false≢true}
 use mathlib.Core.List.{List, [], _∷_, _++_, map}

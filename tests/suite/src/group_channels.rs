@@ -92,21 +92,34 @@ fn drained(capacity: usize) -> History {
     history
 }
 
+/// The filled channel is as recorded. With a slot fewer the push into the last slot is wrong, with a slot more the push
+/// behind it.
+fn hold_filled(
+    comparer: &mut Comparer,
+    name: &str,
+    capacity: usize,
+    history: &History,
+    certificate: &[u8],
+    wrong_at: &dyn Fn(usize) -> (u32, u32, u32),
+) {
+    hold(comparer, name, history, certificate, ACCEPTED);
+    if capacity > 1 {
+        let fewer = with_capacity(history, capacity - 1);
+        hold(comparer, &format!("{name}, a slot fewer"), &fewer, certificate, wrong_at(capacity - 1));
+    }
+    if capacity < 64 {
+        let more = with_capacity(history, capacity + 1);
+        hold(comparer, &format!("{name}, a slot more"), &more, certificate, wrong_at(capacity));
+    }
+}
+
 /// Every capacity, in number order: what is stated follows from the capacity alone.
 pub fn last_slot(comparer: &mut Comparer, random: &mut Random, _: usize) {
     for capacity in 1..=64 {
         // 64 pushes: the last slot is taken, and the push behind it is refused, if there is one.
         let history = filled(capacity, 64);
         let certificate = in_order(&history).text();
-        hold(comparer, "filled", &history, &certificate, ACCEPTED);
-        if capacity > 1 {
-            let fewer = with_capacity(&history, capacity - 1);
-            hold(comparer, "a slot fewer", &fewer, &certificate, wrong_at(capacity - 1));
-        }
-        if capacity < 64 {
-            let more = with_capacity(&history, capacity + 1);
-            hold(comparer, "a slot more", &more, &certificate, wrong_at(capacity));
-        }
+        hold_filled(comparer, "filled", capacity, &history, &certificate, &wrong_at);
         // The answer of one push changed: at the last slot, behind it, and anywhere.
         for e in [capacity - 1, capacity, random.under(64)] {
             if e >= 64 {
@@ -152,20 +165,12 @@ pub fn last_slot(comparer: &mut Comparer, random: &mut Random, _: usize) {
         for criterion in CRITERIA {
             let whole = weakened(&history, &in_order(&history), criterion).expect("sequential is weakened to all");
             let certificate = whole.text();
-            hold(comparer, "filled, weakened", &history, &certificate, ACCEPTED);
             let wrong_at = |e: usize| match criterion {
                 Criterion::Sequential | Criterion::Converge => (16, 0, e as u32),
                 Criterion::Pram => (16, history.events[e].process as u32, e as u32),
                 Criterion::Weak | Criterion::Causal => (16, e as u32, e as u32),
             };
-            if capacity > 1 {
-                let fewer = with_capacity(&history, capacity - 1);
-                hold(comparer, "weakened, a slot fewer", &fewer, &certificate, wrong_at(capacity - 1));
-            }
-            if capacity < 64 {
-                let more = with_capacity(&history, capacity + 1);
-                hold(comparer, "weakened, a slot more", &more, &certificate, wrong_at(capacity));
-            }
+            hold_filled(comparer, "filled, weakened", capacity, &history, &certificate, &wrong_at);
         }
     }
     // A queue has no capacity of its own: 64 pushes are all taken.
