@@ -372,8 +372,8 @@ pub fn read_certificate(history: &[u8], text: &[u8], rows: &mut [[u8; 64]; 64]) 
     let count = record.count;
     let r = read_text(text, events, count, rows);
     let second = r.fault;
-    let certificate = r.certificate;
     if second != 0 {
+        let certificate = r.certificate;
         return CertificateRead {
             fault: second,
             text: Text::CertificateText,
@@ -384,6 +384,7 @@ pub fn read_certificate(history: &[u8], text: &[u8], rows: &mut [[u8; 64]; 64]) 
             certificate,
         };
     }
+    let certificate = r.certificate;
     CertificateRead {
         fault: second,
         text: Text::Neither,

@@ -52,7 +52,7 @@ module _ (h : written-history.History) (w : within h ≡ true) where
   events-long =
       ap length events-are ∙ pad-length 64 noEvent (eventsIn h) (omega (arith, within-limits h w .count, within-limits h w .all))
 
-  -- an object that is not declared is blank, and so is an event past the last
+  -- an object that is not declared is blank
   pub widths-small : (o : ℕ) → getD (h .objects) o noObject .kind ≡ Window → getD (h .objects) o noObject .width ≤ 8
   widths-small o =
       rw (objects-agree o)
@@ -60,19 +60,13 @@ module _ (h : written-history.History) (w : within h ≡ true) where
       (λ l. width-small (getD (objectsIn h) o noObject) (within-sound h w .object o (omega (arith, l, within-limits h w .few))))
       (λ l. rw (List·getD-eq-default (objectsIn h) noObject {n = o} l) (λ k. omega arith)))
 
-  pub objects-small : (e : ℕ) → getD (h .events) e noEvent .object < 16
-  objects-small e =
-      rw (events-agree e)
-      (by-lt e (length (eventsIn h))
-      (λ l. omega (arith, within-sound h w .event e (omega (arith, l, within-limits h w .all)) .declared, within-limits h w .few, within-limits h w .declared))
-      (λ l. rw (List·getD-eq-default (eventsIn h) noEvent {n = e} l) (omega arith)))
+  -- an event's object is one of the sixteen, and its answer has at most eight values
+  pub objects-small : (e : ℕ) → e < h .count → getD (h .events) e noEvent .object < 16
+  objects-small e l =
+      rw (events-agree e) (omega (arith, within-sound h w .event e l .declared, within-limits h w .few, within-limits h w .declared))
 
-  pub answers-small : (e : ℕ) → getD (h .events) e noEvent .answer .count ≤ 8
-  answers-small e =
-      rw (events-agree e)
-      (by-lt e (length (eventsIn h))
-      (λ l. within-sound h w .event e (omega (arith, l, within-limits h w .all)) .few)
-      (λ l. rw (List·getD-eq-default (eventsIn h) noEvent {n = e} l) (omega arith)))
+  pub answers-small : (e : ℕ) → e < h .count → getD (h .events) e noEvent .answer .count ≤ 8
+  answers-small e l = rw (events-agree e) (within-sound h w .event e l .few)
 
   -- an event's process is below 8, and its object is declared
   pub process-small : (e : ℕ) → e < h .count → getD (h .events) e noEvent .process .0 < 8

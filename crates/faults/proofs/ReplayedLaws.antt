@@ -130,10 +130,10 @@ faultOf c h R vs k = mapFault (fault16 (viewNumber c h k)) (firstWrong h (visibl
 
 -- ---- a history taken apart
 pub record Taken (h : written-history.History) (ls : List Light) (vs : List ℕ) (answers : List (List ℕ)) (cs : List ℕ) (states : List State) : Type 0 where
-  pub lights : Made (lightOf (h .objects)) noEvent noLight (h .events) ls 64
-  pub values : (getD vs 64 0 ≡ 0) × Made (λ (x : written-event.Event). x .value) noEvent 0 (h .events) vs 64
-  pub answered-as : Made (λ (x : written-event.Event). x .answer .values) noEvent [] (h .events) answers 64
-  pub counts : Made (λ (x : written-event.Event). countOf (x .answer)) noEvent 0 (h .events) cs 64
+  pub lights : Made (lightOf (h .objects)) noEvent noLight (h .events) ls (h .count)
+  pub values : (getD vs 64 0 ≡ 0) × Made (λ (x : written-event.Event). x .value) noEvent 0 (h .events) vs (h .count)
+  pub answered-as : Made (λ (x : written-event.Event). x .answer .values) noEvent [] (h .events) answers (h .count)
+  pub counts : Made (λ (x : written-event.Event). countOf (x .answer)) noEvent 0 (h .events) cs (h .count)
   pub fresh-as : (o : ℕ) → o < 16 → Fresh (getD (h .objects) o noObject) (getD states o noState)
   pub values-long : length vs ≡ 65
   pub states-long : length states ≡ 16

@@ -54,10 +54,10 @@ pub(crate) fn replay_fault(
     let objects = h.objects;
     let all = h.events;
     let size = h.count;
-    let events = light_events(objects, all);
-    let values = values_of(all);
-    let answers = answers_of(all);
-    let counts = counts_of(all);
+    let events = light_events(objects, all, size);
+    let values = values_of(all, size);
+    let answers = answers_of(all, size);
+    let counts = counts_of(all, size);
     let begin = starts(objects);
     if is_converge(c) {
         let view = views[0];

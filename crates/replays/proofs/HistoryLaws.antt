@@ -79,19 +79,19 @@ table-takes f g xs d (suc n) h e =
     ap₂ (λ l x. l ++ x ∷ []) (table-takes f g xs d n (omega arith) (λ k l. e k (omega arith))) (e n (omega arith))
     ∙ sym (ap (map g) (rw add-one at (take-more xs n d (omega arith))) ∙ map-append g (take n xs) (getD xs n d ∷ []))
 
-module _ (os : List Object) (es : List written-event.Event) (ls : List Light) (vs : List ℕ) (answers : List (List ℕ)) (cs : List ℕ)
-    (lights : Made (lightOf os) noEvent noLight es ls 64)
-    (values : Made (λ (x : written-event.Event). x .value) noEvent 0 es vs 64)
-    (answered-as : Made (λ (x : written-event.Event). x .answer .values) noEvent [] es answers 64)
-    (counts : Made (λ (x : written-event.Event). countOf (x .answer)) noEvent 0 es cs 64)
-    (few-values : (e : ℕ) → getD es e noEvent .answer .count ≤ 8) where
-  event-as : (e : ℕ) → e < 64 → eventAt ls vs answers cs e ≡ eventOf (getD es e noEvent)
+module _ (os : List Object) (es : List written-event.Event) (ls : List Light) (vs : List ℕ) (answers : List (List ℕ)) (cs : List ℕ) (n : ℕ)
+    (lights : Made (lightOf os) noEvent noLight es ls n)
+    (values : Made (λ (x : written-event.Event). x .value) noEvent 0 es vs n)
+    (answered-as : Made (λ (x : written-event.Event). x .answer .values) noEvent [] es answers n)
+    (counts : Made (λ (x : written-event.Event). countOf (x .answer)) noEvent 0 es cs n)
+    (few-values : (e : ℕ) → e < n → getD es e noEvent .answer .count ≤ 8) where
+  event-as : (e : ℕ) → e < n → eventAt ls vs answers cs e ≡ eventOf (getD es e noEvent)
   unfolding eventOf
-  event-as e h = rw (lights e h, values e h, answered-as e h, counts e h, recorded-is (getD es e noEvent .answer) (few-values e))
+  event-as e h = rw (lights e h, values e h, answered-as e h, counts e h, recorded-is (getD es e noEvent .answer) (few-values e h))
 
-  pub events-are : (n : ℕ) → n ≤ 64 → length es ≡ 64 → table n (eventAt ls vs answers cs) ≡ map eventOf (take n es)
-  events-are n few long =
-      table-takes (eventAt ls vs answers cs) eventOf es noEvent n (omega arith) (λ e h. event-as e (omega arith))
+  pub events-are : n ≤ 64 → length es ≡ 64 → table n (eventAt ls vs answers cs) ≡ map eventOf (take n es)
+  events-are few long =
+      table-takes (eventAt ls vs answers cs) eventOf es noEvent n (omega arith) event-as
 
 -- ---- the objects: only those that events name count
 module _ (os ps : List Object) (es : List Event)
@@ -156,11 +156,11 @@ starts-are os all states vs few z same fresh-as =
 
 -- ---- a replay of the parts is a replay of the history
 module _ (h : written-history.History) (ls : List Light) (vs : List ℕ) (answers : List (List ℕ)) (cs : List ℕ) (states : List State)
-    (lights : Made (lightOf (h .objects)) noEvent noLight (h .events) ls 64)
-    (values : Made (λ (x : written-event.Event). x .value) noEvent 0 (h .events) vs 64)
-    (answered-as : Made (λ (x : written-event.Event). x .answer .values) noEvent [] (h .events) answers 64)
-    (counts : Made (λ (x : written-event.Event). countOf (x .answer)) noEvent 0 (h .events) cs 64)
-    (few-values : (e : ℕ) → getD (h .events) e noEvent .answer .count ≤ 8)
+    (lights : Made (lightOf (h .objects)) noEvent noLight (h .events) ls (h .count))
+    (values : Made (λ (x : written-event.Event). x .value) noEvent 0 (h .events) vs (h .count))
+    (answered-as : Made (λ (x : written-event.Event). x .answer .values) noEvent [] (h .events) answers (h .count))
+    (counts : Made (λ (x : written-event.Event). countOf (x .answer)) noEvent 0 (h .events) cs (h .count))
+    (few-values : (e : ℕ) → e < h .count → getD (h .events) e noEvent .answer .count ≤ 8)
     (zero-value : valueIn vs 64 ≡ 0)
     (few : h .count ≤ 64)
     (long : length (h .events) ≡ 64)
@@ -183,7 +183,7 @@ module _ (h : written-history.History) (ls : List Light) (vs : List ℕ) (answer
       let es : List Event = map eventOf (eventsIn h) in
       let k : History = record { objects = objectsIn h; events = map eventOf (eventsIn h) } in
       ap (λ (l : List Event). firstWrong record { objects = h .objects; events = l } (isVisible record { objects = h .objects; events = l } who) (contentsIn vs states) v)
-      (events-are (h .objects) (h .events) ls vs answers cs lights values answered-as counts few-values (h .count) few long)
+      (events-are (h .objects) (h .events) ls vs answers cs (h .count) lights values answered-as counts few-values few long)
       ∙ other-objects (h .objects) (objectsIn h) es agree (isVisible record { objects = h .objects; events = es } who) (contentsIn vs states) v
       ∙ same-visible k (isVisible record { objects = h .objects; events = es } who) (isVisible k who) (visible-events (h .objects) (objectsIn h) es who) (contentsIn vs states) v
       ∙ ap (λ (s : Contents). firstWrong k (isVisible k who) s v) same-start
@@ -192,8 +192,8 @@ module _ (h : written-history.History) (ls : List Light) (vs : List ℕ) (answer
 
 -- ---- what a replay takes for granted is what the reader guarantees
 module _ (h : written-history.History) (s : Sound h) (ls : List Light) (vs cs : List ℕ) (states : List State) (view : List ℕ) (n : ℕ)
-    (lights : Made (lightOf (h .objects)) noEvent noLight (h .events) ls 64)
-    (counts : Made (λ (x : written-event.Event). countOf (x .answer)) noEvent 0 (h .events) cs 64)
+    (lights : Made (lightOf (h .objects)) noEvent noLight (h .events) ls (h .count))
+    (counts : Made (λ (x : written-event.Event). countOf (x .answer)) noEvent 0 (h .events) cs (h .count))
     (values-long : length vs ≡ 65)
     (agree : (o : ℕ) → getD (h .objects) o noObject ≡ getD (objectsIn h) o noObject)
     (fresh-as : (o : ℕ) → o < 16 → Fresh (getD (h .objects) o noObject) (getD states o noState))
@@ -205,7 +205,7 @@ module _ (h : written-history.History) (s : Sound h) (ls : List Light) (vs cs : 
       rw q at (s .event e l)
 
   light-at : (e : ℕ) → e < h .count → getD ls e noLight ≡ lightOf (h .objects) (getD (h .events) e noEvent)
-  light-at e l = lights e (omega (arith, s .count))
+  light-at e l = lights e l
 
   parts-of : SoundParts (h .objects) (h .count) ls vs cs
   parts-of = record {
@@ -213,10 +213,10 @@ module _ (h : written-history.History) (s : Sound h) (ls : List Light) (vs cs : 
     small = s .count;
     object = λ e l. rw (light-at e l) (omega (arith, sound-at e l .declared, s .objects, s .declared));
     op = λ e l. rw (light-at e l, agree (getD (h .events) e noEvent .object)) (sound-at e l .op);
-    answer = λ e l. rw (counts e (omega (arith, s .count))) (count-small (getD (h .events) e noEvent .answer) (sound-at e l .few));
+    answer = λ e l. rw (counts e l) (count-small (getD (h .events) e noEvent .answer) (sound-at e l .few));
     silent = λ e l t.
         let x = getD (h .events) e noEvent in
-        rw (light-at e l, counts e (omega (arith, s .count)))
+        rw (light-at e l, counts e l)
         (silent-right (getD (h .objects) (x .object) noObject) (x .op) (x .answer) (rw (light-at e l) at t));
   }
 

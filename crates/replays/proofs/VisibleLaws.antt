@@ -22,12 +22,12 @@ use Rattle.replays.specs.Light.{lightOf}
 use Rattle.replays.proofs.LightLaws.{Made}
 
 module _ (h : written-history.History) (ls : List Light) (numbers : List ℕ) (few : h .count ≤ 64) (counted : length (eventsIn h) ≡ h .count)
-    (lights : Made (lightOf (h .objects)) noEvent noLight (h .events) ls 64) where
+    (lights : Made (lightOf (h .objects)) noEvent noLight (h .events) ls (h .count)) where
   -- the process of event k
   process-light : (k : ℕ) → k < h .count → getD ls k noLight .process .0 ≡ process (historyOf h) k
   unfolding eventOf
   process-light k l =
-      ap (λ (x : Light). x .process .0) (lights k (omega arith))
+      ap (λ (x : Light). x .process .0) (lights k l)
       ∙ ap (λ x. x .process .0) (sym (getD-take (h .count) (h .events) k noEvent l))
       ∙ sym (ap (λ (x : Event). x .process) (event-is h k (omega arith)))
 

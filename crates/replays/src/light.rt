@@ -1,7 +1,7 @@
-// A history taken apart for its replays: light events, and beside them the values, the answers and how many values each answer has,
-// 9 where it was lost.
+// A history taken apart for its replays: the light records of its first n events, and beside them their values, their answers and how
+// many values each answer has, 9 where it was lost.
 ghost use mathlib.Core.Path.{_≡_};
-ghost use Prim.Native.Nat.{ℕ, _<_};
+ghost use Prim.Native.Nat.{ℕ, _≤_, _<_};
 ghost use mathlib.Core.List.{[]};
 ghost use lib.ListN.{getD};
 ghost use Rattle.history.specs.Record.{noEvent};
@@ -54,10 +54,10 @@ fn light_event(kind: Kind, e: Event) -> Light
     }
 }
 
-// The light record of each event.
-pub fn light_events(objects: [Object; 16], events: [Event; 64]) -> [Light; 64]
-    requires { ⌜ ((e : ℕ) → e < 64 → getD events e noEvent .object < 16) ⌝ }
-    ensures { λ r. ⌜ ((e : ℕ) → e < 64 → getD r e noLight ≡ lightOf objects (getD events e noEvent)) ⌝ }
+// The light record of each of the first n events.
+pub fn light_events(objects: [Object; 16], events: [Event; 64], n: usize) -> [Light; 64]
+    requires { ⌜ (n ≤ 64) × ((e : ℕ) → e < n → getD events e noEvent .object < 16) ⌝ }
+    ensures { λ r. ⌜ ((e : ℕ) → e < n → getD r e noLight ≡ lightOf objects (getD events e noEvent)) ⌝ }
 {
     let b = Light {
         process: ProcessNo(0),
@@ -67,7 +67,7 @@ pub fn light_events(objects: [Object; 16], events: [Event; 64]) -> [Light; 64]
     };
     let mut lights = [b; 64];
     let mut i = 0;
-    while i < 64 {
+    while i < n {
         let e = events[i];
         let at = e.object as usize;
         let o = objects[at];
@@ -79,13 +79,14 @@ pub fn light_events(objects: [Object; 16], events: [Event; 64]) -> [Light; 64]
     lights
 }
 
-// The value of each event, and 0 behind them for the start.
-pub fn values_of(events: [Event; 64]) -> [Value; 65]
-    ensures { λ r. ⌜ (getD r 64 0 ≡ 0) × ((e : ℕ) → e < 64 → getD r e 0 ≡ getD events e noEvent .value) ⌝ }
+// The value of each of the first n events, and 0 in the last place for the start.
+pub fn values_of(events: [Event; 64], n: usize) -> [Value; 65]
+    requires { ⌜ n ≤ 64 ⌝ }
+    ensures { λ r. ⌜ (getD r 64 0 ≡ 0) × ((e : ℕ) → e < n → getD r e 0 ≡ getD events e noEvent .value) ⌝ }
 {
     let mut values = [0 as Value; 65];
     let mut i = 0;
-    while i < 64 {
+    while i < n {
         let e = events[i];
         values[i] = e.value;
         i += 1;
@@ -93,13 +94,14 @@ pub fn values_of(events: [Event; 64]) -> [Value; 65]
     values
 }
 
-// The values of each answer.
-pub fn answers_of(events: [Event; 64]) -> [[Value; 8]; 64]
-    ensures { λ r. ⌜ ((e : ℕ) → e < 64 → getD r e [] ≡ getD events e noEvent .answer .values) ⌝ }
+// The values of the answer of each of the first n events.
+pub fn answers_of(events: [Event; 64], n: usize) -> [[Value; 8]; 64]
+    requires { ⌜ n ≤ 64 ⌝ }
+    ensures { λ r. ⌜ ((e : ℕ) → e < n → getD r e [] ≡ getD events e noEvent .answer .values) ⌝ }
 {
     let mut answers = [[0 as Value; 8]; 64];
     let mut i = 0;
-    while i < 64 {
+    while i < n {
         let e = events[i];
         let answer = e.answer;
         let values = answer.values;
@@ -119,13 +121,14 @@ fn count_of(answer: Answer) -> u8
     answer.count
 }
 
-// How many values each answer has; 9 where it was lost.
-pub fn counts_of(events: [Event; 64]) -> [u8; 64]
-    ensures { λ r. ⌜ ((e : ℕ) → e < 64 → getD r e 0 ≡ countOf (getD events e noEvent .answer)) ⌝ }
+// How many values the answer of each of the first n events has; 9 where it was lost.
+pub fn counts_of(events: [Event; 64], n: usize) -> [u8; 64]
+    requires { ⌜ n ≤ 64 ⌝ }
+    ensures { λ r. ⌜ ((e : ℕ) → e < n → getD r e 0 ≡ countOf (getD events e noEvent .answer)) ⌝ }
 {
     let mut counts = [0u8; 64];
     let mut i = 0;
-    while i < 64 {
+    while i < n {
         let e = events[i];
         let answer = e.answer;
         counts[i] = count_of(answer);

@@ -36,7 +36,7 @@ returns-2 c =
     let h = t .before .before .before .before .before in
     let a = h .before .before .before .args in
     let z : h .read-history .result .fault ≡ 0 = search needs in (
-      bad-answer (a .history .now) (a .text .now) (a .rows .now) (h .read-history .result) (h .read-history .ensures) z (t .read-text .result) (t .read-text .ensures .0) (c .if2 .taken),
+      bad-answer (a .history .now) (a .text .now) (a .rows .now) (h .read-history .result) (h .read-history .ensures) z (t .read-text .result) (t .read-text .ensures .0) (c .before .if2 .taken),
       t .read-text .ensures .1
           ∙ lines-rows (a .history .now) (a .text .now) (a .rows .now) (h .read-history .result) (h .read-history .ensures) z (t .read-text .result) (t .read-text .ensures .0),
     )

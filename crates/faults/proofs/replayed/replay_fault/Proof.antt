@@ -12,6 +12,7 @@ use lib.ListN.{length, getD}
 use Rattle.replays.specs.Replay.{Ready}
 use Rattle.orders.specs.Rows.{inRows}
 use Rattle.faults.specs.Steps.{isConverge}
+use Rattle.history.proofs.Guarantees.{within-sound}
 use Rattle.faults.proofs.RecordFacts.{widths-small, objects-small}
 use Rattle.faults.proofs.ReplayedLaws.{Taken, view-ready, place-below, place-fault, place-nothing, view-there, event-fault, event-nothing}
 
@@ -24,6 +25,9 @@ values-long c = search needs
 
 states-long : (c : tie.After-starts) → length (c .starts .result) ≡ 16
 states-long c = search needs
+
+few-events : (s : tie.Start) → s .args .h .count ≤ 64
+few-events s = within-sound (s .args .h) (s .pre .0) .count
 
 -- the parts of the history
 taken : (c : tie.After-starts)
@@ -60,16 +64,16 @@ not-converges : (c : tie.Else1) → isConverge (begun (c .before .before) .args 
 not-converges c = search needs
 
 light-events-requires : tie.Need-light-events-requires
-light-events-requires c κs = let s = c .before .before in λ e l. objects-small (s .args .h) (s .pre .0) e
+light-events-requires c κs = let s = c .before .before in (few-events s, objects-small (s .args .h) (s .pre .0))
 
 values-of-requires : tie.Need-values-of-requires
-values-of-requires c κs = search needs
+values-of-requires c κs = few-events (c .before .before .before)
 
 answers-of-requires : tie.Need-answers-of-requires
-answers-of-requires c κs = search needs
+answers-of-requires c κs = few-events (c .before .before .before .before)
 
 counts-of-requires : tie.Need-counts-of-requires
-counts-of-requires c κs = search needs
+counts-of-requires c κs = few-events (c .before .before .before .before .before)
 
 starts-requires : tie.Need-starts-requires
 starts-requires c κs = let s = c .before .before .before .before .before .before in λ o l. widths-small (s .args .h) (s .pre .0) o

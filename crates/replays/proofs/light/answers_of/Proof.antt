@@ -13,11 +13,11 @@ use Rattle.replays.proofs.light.answers_of.Statement.{statement}
 use Rattle.replays.proofs.light.answers_of.Tie as tie
 
 abbrev Inv-loop : tie.InvT-loop
-Inv-loop events answers₀ i₀ answers i =
-    (i ≤ 64) × (length events ≡ 64) × (length answers ≡ 64) × Made (λ (x : Event). x .answer .values) noEvent [] events answers i
+Inv-loop n events answers₀ i₀ answers i =
+    (i ≤ n) × (length events ≡ 64) × (length answers ≡ 64) × Made (λ (x : Event). x .answer .values) noEvent [] events answers i
 
 abbrev μ-loop : tie.MeasureT-loop
-μ-loop events answers₀ i₀ answers i = 64 - i
+μ-loop n events answers₀ i₀ answers i = n - i
 
 next-i : (c : tie.In-loop Inv-loop μ-loop) → c .before .loop .i < 64
 next-i c = search needs

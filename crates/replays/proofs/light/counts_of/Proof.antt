@@ -13,11 +13,11 @@ use Rattle.replays.proofs.light.counts_of.Statement.{statement}
 use Rattle.replays.proofs.light.counts_of.Tie as tie
 
 abbrev Inv-loop : tie.InvT-loop
-Inv-loop events counts₀ i₀ counts i =
-    (i ≤ 64) × (length events ≡ 64) × (length counts ≡ 64) × Made (λ (x : Event). countOf (x .answer)) noEvent 0 events counts i
+Inv-loop n events counts₀ i₀ counts i =
+    (i ≤ n) × (length events ≡ 64) × (length counts ≡ 64) × Made (λ (x : Event). countOf (x .answer)) noEvent 0 events counts i
 
 abbrev μ-loop : tie.MeasureT-loop
-μ-loop events counts₀ i₀ counts i = 64 - i
+μ-loop n events counts₀ i₀ counts i = n - i
 
 next-i : (c : tie.In-loop Inv-loop μ-loop) → c .before .loop .i < 64
 next-i c = search needs

@@ -14,11 +14,11 @@ use Rattle.replays.proofs.light.light_events.Statement.{statement}
 use Rattle.replays.proofs.light.light_events.Tie as tie
 
 abbrev Inv-loop : tie.InvT-loop
-Inv-loop objects events lights₀ i₀ lights i =
-    (i ≤ 64) × (length events ≡ 64) × (length lights ≡ 64) × Made (lightOf objects) noEvent noLight events lights i
+Inv-loop n objects events lights₀ i₀ lights i =
+    (i ≤ n) × (length events ≡ 64) × (length lights ≡ 64) × Made (lightOf objects) noEvent noLight events lights i
 
 abbrev μ-loop : tie.MeasureT-loop
-μ-loop objects events lights₀ i₀ lights i = 64 - i
+μ-loop n objects events lights₀ i₀ lights i = n - i
 
 next-i : (c : tie.In-loop Inv-loop μ-loop) → c .before .loop .i < 64
 next-i c = search needs
@@ -33,7 +33,7 @@ same-event c d =
 place-below : (c : tie.In-loop Inv-loop μ-loop) (d : Event) → getD (c .before .before .args .t2) (c .before .loop .i) d .object < 16
 place-below c d =
     let q = ap (λ (x : Event). x .object) (same-event c d) in
-    omega (arith, q, c .before .before .pre (c .before .loop .i) (next-i c))
+    omega (arith, q, c .before .before .pre .1 (c .before .loop .i) (c .loop-test .taken))
 
 loop-holds : tie.Need-loop-holds Inv-loop μ-loop
 loop-holds c = (search needs, search needs, refl, λ k h. absurd (omega arith))

@@ -13,11 +13,11 @@ use Rattle.replays.proofs.light.values_of.Statement.{statement}
 use Rattle.replays.proofs.light.values_of.Tie as tie
 
 abbrev Inv-loop : tie.InvT-loop
-Inv-loop events values₀ i₀ values i =
-    (i ≤ 64) × (length events ≡ 64) × (length values ≡ 65) × Made (λ (x : Event). x .value) noEvent 0 events values i × (getD values 64 0 ≡ 0)
+Inv-loop n events values₀ i₀ values i =
+    (i ≤ n) × (length events ≡ 64) × (length values ≡ 65) × Made (λ (x : Event). x .value) noEvent 0 events values i × (getD values 64 0 ≡ 0)
 
 abbrev μ-loop : tie.MeasureT-loop
-μ-loop events values₀ i₀ values i = 64 - i
+μ-loop n events values₀ i₀ values i = n - i
 
 next-i : (c : tie.In-loop Inv-loop μ-loop) → c .before .loop .i < 64
 next-i c = search needs
