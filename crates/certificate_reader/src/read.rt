@@ -372,7 +372,7 @@ pub fn read_certificate(history: &[u8], text: &[u8], rows: &mut [[u8; 64]; 64]) 
     let count = record.count;
     let r = read_text(text, events, count, rows);
     let second = r.fault;
-    // The certificate is copied where it is handed on, and not before the branch, so that it is copied once.
+    // The certificate is taken out in each branch: taken out before them, the compiled code copies it once more.
     if second != 0 {
         let certificate = r.certificate;
         return CertificateRead {
