@@ -62,6 +62,9 @@ module _ (items : List ℕ) (h : 0 < length items) where
   pub list-at : listText items ≡ spell (getD items 0 0) ++ tailText (drop 1 items)
   list-at = ap listText (drop-cons items 0 0 h) ∙ list-some (getD items 0 0) (drop 1 items)
 
+  pub list-long : length (listText items) ≡ length (spell (getD items 0 0)) + length (tailText (drop 1 items))
+  list-long = ap length list-at ∙ length-append (spell (getD items 0 0)) (tailText (drop 1 items))
+
   pub tail-list : tailText items ≡ 44 ∷ listText items
   tail-list =
       ap tailText (drop-cons items 0 0 h)

@@ -3,6 +3,7 @@ ghost use mathlib.Core.Path.{_≡_};
 ghost use Prim.Native.Nat.{_+_, _≤_, _<_};
 ghost use mathlib.Core.List.{_∷_};
 ghost use lib.ListN.{length, drop, take};
+ghost use lib.Dec.{leb};
 ghost use Rattle.layout.specs.Split.{find, split};
 ghost use Rattle.layout.specs.Number.{isNumber, spell};
 ghost use Rattle.layout.specs.List.{itemsOf, judged, listOf, leading, listText};
@@ -169,15 +170,39 @@ pub fn put_list(part: &mut [u8], items: &[u32]) -> usize
     put_items(part, items)
 }
 
-// Writes a list into the first bytes of a part, or refuses a part that is too short and leaves it as it was.
+// Whether the text of a list of any length fits into so much room. It stops at the first item that does not, so nothing is
+// counted beyond the room.
+fn list_fits(items: &[u32], room: usize) -> bool
+    ensures { λ r. ⌜ r ≡ leb (length (listText (now (items .entry)))) room ⌝ }
+{
+    let n = items.len();
+    if n == 0 {
+        return 1 <= room;
+    }
+    let first = number_len(items[0]);
+    if room < first {
+        return false;
+    }
+    let mut left = room - first;
+    let mut i = 1;
+    while i < n {
+        let k = number_len(items[i]) + 1;
+        if left < k {
+            return false;
+        }
+        left -= k;
+        i += 1;
+    }
+    true
+}
+
+// Writes a list of any length into the first bytes of a part, or refuses a part that is too short and leaves it as it was.
 pub fn write_list(part: &mut [u8], items: &[u32]) -> Written
-    requires { ⌜ length (now items) ≤ 64 ⌝ }
     ensures { λ r. ⌜ (r ≡ written (listText (now (items .entry))) (now (part .entry))) × (now (part .exit) ≡ after (listText (now (items .entry))) (now (part .entry))) ⌝ }
 {
-    let k = list_len(items);
-    if part.len() < k {
-        return Written::Short;
+    if list_fits(items, part.len()) {
+        let k = put_list(part, items);
+        return Written::Wrote(k);
     }
-    put_list(part, items);
-    Written::Wrote(k)
+    Written::Short
 }

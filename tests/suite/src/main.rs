@@ -1,4 +1,4 @@
-//! The test suite of the archive: a model written from the words of document 01 and of T-01 and T-02 in document 02, a
+//! The test suite of the archive: a model written from the words of document 01 and of T-01 to T-03 in document 02, a
 //! brute force for small histories, comparisons of the archive with both, and wrong checkers that the comparisons must
 //! find.
 //!
@@ -14,6 +14,7 @@ mod damage;
 mod group_channels;
 mod group_limits;
 mod group_lines;
+mod group_lists;
 mod group_meets;
 mod group_memory;
 mod group_places;
@@ -77,6 +78,8 @@ const GROUPS: &[Group] = &[
     ("channels that get full", group_channels::crowds),
     ("channels, brute force and check", group_meets::refused),
     ("channels, criteria apart", group_meets::channels_apart),
+    ("written lists of events", group_lists::events),
+    ("written lists of values", group_lists::values),
 ];
 
 /// The numbers that each function must have answered in a whole run.

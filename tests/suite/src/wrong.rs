@@ -726,11 +726,39 @@ enum Spoil {
     LostWrittenAsEmpty,
     CapacityWrittenAsNone,
     CapacityDigitsTurned,
+    ShortWrittenToItsEnd,
+    LastOf64LeftOut,
+    LongListCut,
 }
 
 struct Spoilt(Spoil);
 
 impl Spoilt {
+    /// Spoils the lists of a text that was written: each line with its list changed, or a buffer that is too short written up to its
+    /// end. `whole` gives the text's length in a buffer that has room. `before` is the buffer as it was lent.
+    fn lists(&self, answer: u32, before: &Lent<u8>, buffer: &mut Lent<u8>, length: &mut u64, whole: impl Fn(&mut Lent<u8>, &mut u64) -> u32) {
+        let change = match self.0 {
+            Spoil::LastOf64LeftOut => without_the_last_of_64,
+            Spoil::LongListCut => cut_to_128,
+            Spoil::ShortWrittenToItsEnd if answer == 18 => {
+                let mut larger = Lent::new(40_000, |_| 0u8);
+                let mut all = 0;
+                whole(&mut larger, &mut all);
+                let written = buffer.length;
+                buffer.part().copy_from_slice(&larger.part()[..written]);
+                return;
+            }
+            _ => return,
+        };
+        if answer == 0 {
+            let text = buffer.part()[..*length as usize].to_vec();
+            let changed: Vec<u8> = text.split_inclusive(|byte| *byte == 10).flat_map(change).collect();
+            *buffer = before.clone();
+            buffer.part()[..changed.len()].copy_from_slice(&changed);
+            *length = changed.len() as u64;
+        }
+    }
+
     /// Spoils what a writing gave. `before` is the buffer as it was lent.
     fn written(&self, mut answer: u32, before: &Lent<u8>, buffer: &mut Lent<u8>, length: &mut u64) -> u32 {
         match self.0 {
@@ -828,15 +856,16 @@ impl Checker for Spoilt {
                 _ => {}
             }
         }
+        self.lists(answer, &before, buffer, length, |larger, all| Archive.rewrite_history(history, larger, all));
         self.written(answer, &before, buffer, length)
     }
 
     fn rewrite_certificate(&self, history: &[u8], certificate: &[u8], buffer: &mut Lent<u8>, length: &mut u64) -> u32 {
         let before = buffer.clone();
         let answer = Archive.rewrite_certificate(history, certificate, buffer, length);
+        self.lists(answer, &before, buffer, length, |larger, all| Archive.rewrite_certificate(history, certificate, larger, all));
         self.written(answer, &before, buffer, length)
     }
-
 
     fn weaken(&self, history: &[u8], certificate: &[u8], wanted: u32, buffer: &mut Lent<u8>, length: &mut u64) -> u32 {
         let before = buffer.clone();
@@ -873,6 +902,18 @@ impl Checker for Spoilt {
             (_, answer) => answer,
         }
     }
+}
+
+/// A line in which a list of 64 numbers lacks its last one.
+fn without_the_last_of_64(line: &[u8]) -> Vec<u8> {
+    let commas: Vec<usize> = (0..line.len()).filter(|at| line[*at] == b',').collect();
+    if commas.len() == 63 { [&line[..commas[62]], b"\n"].concat() } else { line.to_vec() }
+}
+
+/// A line in which a list of more than 128 bytes is cut, as by an array of that length between the record and the buffer.
+fn cut_to_128(line: &[u8]) -> Vec<u8> {
+    let field = line.iter().rposition(|byte| *byte == b' ').map_or(0, |space| space + 1);
+    if line.len() - 1 - field > 128 { [&line[..field + 128], b"\n"].concat() } else { line.to_vec() }
 }
 
 /// A line of a view with its last two entries in each other's place.
@@ -1013,5 +1054,8 @@ pub fn wrong_checkers() -> Vec<(&'static str, Box<dyn Checker>)> {
         model("channels aren't read", ChannelUnknown),
         spoilt("a capacity of one digit is written as -", Spoil::CapacityWrittenAsNone),
         spoilt("the two digits of a capacity change places", Spoil::CapacityDigitsTurned),
+        spoilt("a buffer that is too short is written up to its end", Spoil::ShortWrittenToItsEnd),
+        spoilt("the last of 64 numbers of a list is not written", Spoil::LastOf64LeftOut),
+        spoilt("a list of more than 128 bytes is cut where it is written", Spoil::LongListCut),
     ]
 }
