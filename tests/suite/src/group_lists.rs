@@ -1,5 +1,5 @@
-//! Comma lists as they are written (document 02, T-03): of every length and with numbers of every count of digits, at the end of
-//! the text, so that the end of a list is the end of a buffer of exactly the length.
+//! Comma lists as they are written (document 02, T-03): of every length that a text has, and with numbers of every count of
+//! digits. Where a list stands in the last line, its end and a line feed are the end of a buffer of exactly the text's length.
 
 use crate::certificate::{Certificate, Criterion, List};
 use crate::compare::{Call, Comparer};
