@@ -44,13 +44,18 @@ fn accepted() {
     );
     case(
         b"accepted, converge",
-        b"object kind width\n0 window 2\nevent process object op value answer\n0 0 0 write 4 -\n1 1 0 write 9 -\n2 1 0 read - 0,9\n3 1 0 read - 4,9\n",
+        b"object kind width\n0 window 2\nevent process object op value answer\n0 0 0 write 4 -\n1 1 0 write 9 -\n2 1 0 read - 9\n3 1 0 read - 4,9\n",
         b"criterion converge\nevent past\n0 -\n1 -\n2 1\n3 0,1,2\nview order\n0 0,1,2,3\n",
     );
     case(
         b"accepted, a full channel",
         b"object kind width\n0 channel 1\nevent process object op value answer\n0 0 0 push 5 -\n1 1 0 push 6 6\n2 0 0 pop - 5\n",
         b"criterion sequential\nview order\n0 0,1,2\n",
+    );
+    case(
+        b"accepted, a window that holds nothing",
+        b"object kind width\n0 window 1\nevent process object op value answer\n0 0 0 read - -\n",
+        b"criterion sequential\nview order\n0 0\n",
     );
     case(
         b"accepted, no events",
@@ -175,6 +180,16 @@ fn replay_faults() {
         b"16, the last slot of a channel",
         b"object kind width\n0 channel 1\nevent process object op value answer\n0 0 0 push 5 5\n1 1 0 push 6 6\n2 0 0 pop - 5\n",
         b"criterion sequential\nview order\n0 0,1,2\n",
+    );
+    case(
+        b"16, a zero of a window that holds nothing",
+        b"object kind width\n0 window 1\nevent process object op value answer\n0 0 0 read - 0\n",
+        b"criterion sequential\nview order\n0 0\n",
+    );
+    case(
+        b"16, the first values written to a window",
+        b"object kind width\n0 window 2\nevent process object op value answer\n0 0 0 write 4 -\n1 0 0 write 9 -\n2 0 0 write 7 -\n3 1 0 read - 4,9\n",
+        b"criterion sequential\nview order\n0 0,1,2,3\n",
     );
 }
 

@@ -1,5 +1,5 @@
--- Document 01's samples marked (p), on lists, Q with a lost answer, and a channel that gets full: theorems by computation. Assumes
--- nothing.
+-- Document 01's samples marked (p), on lists (C as document 02, T-04 has it), Q with a lost answer, a window that holds fewer and one
+-- that was given more values than its width, and a channel that gets full: theorems by computation. Assumes nothing.
 use mathlib.Core.Path.{_≡_, refl}
 use mathlib.Core.List.{List, [], _∷_}
 use mathlib.Core.Option.{none, some}
@@ -86,15 +86,20 @@ pub W-past : (vs : List (List ℕ)) → check W (claim Causal ([] ∷ (2 ∷ [])
 unfolding lacksOwn lacksPast notItsSet against right check programOrder processes
 W-past vs = refl
 
-abbrev pub C : History
-C = record {
+-- C with this answer of event 2: "Sample C's event 2 becomes answer `9`", and the zeros that a window once started with are wrong
+abbrev pub C : List ℕ → History
+C a = record {
   objects = record { kind = Window; width = 2 } ∷ [];
-  events = ev 0 0 Write 4 [] ∷ ev 1 0 Write 9 [] ∷ ev 1 0 Read 0 (0 ∷ 9 ∷ []) ∷ ev 1 0 Read 0 (4 ∷ 9 ∷ []) ∷ [];
+  events = ev 0 0 Write 4 [] ∷ ev 1 0 Write 9 [] ∷ ev 1 0 Read 0 a ∷ ev 1 0 Read 0 (4 ∷ 9 ∷ []) ∷ [];
 }
 
-pub C-converge : check C (claim Converge ([] ∷ [] ∷ (1 ∷ []) ∷ (0 ∷ 1 ∷ 2 ∷ []) ∷ []) ((0 ∷ 1 ∷ 2 ∷ 3 ∷ []) ∷ [])) ≡ none
+pub C-converge : check (C (9 ∷ [])) (claim Converge ([] ∷ [] ∷ (1 ∷ []) ∷ (0 ∷ 1 ∷ 2 ∷ []) ∷ []) ((0 ∷ 1 ∷ 2 ∷ 3 ∷ []) ∷ [])) ≡ none
 unfolding lacksOwn lacksPast notItsSet against right check programOrder processes
 C-converge = refl
+
+pub C-zeros : check (C (0 ∷ 9 ∷ [])) (claim Converge ([] ∷ [] ∷ (1 ∷ []) ∷ (0 ∷ 1 ∷ 2 ∷ []) ∷ []) ((0 ∷ 1 ∷ 2 ∷ 3 ∷ []) ∷ [])) ≡ some (fault16 0 2)
+unfolding lacksOwn lacksPast notItsSet against right check programOrder processes
+C-zeros = refl
 
 abbrev pub R : History
 R = record {
@@ -116,6 +121,36 @@ M = record {
 pub M-replays : Replays M (own M 2) (start M) (1 ∷ 2 ∷ 3 ∷ 4 ∷ 0 ∷ [])
 unfolding right
 M-replays = none-wrong M (own M 2) (start M) (1 ∷ 2 ∷ 3 ∷ 4 ∷ 0 ∷ []) refl
+
+-- a window of width 1 that is read before anything is written to it, with this answer: it "starts empty"
+abbrev pub unscanned : List ℕ → History
+unscanned a = record {
+  objects = record { kind = Window; width = 1 } ∷ [];
+  events = ev 0 0 Read 0 a ∷ [];
+}
+
+pub window-empty : check (unscanned []) (claim Sequential [] ((0 ∷ []) ∷ [])) ≡ none
+unfolding lacksOwn lacksPast notItsSet against right check programOrder processes
+window-empty = refl
+
+pub window-zero : check (unscanned (0 ∷ [])) (claim Sequential [] ((0 ∷ []) ∷ [])) ≡ some (fault16 0 0)
+unfolding lacksOwn lacksPast notItsSet against right check programOrder processes
+window-zero = refl
+
+-- a window of width 2 to which 4, 9 and 7 are written before it is read, with this answer: "the last k values written .., oldest first"
+abbrev pub threeScans : List ℕ → History
+threeScans a = record {
+  objects = record { kind = Window; width = 2 } ∷ [];
+  events = ev 0 0 Write 4 [] ∷ ev 0 0 Write 9 [] ∷ ev 0 0 Write 7 [] ∷ ev 1 0 Read 0 a ∷ [];
+}
+
+pub window-last : check (threeScans (9 ∷ 7 ∷ [])) (claim Sequential [] ((0 ∷ 1 ∷ 2 ∷ 3 ∷ []) ∷ [])) ≡ none
+unfolding lacksOwn lacksPast notItsSet against right check programOrder processes
+window-last = refl
+
+pub window-first : check (threeScans (4 ∷ 9 ∷ [])) (claim Sequential [] ((0 ∷ 1 ∷ 2 ∷ 3 ∷ []) ∷ [])) ≡ some (fault16 0 3)
+unfolding lacksOwn lacksPast notItsSet against right check programOrder processes
+window-first = refl
 
 -- a channel of capacity 1, where processes 0 and 1 push 5 and 6, with these answers, and process 0 pops 5: it "takes one pack", and a
 -- push onto the full channel "answers the pushed value"

@@ -3,7 +3,7 @@
 use mathlib.Core.List.{List, [], _∷_, _++_}
 use mathlib.Core.Bool.{Bool, cond, _&&_}
 use Prim.Native.Nat.{ℕ, _-_}
-use lib.ListN.{length, take, drop, replicate}
+use lib.ListN.{length, take, drop}
 use lib.Dec.{leb}
 use Rattle.history.specs.declared.record.Kind.{Kind}
 use Rattle.history.specs.declared.record.Kind.the-variants.{Register, Queue, Stack, Window, Channel}
@@ -12,13 +12,12 @@ use Rattle.history.specs.declared.record.Op.the-variants.{Write, Read, Push, Po
 use Rattle.history.specs.declared.record.Object.{Object}
 use Rattle.history.specs.Kinds.{isChannel}
 
--- "register: starts at 0", "queue, stack: start empty", "window of width k: starts as k zeros". A channel is a
--- queue.
+-- "register: starts at 0", "queue, stack: start empty", "a window starts empty" (document 02, T-04). A channel is a queue.
 abbrev pub freshOf : Kind → ℕ → List ℕ
 freshOf Register width = 0 ∷ []
 freshOf Queue width = []
 freshOf Stack width = []
-freshOf Window width = replicate width 0
+freshOf Window width = []
 freshOf Channel width = []
 
 abbrev pub fresh : Object → List ℕ
@@ -45,19 +44,32 @@ untop Channel s = drop 1 s
 abbrev pub full : Object → List ℕ → Bool
 full o s = isChannel (o .kind) && leb (o .width) (length s)
 
--- What an op with its value makes of what the object holds. `write v`: "drops the oldest value and adds v"; of a register, which
--- holds one value, that is the new value. `push v` adds v; "onto a full channel" it "changes nothing". `pop`: "removes one value"; "on
--- an empty object" it "changes nothing". `read` and `peek` change nothing.
+-- How many of the values written are kept: of a register "the one value held", of a window of width k "the last k values written".
+-- (The other kinds have no write.)
+abbrev pub keeps : Kind → ℕ → ℕ
+keeps Register width = 1
+keeps Queue width = 1
+keeps Stack width = 1
+keeps Window width = width
+keeps Channel width = 1
+
+-- "the last k values .., or all of them while there are fewer"
+abbrev pub lastValues : ℕ → List ℕ → List ℕ
+lastValues k s = drop (length s - k) s
+
+-- What an op with its value makes of what the object holds. `write v` adds v, and as many of the last values as the object keeps stay;
+-- of a register that is the new value. `push v` adds v; "onto a full channel" it "changes nothing". `pop`: "removes one value"; "on an
+-- empty object" it "changes nothing". `read` and `peek` change nothing.
 abbrev pub after : Object → Op → ℕ → List ℕ → List ℕ
-after o Write v s = drop 1 s ++ (v ∷ [])
+after o Write v s = lastValues (keeps (o .kind) (o .width)) (s ++ (v ∷ []))
 after o Push v s = cond (full o s) s (s ++ (v ∷ []))
 after o Read v s = s
 after o Pop v s = untop (o .kind) s
 after o Peek v s = s
 
 -- What an op with its value answers. `write`: "the empty list". `push v` onto a full channel "answers the pushed value; otherwise
--- its answer is empty". `read`: "the one value held", "the k values, oldest first". `pop` and `peek`: one value, or "the empty list"
--- on an empty object.
+-- its answer is empty". `read`: "the one value held", "the last k values written, or all of them while there are fewer, oldest first".
+-- `pop` and `peek`: one value, or "the empty list" on an empty object.
 abbrev pub gives : Object → Op → ℕ → List ℕ → List ℕ
 gives o Write v s = []
 gives o Push v s = cond (full o s) (v ∷ []) []

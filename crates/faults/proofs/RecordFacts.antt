@@ -2,21 +2,24 @@
 use Prim.Native.Nat.{ℕ, _≤_, _<_}
 use native.Mathlib.Omega.{arith}
 use mathlib.Core.Path.{_≡_, refl, ap, _∙_}
-use mathlib.Core.Bool.{true}
+use mathlib.Core.Bool.{true, cond, _&&_}
 use mathlib.Core.List.{List}
 use lib.ListN.{length, getD, List·getD-eq-default}
-use lib.Dec.{leb, ltb}
+use lib.Dec.{eqb, leb, ltb}
 use borrow.Author.Tests.{leb-true}
 use Rattle.layout.proofs.Cases.{by-lt, and-right}
 use Rattle.history.specs.declared.record.Object.{Object}
 use Rattle.history.specs.declared.record.Event as written-event
 use Rattle.history.specs.declared.record.History as written-history
 use Rattle.history.specs.Record.{pad, noObject, noEvent, historyOf, objectsIn, eventsIn}
-use Rattle.history.specs.declared.record.Kind.the-variants.{Window}
+use Rattle.history.specs.declared.record.Kind.{Kind}
+use Rattle.history.specs.declared.record.Kind.the-variants.{Register, Queue, Stack, Window, Channel}
+use Rattle.history.specs.Kinds.{hasWidth, widthLimit}
 use Rattle.history.specs.Readable.{goodObject, within}
 use Rattle.history.proofs.PadLaws.{pad-length, getD-pad}
 use Rattle.history.proofs.WithinLaws.{within-limits}
 use Rattle.history.proofs.Guarantees.{within-sound}
+use Rattle.criteria.specs.Object.{keeps}
 use Rattle.criteria.specs.History.{event}
 use Rattle.criteria.specs.Records as criteria-records
 use Rattle.criteria.proofs.RecordLaws.{event-is}
@@ -30,10 +33,17 @@ events-of : (os : List Object) (es : List written-event.Event) → historyOf os 
 unfolding historyOf
 events-of os es = refl
 
--- no window is wider than eight
-width-small : (o : Object) → goodObject o ≡ true → o .kind ≡ Window → o .width ≤ 8
+-- no object keeps more than eight of the values written to it
+kept-few : (k : Kind) (width : ℕ) → cond (hasWidth k) (ltb 0 width && leb width (widthLimit k)) (eqb width 0) ≡ true → keeps k width ≤ 8
+kept-few Register width g = omega arith
+kept-few Queue width g = omega arith
+kept-few Stack width g = omega arith
+kept-few Window width g = leb-true width 8 (and-right (ltb 0 width) (leb width 8) g)
+kept-few Channel width g = omega arith
+
+keeps-few : (o : Object) → goodObject o ≡ true → keeps (o .kind) (o .width) ≤ 8
 unfolding goodObject
-width-small o g k = leb-true (o .width) 8 (and-right (ltb 0 (o .width)) (leb (o .width) 8) (rw k at g))
+keeps-few o g = kept-few (o .kind) (o .width) g
 
 module _ (h : written-history.History) (w : within h ≡ true) where
   objects-are : h .objects ≡ pad 16 noObject (objectsIn h)
@@ -53,12 +63,12 @@ module _ (h : written-history.History) (w : within h ≡ true) where
       ap length events-are ∙ pad-length 64 noEvent (eventsIn h) (omega (arith, within-limits h w .count, within-limits h w .all))
 
   -- an object that is not declared is blank
-  pub widths-small : (o : ℕ) → getD (h .objects) o noObject .kind ≡ Window → getD (h .objects) o noObject .width ≤ 8
-  widths-small o =
+  pub all-keep-few : (o : ℕ) → keeps (getD (h .objects) o noObject .kind) (getD (h .objects) o noObject .width) ≤ 8
+  all-keep-few o =
       rw (objects-agree o)
       (by-lt o (length (objectsIn h))
-      (λ l. width-small (getD (objectsIn h) o noObject) (within-sound h w .object o (omega (arith, l, within-limits h w .few))))
-      (λ l. rw (List·getD-eq-default (objectsIn h) noObject {n = o} l) (λ k. omega arith)))
+      (λ l. keeps-few (getD (objectsIn h) o noObject) (within-sound h w .object o (omega (arith, l, within-limits h w .few))))
+      (λ l. rw (List·getD-eq-default (objectsIn h) noObject {n = o} l) (omega arith)))
 
   -- an event's object is one of the sixteen, and its answer has at most eight values
   pub objects-small : (e : ℕ) → e < h .count → getD (h .events) e noEvent .object < 16

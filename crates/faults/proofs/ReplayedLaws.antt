@@ -42,7 +42,7 @@ use Rattle.replays.proofs.VisibleLaws.{visible-is}
 use Rattle.replayed_views.proofs.CutLaws.{first-below, kept-below}
 use Rattle.faults.specs.Steps.{isConverge}
 use Rattle.faults.proofs.FoundLaws.{lowest-same}
-use Rattle.faults.proofs.RecordFacts.{objects-agree, events-long, object-declared, answers-small}
+use Rattle.faults.proofs.RecordFacts.{all-keep-few, objects-agree, events-long, object-declared, answers-small}
 
 -- ---- the lowest that is found
 module _ {A : Type 0} where
@@ -151,7 +151,7 @@ module _ {h : written-history.History} {ls : List Light} {vs : List ℕ} {answer
   pub view-ready : (k : ℕ) → k < m → Ready (h .objects) (h .count) ls vs cs states (getD views k []) (getD lengths k 0)
   view-ready k l =
       ready-of h (within-sound h (asked .0)) ls vs cs states (getD views k []) (getD lengths k 0)
-      (t .lights) (t .counts) (t .values-long) (objects-agree h (asked .0)) (t .fresh-as) (asked .3 .few k l) (asked .3 .entries k l)
+      (t .lights) (t .counts) (t .values-long) (objects-agree h (asked .0)) (t .fresh-as) (all-keep-few h (asked .0)) (asked .3 .few k l) (asked .3 .entries k l)
 
   replayed-is : (who : Visible) (view : List ℕ) → ((e : ℕ) → mem e view ≡ true → e < h .count)
       → firstWrong (lightHistory (h .objects) (h .count) ls vs answers cs) (isVisible (lightHistory (h .objects) (h .count) ls vs answers cs) who) (contentsIn vs states) view

@@ -1,4 +1,4 @@
--- Kinds and ops: their words, and which width, op, value and answer a kind allows (document 01, "Objects"; document 02, T-02).
+-- Kinds and ops: their words, and which width, op, value and answer a kind allows (document 01, "Objects"; document 02, T-02, T-04).
 use Prim.Native.Nat.{ℕ}
 use mathlib.Core.Bool.{Bool, true, false, cond, not, _||_}
 use mathlib.Core.List.{List}
@@ -88,13 +88,14 @@ takesValue Push = true
 takesValue Pop = false
 takesValue Peek = false
 
--- How many values a read answers.
-abbrev pub readCount : Kind → ℕ → ℕ
-readCount Register width = 1
-readCount Queue width = 1
-readCount Stack width = 1
-readCount Window width = width
-readCount Channel width = 1
+-- A read can answer so many values: a register's one, and of a window "fault 5 now allows 0 to k values" (document 02, T-04). (The
+-- other kinds have no read.)
+abbrev pub readCanAnswer : Kind → ℕ → ℕ → Bool
+readCanAnswer Register width n = eqb n 1
+readCanAnswer Queue width n = eqb n 1
+readCanAnswer Stack width n = eqb n 1
+readCanAnswer Window width n = leb n width
+readCanAnswer Channel width n = eqb n 1
 
 -- A push can answer so many values: on a channel "5 allows zero or one value for this push".
 abbrev pub pushCanAnswer : Kind → ℕ → Bool
@@ -103,7 +104,7 @@ pushCanAnswer kind n = cond (isChannel kind) (leb n 1) (eqb n 0)
 -- An op of an object can answer so many values.
 abbrev pub canAnswer : Object → Op → ℕ → Bool
 canAnswer o Write n = eqb n 0
-canAnswer o Read n = eqb n (readCount (o .kind) (o .width))
+canAnswer o Read n = readCanAnswer (o .kind) (o .width) n
 canAnswer o Push n = pushCanAnswer (o .kind) n
 canAnswer o Pop n = leb n 1
 canAnswer o Peek n = leb n 1

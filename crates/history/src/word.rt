@@ -1,7 +1,7 @@
 // The words of kinds and ops.
 ghost use mathlib.Core.Path.{_≡_};
 ghost use Prim.Native.Nat.{_+_, _≤_};
-ghost use Rattle.history.specs.Kinds.{isKind, kindOf, isOp, opOf, isChannel, hasWidth, widthLimit, isShelf, isShelfOp, hasOp, takesValue, readCount, pushCanAnswer, canAnswer, mayAnswer};
+ghost use Rattle.history.specs.Kinds.{isKind, kindOf, isOp, opOf, isChannel, hasWidth, widthLimit, isShelf, isShelfOp, hasOp, takesValue, readCanAnswer, pushCanAnswer, canAnswer, mayAnswer};
 ghost use mathlib.Core.Bool.{cond, not};
 ghost use mathlib.Core.List.{[]};
 use crate::record::Kind;
@@ -171,16 +171,16 @@ pub fn takes_value(op: Op) -> bool
     }
 }
 
-// How many values a read answers.
-fn read_count(kind: Kind, width: u8) -> u8
-    ensures { λ r. ⌜ r ≡ readCount kind width ⌝ }
+// Whether a read of an object of the kind and the width can answer so many values.
+fn read_can_answer(kind: Kind, width: u8, n: u8) -> bool
+    ensures { λ r. ⌜ r ≡ readCanAnswer kind width n ⌝ }
 {
     match kind {
-        Kind::Register => 1,
-        Kind::Queue => 1,
-        Kind::Stack => 1,
-        Kind::Window => width,
-        Kind::Channel => 1,
+        Kind::Register => n == 1,
+        Kind::Queue => n == 1,
+        Kind::Stack => n == 1,
+        Kind::Window => n <= width,
+        Kind::Channel => n == 1,
     }
 }
 
@@ -201,7 +201,7 @@ fn can_answer(object: Object, op: Op, n: u8) -> bool
     let kind = object.kind;
     match op {
         Op::Write => n == 0,
-        Op::Read => n == read_count(kind, object.width),
+        Op::Read => read_can_answer(kind, object.width, n),
         Op::Push => push_can_answer(kind, n),
         Op::Pop => n <= 1,
         Op::Peek => n <= 1,

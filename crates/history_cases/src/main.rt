@@ -438,6 +438,14 @@ fn of_answers_and_layout() {
         b"object kind width\n0 register -\nevent process object op value answer\n0 0 0 read - 1,2\n",
     );
     case(
+        b"window's answers of no value to two",
+        b"object kind width\n0 window 2\nevent process object op value answer\n0 0 0 read - -\n1 0 0 read - 4\n2 0 0 read - 4,9\n",
+    );
+    case(
+        b"window's answer of three values",
+        b"object kind width\n0 window 2\nevent process object op value answer\n0 0 0 read - 4,9,7\n",
+    );
+    case(
         b"answer of nine values",
         b"object kind width\n0 window 8\nevent process object op value answer\n0 0 0 read - 1,2,3,4,5,6,7,8,9\n",
     );

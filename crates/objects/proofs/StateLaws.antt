@@ -7,9 +7,9 @@ use mathlib.Core.Path.{_≡_, refl, ap, sym, subst, _∙_}
 use mathlib.Core.Logic.{_⊎_, inl, inr}
 use mathlib.Core.Bool.{Bool, true, false, cond, _&&_, false≢true}
 use mathlib.Core.List.{List, [], _∷_, _++_, map, map-append}
-use lib.ListN.{length, take, drop, getD, set, replicate, length-map, length-append}
+use lib.ListN.{length, take, drop, getD, set, replicate, length-map, length-append, length-set}
 use lib.Dec.{leb}
-use borrow.Author.Tests.{lt-leb}
+use borrow.Author.Tests.{lt-leb, leb-true, leb-false}
 use lib.Seq.{slice, slice-empty, slice-cons, length-slice, take-suc, take-suc-set, drop-append-le, drop-drop, length-take-le, take-at, drop-at, take-all, getD-drop, getD-take}
 use Rattle.history.specs.declared.record.Kind.{Kind}
 use Rattle.history.specs.declared.record.Kind.the-variants.{Register, Queue, Stack, Window, Channel}
@@ -17,7 +17,7 @@ use Rattle.history.specs.declared.record.Op.{Op}
 use Rattle.history.specs.declared.record.Op.the-variants.{Write, Read, Push, Pop, Peek}
 use Rattle.history.specs.declared.record.Object.{Object}
 use Rattle.history.specs.Kinds.{isChannel, hasOp}
-use Rattle.criteria.specs.Object.{freshOf, full, after, gives, top, untop}
+use Rattle.criteria.specs.Object.{freshOf, full, keeps, lastValues, after, gives, top, untop}
 use Rattle.objects.specs.State.{valueIn, contentsOf, givenOf, isStack, limitFor, Fresh, Suits, Changed, Answered}
 use Rattle.objects.specs.Steps.State.{Starts, Names, Shows}
 use Rattle.objects.specs.declared.state.State.{State}
@@ -60,6 +60,9 @@ module _ (f : ℕ → ℕ) where
   map-full : (o : Object) (l : List ℕ) → full o (map f l) ≡ full o l
   map-full o l = ap (λ (n : ℕ). isChannel (o .kind) && leb (o .width) n) (length-map l f)
 
+  map-last : (k : ℕ) (l : List ℕ) → map f (lastValues k l) ≡ lastValues k (map f l)
+  map-last k l = map-drop (length l - k) l ∙ ap (λ (n : ℕ). drop (n - k) (map f l)) (sym (length-map l f))
+
   map-put : (b : Bool) (n : ℕ) (l : List ℕ) → map f (cond b l (l ++ (n ∷ []))) ≡ cond b (map f l) (map f l ++ (f n ∷ []))
   map-put true n l = refl
   map-put false n l = map-append f l (n ∷ [])
@@ -69,7 +72,7 @@ module _ (f : ℕ → ℕ) where
   map-back false n = refl
 
   map-after : (o : Object) (op : Op) (n : ℕ) (l : List ℕ) → map f (after o op n l) ≡ after o op (f n) (map f l)
-  map-after o Write n l = map-append f (drop 1 l) (n ∷ []) ∙ ap (λ (t : List ℕ). t ++ (f n ∷ [])) (map-drop 1 l)
+  map-after o Write n l = map-last (keeps (o .kind) (o .width)) (l ++ (n ∷ [])) ∙ ap (lastValues (keeps (o .kind) (o .width))) (map-append f l (n ∷ []))
   map-after o Read n l = refl
   map-after o Push n l =
       map-put (full o l) n l ∙ ap (λ (b : Bool). cond b (map f l) (map f l ++ (f n ∷ []))) (sym (map-full o l))
@@ -131,7 +134,7 @@ take-replicate zero n x h = refl
 take-replicate (suc t) zero x h = absurd (not-suc-le-zero h)
 take-replicate (suc t) (suc n) x h = ap (λ (l : List ℕ). x ∷ l) (take-replicate t n x (le-of-suc-le-suc h))
 
-pub fresh-law : (o : Object) (k : Kind) (r : State) (t : ℕ) (b : Bool) (m : ℕ) → o .kind ≡ k → t ≤ 8 → Starts t b m r → isStack k ≡ b
+pub fresh-law : (o : Object) (k : Kind) (r : State) (t : ℕ) (b : Bool) (m : ℕ) → o .kind ≡ k → t ≤ 1 → Starts t b m r → isStack k ≡ b
     → limitFor k (o .width) ≡ m → freshOf k (o .width) ≡ replicate t 0 → Fresh o r
 unfolding contentsOf
 fresh-law o k r t b m kind few g stack most start = record {
@@ -140,7 +143,7 @@ fresh-law o k r t b m kind few g stack most start = record {
   head = g .head;
   tail = omega (arith, g .tail);
   contents = λ vs z.
-      rw (g .head, g .tail, g .numbers, take-replicate t 72 64 (omega arith), map-replicate (valueIn vs) t 64, z, kind, start);
+      rw (g .head, g .tail, g .numbers, take-replicate t 65 64 (omega arith), map-replicate (valueIn vs) t 64, z, kind, start);
 }
 
 -- ---- one op on a state, said of the numbers it holds
@@ -162,15 +165,23 @@ changed-law s r op number e m h t g = record {
 abbrev between : State → List ℕ → ℕ → ℕ → State
 between s l h t = record { numbers = l; head = h; tail = t; newest = s .newest; limit = s .limit }
 
+-- a register and a window keep as many values as they hold at most
+keeps-by : (k : Kind) (w : ℕ) → hasOp k Write ≡ true → keeps k w ≡ limitFor k w
+keeps-by Register w h = refl
+keeps-by Queue w h = absurd (false≢true h)
+keeps-by Stack w h = absurd (false≢true h)
+keeps-by Window w h = refl
+keeps-by Channel w h = absurd (false≢true h)
+
 -- ---- whether the object holds as many values as it can
-full-by : (k : Kind) (w n : ℕ) → hasOp k Push ≡ true → n ≤ 72 → isChannel k && leb w n ≡ leb (limitFor k w) n
+full-by : (k : Kind) (w n : ℕ) → hasOp k Push ≡ true → n ≤ 65 → isChannel k && leb w n ≡ leb (limitFor k w) n
 full-by Register w n h le = absurd (false≢true h)
 full-by Queue w n h le = sym (lt-leb 255 n (omega arith))
 full-by Stack w n h le = sym (lt-leb 255 n (omega arith))
 full-by Window w n h le = absurd (false≢true h)
 full-by Channel w n h le = refl
 
-module _ (s : State) (len : length (s .numbers) ≡ 72) (room : s .tail ≤ 72) where
+module _ (s : State) (len : length (s .numbers) ≡ 65) (room : s .tail ≤ 65) where
   full-held : (o : Object) → Suits o Push s → full o (held s) ≡ leb (s .limit) (s .tail - s .head)
   full-held o k =
       let n : ℕ = s .tail - s .head in
@@ -187,7 +198,7 @@ module _ (s : State) (ends : s .head ≤ s .tail) where
   pub kept : (op : Op) (number : ℕ) → ((o : Object) (l : List ℕ) → l ≡ after o op number l) → Changed s op number s
   kept op number e = changed-law s s op number refl refl ends (omega arith) (λ o k. e o (held s))
 
-  module _ (len : length (s .numbers) ≡ 72) (room : s .tail < 72) (number : ℕ) where
+  module _ (len : length (s .numbers) ≡ 65) (room : s .tail < 65) (number : ℕ) where
     put : (b : Bool) → leb (s .limit) (s .tail - s .head) ≡ b → (o : Object) → Suits o Push s
         → after o Push number (held s) ≡ cond b (held s) (held s ++ (number ∷ []))
     put b e o k =
@@ -204,23 +215,37 @@ module _ (s : State) (ends : s .head ≤ s .tail) where
         slice-push (s .numbers) (s .head) (s .tail) number ends (omega arith)
         ∙ sym (put false e o k))
 
-    pub write-changes : s .head < s .tail
-        → Changed s Write number (between s (set (s .numbers) (s .tail) number) (s .head + 1) (s .tail + 1))
-    write-changes lt =
-        changed-law s _ Write number refl refl (omega arith) (omega arith)
-        (λ o k.
-        slice-push (s .numbers) (s .head + 1) (s .tail) number (omega arith) (omega arith)
-        ∙ ap (λ (l : List ℕ). l ++ (number ∷ [])) (slice-tail (s .numbers) (s .head) (s .tail)))
+    -- what a write makes of it: the last ones of what it held and the new one
+    last-values : (o : Object) → Suits o Write s
+        → after o Write number (held s) ≡ slice (s .head + (s .tail - s .head + 1 - s .limit)) (s .tail + 1) (set (s .numbers) (s .tail) number)
+    last-values o k =
+        let l = set (s .numbers) (s .tail) number in
+        let q : held s ++ (number ∷ []) ≡ slice (s .head) (s .tail + 1) l = sym (slice-push (s .numbers) (s .head) (s .tail) number ends (omega arith)) in
+        let n : length (slice (s .head) (s .tail + 1) l) ≡ s .tail + 1 - s .head =
+        length-slice (s .head) (s .tail + 1) l (omega (arith, length-set (s .numbers) (s .tail) number)) in
+        let z : length (slice (s .head) (s .tail + 1) l) - s .limit ≡ s .tail - s .head + 1 - s .limit = omega (arith, n) in
+        ap (λ (m : ℕ). lastValues m (held s ++ (number ∷ []))) (keeps-by (o .kind) (o .width) (k .has) ∙ k .limit)
+        ∙ ap (lastValues (s .limit)) q
+        ∙ ap (λ (m : ℕ). drop m (slice (s .head) (s .tail + 1) l)) z
+        ∙ drop-drop (s .tail - s .head + 1 - s .limit) (s .head) (take (s .tail + 1) l)
+
+    write-at : (h : ℕ) → h ≡ s .head + (s .tail - s .head + 1 - s .limit) → h ≤ s .tail + 1
+        → Changed s Write number (between s (set (s .numbers) (s .tail) number) h (s .tail + 1))
+    write-at h e le =
+        changed-law s _ Write number refl refl le (omega arith)
+        (λ o k. ap (λ (x : ℕ). slice x (s .tail + 1) (set (s .numbers) (s .tail) number)) e ∙ sym (last-values o k))
+
+    pub write-drops : leb (s .limit) (s .tail - s .head) ≡ true
+        → Changed s Write number (between s (set (s .numbers) (s .tail) number) (s .tail + 1 - s .limit) (s .tail + 1))
+    write-drops e = let le = leb-true (s .limit) (s .tail - s .head) e in write-at (s .tail + 1 - s .limit) (omega arith) (omega arith)
+
+    pub write-adds : leb (s .limit) (s .tail - s .head) ≡ false
+        → Changed s Write number (between s (set (s .numbers) (s .tail) number) (s .head) (s .tail + 1))
+    write-adds e = let lt = leb-false (s .limit) (s .tail - s .head) e in write-at (s .head) (omega arith) (omega arith)
 
   module _ (empty : s .head ≡ s .tail) where
     none-held : held s ≡ []
     none-held = rw empty (slice-empty (s .tail) (s .numbers))
-
-    pub write-begins : length (s .numbers) ≡ 72 → s .tail < 72 → (number : ℕ)
-        → Changed s Write number (between s (set (s .numbers) (s .tail) number) (s .head) (s .tail + 1))
-    write-begins len room number =
-        changed-law s _ Write number refl refl (omega arith) (omega arith)
-        (λ o k. slice-push (s .numbers) (s .head) (s .tail) number ends (omega arith) ∙ rw none-held)
 
     pub pop-none : (number : ℕ) → Changed s Pop number s
     pop-none number =
@@ -282,7 +307,7 @@ module _ (s : State) (a : Given) where
       record { few = g .few; values = λ vs o k h. ap (map (valueIn vs)) (g .numbers) ∙ e o (valueIn vs number) (contentsOf vs s) }
 
   -- a push answers its value where the object holds as many as it can
-  pub push-answers : (number : ℕ) (b : Bool) → length (s .numbers) ≡ 72 → s .tail ≤ 72 → leb (s .limit) (s .tail - s .head) ≡ b
+  pub push-answers : (number : ℕ) (b : Bool) → length (s .numbers) ≡ 65 → s .tail ≤ 65 → leb (s .limit) (s .tail - s .head) ≡ b
       → Names (cond b (number ∷ []) []) a → Answered s Push number a
   unfolding givenOf
   push-answers number b len room e g = record {

@@ -14,7 +14,7 @@ use Rattle.criteria.specs.Object.{fresh, after, gives}
 use Rattle.objects.specs.declared.state.State.{State}
 use Rattle.objects.specs.declared.state.Given.{Given}
 
--- A state holds the numbers of the events that put the values there; 64 stands for the value 0 of the start. The values of the
+-- A state holds the numbers of the events that put the values there; 64 stands for the value 0 of a register's start. The values of the
 -- events are beside it, by their numbers.
 abbrev pub valueIn : List ℕ → ℕ → ℕ
 valueIn vs k = getD vs k 0
@@ -55,7 +55,7 @@ pub record Fresh (o : Object) (r : State) : Type 0 where
   pub newest : r .newest ≡ isStack (o .kind)
   pub limit : r .limit ≡ limitOf o
   pub head : r .head ≡ 0
-  pub tail : r .tail ≤ 8
+  pub tail : r .tail ≤ 1
   pub contents : (vs : List ℕ) → valueIn vs 64 ≡ 0 → contentsOf vs r ≡ fresh o
 
 -- The state can be one of the object, whose kind has the op: pop takes the end that the kind says, and the limit is the object's.

@@ -1,9 +1,7 @@
 // The states of all objects at the start of a replay.
-ghost use mathlib.Core.Path.{_≡_};
-ghost use Prim.Native.Nat.{ℕ, _≤_, _<_};
+ghost use Prim.Native.Nat.{ℕ, _<_};
 ghost use lib.ListN.{getD};
 ghost use Rattle.history.specs.Record.{noObject};
-ghost use Rattle.history.specs.declared.record.Kind.the-variants.{Window};
 ghost use Rattle.objects.specs.State.{noState, Fresh};
 use crate::state::State;
 use history::record::Object;
@@ -11,7 +9,7 @@ use history::record::Object;
 // A state of an object that holds nothing.
 fn blank() -> State {
     State {
-        numbers: [64u8; 72],
+        numbers: [64u8; 65],
         head: 0,
         tail: 0,
         newest: false,
@@ -21,7 +19,6 @@ fn blank() -> State {
 
 // Each object's state at the start.
 pub fn starts(objects: [Object; 16]) -> [State; 16]
-    requires { ⌜ ((o : ℕ) → o < 16 → getD objects o noObject .kind ≡ Window → getD objects o noObject .width ≤ 8) ⌝ }
     ensures { λ r. ⌜ ((o : ℕ) → o < 16 → Fresh (getD objects o noObject) (getD r o noState)) ⌝ }
 {
     let b = blank();

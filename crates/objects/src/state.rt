@@ -12,10 +12,10 @@ use history::record::Kind;
 use history::record::Object;
 use history::record::Op;
 
-// What the object holds is the values of the events numbers[head..tail], oldest first; 64 stands for the value 0 of the start.
+// What the object holds is the values of the events numbers[head..tail], oldest first; 64 stands for the value 0 of a register's start.
 // Pop and peek take the newest of them, or the oldest. The object holds at most `limit` values.
 pub struct State {
-    pub numbers: [u8; 72],
+    pub numbers: [u8; 65],
     pub head: u8,
     pub tail: u8,
     pub newest: bool,
@@ -83,7 +83,7 @@ fn started(tail: u8, newest: bool, limit: u8) -> State
     ensures { λ r. ⌜ Starts tail newest limit r ⌝ }
 {
     State {
-        numbers: [64u8; 72],
+        numbers: [64u8; 65],
         head: 0,
         tail: tail,
         newest: newest,
@@ -94,7 +94,6 @@ fn started(tail: u8, newest: bool, limit: u8) -> State
 impl State {
     // The state at the start.
     pub fn fresh(o: Object) -> State
-        requires { ⌜ (o .kind ≡ Kind.Window → o .width ≤ 8) ⌝ }
         ensures { λ r. ⌜ Fresh o r ⌝ }
     {
         let kind = o.kind;
@@ -102,14 +101,14 @@ impl State {
             Kind::Register => started(1, false, 1),
             Kind::Queue => started(0, false, 255),
             Kind::Stack => started(0, true, 255),
-            Kind::Window => started(o.width, false, o.width),
+            Kind::Window => started(0, false, o.width),
             Kind::Channel => started(0, false, o.width),
         }
     }
 
     // Puts the event behind the newest, unless the object holds as many as it can.
     fn pushed(self, no: EventNo) -> State
-        requires { ⌜ (self .head ≤ self .tail) × (self .tail < 72) ⌝ }
+        requires { ⌜ (self .head ≤ self .tail) × (self .tail < 65) ⌝ }
         ensures { λ r. ⌜ Changed self Op.Push (no .0) r ⌝ }
     {
         let mut s = self;
@@ -125,9 +124,9 @@ impl State {
         s
     }
 
-    // Puts the event behind the newest and drops the oldest, if there is one.
+    // Puts the event behind the newest and drops the oldest, so that the object holds no more than it can.
     fn written(self, no: EventNo) -> State
-        requires { ⌜ (self .head ≤ self .tail) × (self .tail < 72) ⌝ }
+        requires { ⌜ (self .head ≤ self .tail) × (self .tail < 65) ⌝ }
         ensures { λ r. ⌜ Changed self Op.Write (no .0) r ⌝ }
     {
         let mut s = self;
@@ -137,8 +136,9 @@ impl State {
         let number = no.0;
         s.numbers[at] = number;
         s.tail = end + 1;
-        if first < end {
-            s.head = first + 1;
+        let limit = s.limit;
+        if is_full(first, end, limit) {
+            s.head = end + 1 - limit;
             return s;
         }
         s
@@ -146,7 +146,7 @@ impl State {
 
     // Drops the event at the end that pop takes, if there is one.
     fn popped(self) -> State
-        requires { ⌜ (self .head ≤ self .tail) × (self .tail < 72) ⌝ }
+        requires { ⌜ (self .head ≤ self .tail) × (self .tail < 65) ⌝ }
         ensures { λ r. ⌜ ((no : ℕ) → Changed self Op.Pop no r) ⌝ }
     {
         let mut s = self;
@@ -167,7 +167,7 @@ impl State {
 
     // The state after the event.
     pub fn changed(self, e: EventOp) -> State
-        requires { ⌜ (self .head ≤ self .tail) × (self .tail < 72) ⌝ }
+        requires { ⌜ (self .head ≤ self .tail) × (self .tail < 65) ⌝ }
         ensures { λ r. ⌜ Changed self (e .op) (e .no .0) r ⌝ }
     {
         let no = e.no;
@@ -183,7 +183,7 @@ impl State {
 
     // The value that pop takes and peek shows, if there is one.
     fn ended(self) -> Given
-        requires { ⌜ (self .head ≤ self .tail) × (self .tail ≤ 72) ⌝ }
+        requires { ⌜ (self .head ≤ self .tail) × (self .tail ≤ 65) ⌝ }
         ensures { λ r. ⌜ Shows self r ⌝ }
     {
         let s = self;
@@ -204,7 +204,7 @@ impl State {
 
     // The first eight values.
     fn read(self) -> Given
-        requires { ⌜ (self .head ≤ self .tail) × (self .tail ≤ 72) ⌝ }
+        requires { ⌜ (self .head ≤ self .tail) × (self .tail ≤ 65) ⌝ }
         ensures { λ r. ⌜ ((no : ℕ) → Answered self Op.Read no r) ⌝ }
     {
         let s = self;
@@ -226,7 +226,7 @@ impl State {
 
     // What a push answers: its value where the object holds as many as it can, and else nothing.
     fn push_answer(self, no: EventNo) -> Given
-        requires { ⌜ (self .head ≤ self .tail) × (self .tail ≤ 72) ⌝ }
+        requires { ⌜ (self .head ≤ self .tail) × (self .tail ≤ 65) ⌝ }
         ensures { λ r. ⌜ Answered self Op.Push (no .0) r ⌝ }
     {
         let s = self;
@@ -241,7 +241,7 @@ impl State {
 
     // What the event answers: at most the first eight.
     pub fn answer(self, e: EventOp) -> Given
-        requires { ⌜ (self .head ≤ self .tail) × (self .tail ≤ 72) ⌝ }
+        requires { ⌜ (self .head ≤ self .tail) × (self .tail ≤ 65) ⌝ }
         ensures { λ r. ⌜ Answered self (e .op) (e .no .0) r ⌝ }
     {
         let no = e.no;
@@ -257,7 +257,7 @@ impl State {
 
     // Takes an event and hands back state and answer.
     pub fn step(self, e: EventOp) -> Step
-        requires { ⌜ (self .head ≤ self .tail) × (self .tail < 72) ⌝ }
+        requires { ⌜ (self .head ≤ self .tail) × (self .tail < 65) ⌝ }
         ensures { λ r. ⌜ Changed self (e .op) (e .no .0) (r .state) × Answered self (e .op) (e .no .0) (r .answer) ⌝ }
     {
         let state = self.changed(e);

@@ -24,7 +24,7 @@ use Rattle.history.specs.Kinds.{isChannel}
 use Rattle.history.proofs.PadLaws.{take-more}
 use Rattle.history.proofs.Guarantees.{SoundEvent, Sound}
 use Rattle.criteria.specs.Tests.{foundIf, or, table, mem}
-use Rattle.criteria.specs.Object.{fresh, after, gives}
+use Rattle.criteria.specs.Object.{fresh, keeps, after, gives}
 use Rattle.criteria.specs.History.{Event, History, event, object}
 use Rattle.criteria.specs.Replay.{Contents, start, changed}
 use Rattle.criteria.specs.Check.{right, firstWrong}
@@ -197,6 +197,7 @@ module _ (h : written-history.History) (s : Sound h) (ls : List Light) (vs cs : 
     (values-long : length vs ≡ 65)
     (agree : (o : ℕ) → getD (h .objects) o noObject ≡ getD (objectsIn h) o noObject)
     (fresh-as : (o : ℕ) → o < 16 → Fresh (getD (h .objects) o noObject) (getD states o noState))
+    (narrow : (o : ℕ) → keeps (getD (h .objects) o noObject .kind) (getD (h .objects) o noObject .width) ≤ 8)
     (short-view : n ≤ 64)
     (entries : (i : ℕ) → i < n → getD view i 0 < h .count) where
   sound-at : (e : ℕ) → e < h .count → SoundEvent (objectsIn h) (getD (h .events) e noEvent)
@@ -225,5 +226,5 @@ module _ (h : written-history.History) (s : Sound h) (ls : List Light) (vs cs : 
     parts = parts-of;
     short = short-view;
     event = entries;
-    start = λ o l. fresh-stands (getD (h .objects) o noObject) (getD states o noState) (fresh-as o l);
+    start = λ o l. fresh-stands (getD (h .objects) o noObject) (getD states o noState) (narrow o) (fresh-as o l);
   }

@@ -5,7 +5,7 @@ use native.Mathlib.Omega.{arith}
 use native.Mathlib.Decide.{ℕ-discrete}
 use mathlib.Core.Path.{_≡_, refl, ap, sym, subst, _∙_}
 use mathlib.Core.Bool.{Bool, true, false, not, _&&_, true≢false}
-use mathlib.Core.List.{List, [], _∷_, map}
+use mathlib.Core.List.{List, [], _∷_, _++_, map}
 use mathlib.Core.Option.{Option, none, some}
 use borrow.Author.Tests.{eq-eqb, ne-eqb, lt-ltb}
 use lib.ListN.{length, take, drop, getD, set, length-map, List·getD-map}
@@ -18,13 +18,13 @@ use Rattle.history.specs.declared.record.Object.{Object}
 use Rattle.history.specs.declared.record.Op.{Op}
 use Rattle.history.specs.declared.record.Op.the-variants.{Write, Read, Push, Pop, Peek}
 use Rattle.history.specs.Kinds.{isShelf, isShelfOp, hasOp}
-use Rattle.criteria.specs.Object.{after, gives}
+use Rattle.criteria.specs.Object.{keeps, after, gives}
 use Rattle.criteria.specs.Tests.{sameList}
 use Rattle.criteria.specs.History.{Event, event}
 use Rattle.criteria.specs.Replay.{changed}
 use Rattle.criteria.specs.Check.{fits, right, firstWrong}
 use Rattle.criteria.proofs.Lists.{by-test, clash, getD-table}
-use Rattle.criteria.proofs.Object.{length-written}
+use Rattle.criteria.proofs.Object.{length-last}
 use Rattle.objects.specs.declared.state.State.{State}
 use Rattle.objects.specs.declared.state.Given.{Given}
 use Rattle.objects.specs.State.{valueIn, contentsOf, givenOf, Fresh, Suits, Changed, Answered}
@@ -124,8 +124,8 @@ length-left zero l = omega arith
 length-left (suc n) [] = omega arith
 length-left (suc n) (x ∷ xs) = let h = length-left n xs in omega (arith, h)
 
--- a state in which an object starts holds at most eight values
-few-values : (vs : List ℕ) (s : State) → s .tail ≤ 8 → length (contentsOf vs s) ≤ 8
+-- a state in which an object starts holds at most one value
+few-values : (vs : List ℕ) (s : State) → s .tail ≤ 1 → length (contentsOf vs s) ≤ 1
 unfolding contentsOf
 few-values vs s le =
     let a : length (map (valueIn vs) (drop (s .head) (take (s .tail) (s .numbers)))) ≡ length (drop (s .head) (take (s .tail) (s .numbers))) = length-map (drop (s .head) (take (s .tail) (s .numbers))) (valueIn vs) in
@@ -133,13 +133,14 @@ few-values vs s le =
     let d = length-first (s .tail) (s .numbers) in
     omega (arith, a, b, d, le)
 
-pub fresh-stands : (o : Object) (s : State) → Fresh o s → Stands o 0 s
-fresh-stands o s f = record {
+pub fresh-stands : (o : Object) (s : State) → keeps (o .kind) (o .width) ≤ 8 → Fresh o s → Stands o 0 s
+fresh-stands o s small f = record {
   newest = sym (f .newest);
   limit = sym (f .limit);
   ends = let h = f .head in omega (arith, h);
   room = let t = f .tail in omega (arith, t);
-  few = λ _ vs. few-values vs s (f .tail);
+  small = small;
+  few = λ _ vs. let n = few-values vs s (f .tail) in omega (arith, n);
 }
 
 -- only a queue, a stack and a channel have push, pop and peek; only a register and a window have read
@@ -157,12 +158,12 @@ read-no-shelf Queue e = clash e refl
 read-no-shelf Stack e = clash e refl
 read-no-shelf Channel e = clash e refl
 
-few-after : (o : Object) (op : Op) (v : ℕ) (l : List ℕ) → hasOp (o .kind) op ≡ true → isShelf (o .kind) ≡ false → length l ≤ 8 → length (after o op v l) ≤ 8
-few-after o Write v l e f le = length-written 8 (omega arith) l v le
-few-after o Read v l e f le = le
-few-after o Push v l e f le = no-shelf-op (o .kind) Push e f refl
-few-after o Pop v l e f le = no-shelf-op (o .kind) Pop e f refl
-few-after o Peek v l e f le = no-shelf-op (o .kind) Peek e f refl
+few-after : (o : Object) (op : Op) (v : ℕ) (l : List ℕ) → keeps (o .kind) (o .width) ≤ 8 → hasOp (o .kind) op ≡ true → isShelf (o .kind) ≡ false → length l ≤ 8 → length (after o op v l) ≤ 8
+few-after o Write v l k e f le = let n = length-last (keeps (o .kind) (o .width)) (l ++ (v ∷ [])) in omega (arith, n, k)
+few-after o Read v l k e f le = le
+few-after o Push v l k e f le = no-shelf-op (o .kind) Push e f refl
+few-after o Pop v l k e f le = no-shelf-op (o .kind) Pop e f refl
+few-after o Peek v l k e f le = no-shelf-op (o .kind) Peek e f refl
 
 module _ (o : Object) (m : ℕ) (s : State) (st : Stands o m s) (op : Op) (has : hasOp (o .kind) op ≡ true) where
   pub few-read : (vs : List ℕ) → op ≡ Read → length (contentsOf vs s) ≤ 8
@@ -177,11 +178,12 @@ module _ (o : Object) (m : ℕ) (s : State) (st : Stands o m s) (op : Op) (has :
     limit = st .limit ∙ sym (c .limit);
     ends = c .ends;
     room = let a = st .room in let b = c .room in omega (arith, a, b);
-    few = λ f vs. subst (λ (l : List ℕ). length l ≤ 8) (sym (c .contents vs o suits)) (few-after o op (valueIn vs e) (contentsOf vs s) has f (st .few f vs));
+    small = st .small;
+    few = λ f vs. subst (λ (l : List ℕ). length l ≤ 8) (sym (c .contents vs o suits)) (few-after o op (valueIn vs e) (contentsOf vs s) (st .small) has f (st .few f vs));
   }
 
 stands-longer : (o : Object) (m : ℕ) (s : State) → Stands o m s → Stands o (m + 1) s
-stands-longer o m s st = record { newest = st .newest; limit = st .limit; ends = st .ends; room = let a = st .room in omega (arith, a); few = st .few }
+stands-longer o m s st = record { newest = st .newest; limit = st .limit; ends = st .ends; room = let a = st .room in omega (arith, a); small = st .small; few = st .few }
 
 -- every object's state stands
 abbrev pub AllStand : List Object → ℕ → List State → Type 0

@@ -12,7 +12,7 @@ use Rattle.history.specs.declared.record.Object.{Object}
 use Rattle.history.specs.Record.{noObject}
 use Rattle.history.specs.Kinds.{isShelf, hasOp}
 use Rattle.criteria.specs.Tests.{table}
-use Rattle.criteria.specs.Object.{gives}
+use Rattle.criteria.specs.Object.{keeps, gives}
 use Rattle.criteria.specs.Check.{fits}
 use Rattle.criteria.specs.History.{Event, History, only, own}
 use Rattle.objects.specs.declared.state.State.{State}
@@ -58,13 +58,14 @@ isVisible h (Only f) e = only (f .0) e
 abbrev pub foundEvent : ℕ → Option ℕ
 foundEvent e = cond (ltb e 64) (some e) none
 
--- A state of the object after at most m events, if it started with at most eight values: pop takes the end that the kind says, and the
--- limit is the object's. A register or a window never holds more than eight values.
+-- A state of the object after at most m events, if it started with at most one value: pop takes the end that the kind says, and the
+-- limit is the object's. A register or a window keeps at most eight values, and never holds more.
 pub record Stands (o : Object) (m : ℕ) (s : State) : Type 0 where
   pub newest : isStack (o .kind) ≡ s .newest
   pub limit : limitOf o ≡ s .limit
   pub ends : s .head ≤ s .tail
-  pub room : s .tail ≤ 8 + m
+  pub room : s .tail ≤ 1 + m
+  pub small : keeps (o .kind) (o .width) ≤ 8
   pub few : isShelf (o .kind) ≡ false → (vs : List ℕ) → length (contentsOf vs s) ≤ 8
 
 -- An answer of so many values, or one that was lost, is what the op gives, whatever the object holds.

@@ -82,10 +82,12 @@ fn answer_after(history: &History, earlier: &[usize], e: usize) -> Vec<u64> {
         }
         Op::Write | Op::Push => vec![],
         Op::Read => {
-            let width = if object.kind == Kind::Window { object.width.unwrap() } else { 1 };
-            let mut values = vec![0; width];
-            values.extend(same().filter_map(|other| other.value));
-            values[values.len() - width..].to_vec()
+            let written: Vec<u64> = same().filter_map(|other| other.value).collect();
+            match object.kind {
+                // The last k values written, or all of them while there are fewer, oldest first.
+                Kind::Window => written[written.len().saturating_sub(object.width.unwrap())..].to_vec(),
+                _ => vec![written.last().copied().unwrap_or(0)],
+            }
         }
         Op::Pop | Op::Peek => left_in(object, same()).last().copied().into_iter().collect(),
     }

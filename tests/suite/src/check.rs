@@ -127,7 +127,7 @@ pub trait CheckRules: ObjectRules {
 
     /// Every event of the view changes its object. Gives the first event with a visible answer that the replay doesn't give.
     fn replay(&self, history: &History, order: &[usize], visible: &dyn Fn(usize) -> bool) -> Option<usize> {
-        let mut states: Vec<State> = history.objects.iter().map(|object| object.start()).collect();
+        let mut states: Vec<State> = history.objects.iter().map(|object| self.start(object)).collect();
         for e in order {
             let event = &history.events[*e];
             let answer = self.act(&history.objects[event.object], &mut states[event.object], event.op, event.value);

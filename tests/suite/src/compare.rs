@@ -103,6 +103,9 @@ pub const CHECK_OF_LOST: &str = "check with a lost answer";
 /// The check of a history text with a channel.
 pub const CHECK_OF_CHANNEL: &str = "check with a channel";
 
+/// The check of a history text with a window.
+pub const CHECK_OF_WINDOW: &str = "check with a window";
+
 /// Compares a checker with the model and keeps the counts.
 pub struct Comparer<'c> {
     pub checker: &'c dyn Checker,
@@ -163,7 +166,9 @@ impl<'c> Comparer<'c> {
         let expected = run(&self.model, call, history, certificate);
         *self.answers.entry((call.name(), given.answer)).or_default() += 1;
         if call == Call::Check && !self.until_first {
-            for (part, name) in [(&b" ?\n"[..], CHECK_OF_LOST), (b" channel ", CHECK_OF_CHANNEL)] {
+            for (part, name) in
+                [(&b" ?\n"[..], CHECK_OF_LOST), (b" channel ", CHECK_OF_CHANNEL), (b" window ", CHECK_OF_WINDOW)]
+            {
                 if history.windows(part.len()).any(|bytes| bytes == part) {
                     *self.answers.entry((name, given.answer)).or_default() += 1;
                 }

@@ -105,7 +105,7 @@ pub fn damage_history(random: &mut Random, history: &mut History) {
     let other = random_answer(random, history, place, 4);
     let event = &mut history.events[place];
     let object = &mut history.objects[event.object];
-    match random.under(8) {
+    match random.under(9) {
         0 => event.process = random.under(8),
         1 => {
             if let Some(value) = &mut event.value {
@@ -120,7 +120,8 @@ pub fn damage_history(random: &mut Random, history: &mut History) {
             }
         }
         3 => {
-            // A pop or a peek finds nothing, or the reverse; a push onto a channel is refused, or the reverse.
+            // A pop or a peek finds nothing, or the reverse; a push onto a channel is refused, or the reverse. So is a
+            // window of width 1 that is read.
             if object.answer_lengths(event.op) == [0, 1] {
                 let empty = event.answer.as_ref().is_some_and(|answer| answer.is_empty());
                 let value = event.value.unwrap_or(random.next() % 4);
@@ -142,6 +143,17 @@ pub fn damage_history(random: &mut Random, history: &mut History) {
                 object.width = Some(if more { capacity + 1 } else { capacity - 1 });
             }
         }
+        7 => match (&mut event.answer, object.kind, event.op) {
+            // A read of a window that answers a zero or a value more in front, or its oldest value less; a zero more behind.
+            (Some(answer), Kind::Window, Op::Read) => match random.under(4) {
+                0 if !answer.is_empty() => drop(answer.remove(0)),
+                1 if answer.len() < object.reads() => answer.insert(0, 0),
+                2 if answer.len() < object.reads() => answer.insert(0, random.next() % 4),
+                3 if answer.len() < object.reads() => answer.push(0),
+                _ => {}
+            },
+            _ => {}
+        },
         _ => match &mut event.answer {
             Some(answer) if !answer.is_empty() => {
                 let item = random.under(answer.len());

@@ -1,8 +1,7 @@
 //! Channels that get full: the last slot of every capacity, pushes that are refused, and both under every criterion.
 
-use crate::certificate::{Certificate, Criterion, List, CRITERIA};
-use crate::check::NONE;
-use crate::checker::Lent;
+use crate::answers::{hold, in_order, wrong_at, wrong_by, ACCEPTED};
+use crate::certificate::{List, CRITERIA};
 use crate::compare::{Call, Comparer};
 use crate::history::{Event, History};
 use crate::make::{certified, lose_now_and_then, random_answer};
@@ -10,40 +9,6 @@ use crate::objects::{Kind, Op};
 use crate::random::Random;
 use crate::samples::{channel, event, object, with_lost};
 use crate::weaken::weakened;
-
-/// The number, the view and the event that the checker answers; the model is compared on the way.
-fn said(comparer: &mut Comparer, history: &History, certificate: &[u8]) -> (u32, u32, u32) {
-    let text = history.text();
-    comparer.check(&text, certificate);
-    let mut places = Lent::new(7, |_| 0);
-    let answer = comparer.checker.verdict(&text, certificate, &mut places);
-    (answer, places.part()[3], places.part()[4])
-}
-
-/// Holds the checker to a number, with its view and event, that is stated here by hand.
-fn hold(comparer: &mut Comparer, name: &str, history: &History, certificate: &[u8], stated: (u32, u32, u32)) {
-    if comparer.done() {
-        return;
-    }
-    let said = said(comparer, history, certificate);
-    if !comparer.done() {
-        comparer.note(said == stated, || {
-            format!("{name}: given {said:?}, stated {stated:?}\n{}", String::from_utf8_lossy(&history.text()))
-        });
-    }
-}
-
-const ACCEPTED: (u32, u32, u32) = (0, NONE, NONE);
-
-fn wrong_at(e: usize) -> (u32, u32, u32) {
-    (16, 0, e as u32)
-}
-
-/// A certificate that has all events in number order.
-fn in_order(history: &History) -> Certificate {
-    let all: List = (0..history.events.len()).collect();
-    Certificate::new(history, Criterion::Sequential, vec![], vec![all])
-}
 
 /// The same history with another capacity.
 fn with_capacity(history: &History, capacity: usize) -> History {
@@ -165,11 +130,7 @@ pub fn last_slot(comparer: &mut Comparer, random: &mut Random, _: usize) {
         for criterion in CRITERIA {
             let whole = weakened(&history, &in_order(&history), criterion).expect("sequential is weakened to all");
             let certificate = whole.text();
-            let wrong_at = |e: usize| match criterion {
-                Criterion::Sequential | Criterion::Converge => (16, 0, e as u32),
-                Criterion::Pram => (16, history.events[e].process as u32, e as u32),
-                Criterion::Weak | Criterion::Causal => (16, e as u32, e as u32),
-            };
+            let wrong_at = |e: usize| wrong_by(criterion, &history, e);
             hold_filled(comparer, "filled, weakened", capacity, &history, &certificate, &wrong_at);
         }
     }

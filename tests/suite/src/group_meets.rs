@@ -12,7 +12,9 @@ use crate::history::{Event, History};
 use crate::make::{answers_of, certified, lose_now_and_then, lose_some, random_answer, random_answers, shape, Size};
 use crate::objects::{Kind, Object, Op, KINDS, OPS};
 use crate::random::Random;
-use crate::samples::{certificate, channel, claims, claims_of_channels, claims_of_lost, figure_3, updates_lost};
+use crate::samples::{
+    certificate, channel, claims, claims_of_channels, claims_of_lost, claims_of_windows, figure_3, updates_lost, window,
+};
 use crate::search::find;
 use crate::weaken::is_pair;
 
@@ -145,6 +147,24 @@ fn small_channel(random: &mut Random, events: usize) -> History {
     small_of(random, channel(capacity), events)
 }
 
+/// A small random history of a window of width 1 to 3. A read answers mostly values that were written, each once.
+fn small_window(random: &mut Random, events: usize) -> History {
+    let width = 1 + random.under(3);
+    let mut history = small_of(random, window(width), events);
+    let written: Vec<u64> = history.events.iter().filter_map(|event| event.value).collect();
+    for event in history.events.iter_mut().filter(|event| event.op == Op::Read) {
+        if !random.once_in(16) {
+            let mut left = written.clone();
+            let mut answer = vec![];
+            for _ in 0..random.under(width.min(written.len()) + 1) {
+                answer.push(left.remove(random.under(left.len())));
+            }
+            event.answer = Some(answer);
+        }
+    }
+    history
+}
+
 /// A small random history of one object with a lost answer, if it has events. Most of the lost ones are of writes and
 /// pushes, so that the others tell something.
 fn small_with_lost(random: &mut Random, events: usize) -> History {
@@ -162,12 +182,12 @@ fn small_with_lost(random: &mut Random, events: usize) -> History {
     history
 }
 
-/// One of the ways to draw a small history. Of one channel about a half meet a criterion.
+/// One of the ways to draw a small history. Of one channel and of one window about a half meet a criterion.
 fn small_of_each(random: &mut Random, events: usize) -> History {
-    match random.under(6) {
+    match random.under(7) {
         0 | 1 => small_with_lost(random, events),
-        2 => {
-            let mut history = small_channel(random, events);
+        kind @ (2 | 3) => {
+            let mut history = if kind == 2 { small_channel(random, events) } else { small_window(random, events) };
             if !random.once_in(4) {
                 nearly_certified(random, &mut history);
             }
@@ -181,6 +201,12 @@ fn small_of_each(random: &mut Random, events: usize) -> History {
 fn has_refused(history: &History) -> bool {
     let answered = |event: &Event| event.answer.as_ref().is_some_and(|answer| !answer.is_empty());
     history.events.iter().any(|event| event.op == Op::Push && answered(event))
+}
+
+/// Does the history have a read of a window that answers fewer values than its width?
+fn has_short_read(history: &History) -> bool {
+    let short = |event: &Event| event.answer.as_ref().is_some_and(|list| Some(list.len()) < history.objects[event.object].width);
+    history.events.iter().any(|event| event.op == Op::Read && short(event))
 }
 
 /// Whether the history meets the criterion by the brute force; some certificate must be accepted exactly then.
@@ -238,19 +264,25 @@ pub fn exhaustive(comparer: &mut Comparer, random: &mut Random, rounds: usize) {
     }
 }
 
-/// The same of small histories of a channel in which a push was refused.
-pub fn refused(comparer: &mut Comparer, random: &mut Random, rounds: usize) {
+/// The same of small histories of one object, drawn until they are as wanted.
+fn as_wanted(
+    comparer: &mut Comparer,
+    random: &mut Random,
+    rounds: usize,
+    draw: fn(&mut Random, usize) -> History,
+    wanted: (fn(&History) -> bool, &str),
+) {
     let mut brute = Brute::default();
     let mut outcomes = Outcomes::default();
     for round in 0..rounds.div_ceil(10) {
         let events = if round % 16 == 15 { 4 } else { 2 + random.under(2) };
         let certify = random.once_in(2);
         let history = loop {
-            let mut drawn = small_channel(random, events);
+            let mut drawn = draw(random, events);
             if certify {
                 nearly_certified(random, &mut drawn);
             }
-            if has_refused(&drawn) {
+            if wanted.0(&drawn) {
                 break drawn;
             }
         };
@@ -263,8 +295,18 @@ pub fn refused(comparer: &mut Comparer, random: &mut Random, rounds: usize) {
         }
     }
     if rounds >= 500 {
-        both_came(comparer, outcomes, "with a refused push");
+        both_came(comparer, outcomes, wanted.1);
     }
+}
+
+/// Channels in which a push was refused.
+pub fn refused(comparer: &mut Comparer, random: &mut Random, rounds: usize) {
+    as_wanted(comparer, random, rounds, small_channel, (has_refused, "with a refused push"));
+}
+
+/// Windows that a read finds with fewer values than their width.
+pub fn short_reads(comparer: &mut Comparer, random: &mut Random, rounds: usize) {
+    as_wanted(comparer, random, rounds, small_window, (has_short_read, "with a short read"));
 }
 
 /// For each pair of criteria there are histories of four events, drawn in this way, that meet the weaker criterion and
@@ -304,6 +346,11 @@ pub fn lost_apart(comparer: &mut Comparer, random: &mut Random, rounds: usize) {
 /// One channel tells the criteria apart.
 pub fn channels_apart(comparer: &mut Comparer, random: &mut Random, rounds: usize) {
     apart(comparer, random, rounds, small_channel);
+}
+
+/// One window tells the criteria apart.
+pub fn windows_apart(comparer: &mut Comparer, random: &mut Random, rounds: usize) {
+    apart(comparer, random, rounds, small_window);
 }
 
 /// Every certificate of a history of up to two events, whatever its lists: an accepted one means that the criterion is met.
@@ -383,7 +430,8 @@ pub fn claimed(comparer: &mut Comparer, _: &mut Random, _: usize) {
     let mut brute = Brute::default();
     let stated: Vec<_> = claims().into_iter().chain(figure_3()).collect();
     let of_lost = claims_of_lost().into_iter().chain(updates_lost(&stated));
-    for (name, history, met, broken) in stated.clone().into_iter().chain(of_lost).chain(claims_of_channels()) {
+    let of_objects = claims_of_channels().into_iter().chain(claims_of_windows());
+    for (name, history, met, broken) in stated.clone().into_iter().chain(of_lost).chain(of_objects) {
         for (criteria, claim) in [(met, true), (broken, false)] {
             for criterion in criteria {
                 let found = find(&history, criterion);

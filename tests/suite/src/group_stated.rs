@@ -1,6 +1,6 @@
 //! What document 01 states outright: the sample dispensers with their answers and places, and texts whose fault its
-//! words name; and the same of lost answers and of channels, by T-01 and T-02 of document 02. The numbers are written
-//! here by hand, so that the model is held to them as well.
+//! words name; and the same of lost answers, of channels and of windows, by T-01, T-02 and T-04 of document 02. The
+//! numbers are written here by hand, so that the model is held to them as well.
 
 use crate::certificate::Criterion;
 use crate::check::{Document01, Rules, NONE};
@@ -150,6 +150,101 @@ pub fn samples(comparer: &mut Comparer, _: &mut Random, _: usize) {
         let same = buffer.part() == text.as_bytes() && length == text.len() as u64;
         comparer.note(same, || format!("{line}: written back as \"{}\"", crop(buffer.part())));
     }
+}
+
+/// Windows: empty at first, and then the last values written.
+pub fn windows(comparer: &mut Comparer, _: &mut Random, _: usize) {
+    use Criterion::{Causal, Converge, Pram, Sequential, Weak};
+    let mut say = |name: &str, width: u32, lines: &str, order: &str, answer: u32, event: Option<u32>| {
+        let history = format!("{HEAD}0 window {width}\n{EVENTS}{lines}");
+        let places = carried(Sequential, event.map(|_| 0), event);
+        let certificate = format!("criterion sequential\nview order\n0 {order}\n");
+        stated(comparer, name, history.as_bytes(), certificate.as_bytes(), answer, places);
+    };
+    say("nothing at first", 1, "0 0 0 read - -\n", "0", 0, None);
+    say("a zero at first", 1, "0 0 0 read - 0\n", "0", 16, Some(0));
+    say("nothing at first, width 8", 8, "0 7 0 read - -\n", "0", 0, None);
+    say("eight zeros at first", 8, "0 7 0 read - 0,0,0,0,0,0,0,0\n", "0", 16, Some(0));
+    say("one zero of eight", 8, "0 7 0 read - 0\n", "0", 16, Some(0));
+    let one = "0 0 0 write 4 -\n1 1 0 read - 4\n";
+    say("one value", 2, one, "0,1", 0, None);
+    say("one value, read before", 2, one, "1,0", 16, Some(1));
+    say("one value, width 1", 1, one, "0,1", 0, None);
+    say("one value and a zero", 2, &one.replace("- 4\n", "- 0,4\n"), "0,1", 16, Some(1));
+    say("no value behind a write", 2, &one.replace("- 4\n", "- -\n"), "0,1", 16, Some(1));
+    say("no value before a write", 2, &one.replace("- 4\n", "- -\n"), "1,0", 0, None);
+    say("a write of 0", 2, &one.replace('4', "0"), "0,1", 0, None);
+    say("a lost write", 2, &one.replace("4 -", "4 ?"), "0,1", 0, None);
+    say("a lost read", 2, &one.replace("- 4\n", "- ?\n"), "1,0", 0, None);
+    let three = |answer: &str| format!("0 0 0 write 4 -\n1 0 0 write 9 -\n2 0 0 write 7 -\n3 1 0 read - {answer}\n");
+    say("the last of three", 1, &three("7"), "0,1,2,3", 0, None);
+    say("the first of three", 1, &three("4"), "0,1,2,3", 16, Some(3));
+    say("the last two of three", 2, &three("9,7"), "0,1,2,3", 0, None);
+    say("the first two of three", 2, &three("4,9"), "0,1,2,3", 16, Some(3));
+    say("the first two, read between", 2, &three("4,9"), "0,1,3,2", 0, None);
+    say("newest first", 2, &three("7,9"), "0,1,2,3", 16, Some(3));
+    say("all three", 3, &three("4,9,7"), "0,1,2,3", 0, None);
+    say("all three of four", 4, &three("4,9,7"), "0,1,2,3", 0, None);
+    say("a zero and all three", 4, &three("0,4,9,7"), "0,1,2,3", 16, Some(3));
+    say("two of all three", 3, &three("9,7"), "0,1,2,3", 16, Some(3));
+    // As many writes as leave room for a read.
+    let writes: String = (0..63).map(|e| format!("{e} {} 0 write {} -\n", e % 8, 300 + e)).collect();
+    let all = (0..64).map(|e| e.to_string()).collect::<Vec<_>>().join(",");
+    let eight = (355..363).map(|value| value.to_string()).collect::<Vec<_>>().join(",");
+    say("63 writes, width 1", 1, &format!("{writes}63 0 0 read - 362\n"), &all, 0, None);
+    say("63 writes, width 8", 8, &format!("{writes}63 0 0 read - {eight}\n"), &all, 0, None);
+    say("63 writes, width 7", 7, &format!("{writes}63 0 0 read - {}\n", &eight[4..]), &all, 0, None);
+    say("63 writes, seven of width 8", 8, &format!("{writes}63 0 0 read - {}\n", &eight[4..]), &all, 16, Some(63));
+
+    // 5 is for more values than the width.
+    for width in 1..=8 {
+        let list = |length: usize| if length == 0 { "-".to_string() } else { vec!["3"; length].join(",") };
+        for length in 0..=width {
+            let history = format!("{HEAD}0 window {width}\n{EVENTS}0 0 0 read - {}\n", list(length));
+            let event = (length > 0).then_some(0);
+            let places = carried(Sequential, event, event);
+            let certificate = b"criterion sequential\nview order\n0 0\n";
+            stated(comparer, "0 to k values", history.as_bytes(), certificate, if length == 0 { 0 } else { 16 }, places);
+        }
+        let line = format!("0 0 0 read - {}", list(width + 1));
+        let history = format!("{HEAD}0 window {width}\n{EVENTS}{line}\n");
+        let places = [NONE, 1, 4, NONE, NONE, (HEAD.len() + EVENTS.len() + 11) as u32, line.len() as u32];
+        stated(comparer, "a value more than the width", history.as_bytes(), b"", 5, places);
+    }
+
+    // Document 01's C, with the zero that T-04 takes out, and C.
+    let c_with = |answer: &str| {
+        let lines = "0 0 0 write 4 -\n1 1 0 write 9 -\n2 1 0 read - ";
+        format!("{HEAD}0 window 2\n{EVENTS}{lines}{answer}\n3 1 0 read - 4,9\n").into_bytes()
+    };
+    assert_eq!(c_with("9"), c().text());
+    let mut say = |name: &str, history: &[u8], criterion: Criterion, lists: &str, answer: u32, at: Option<(u32, u32)>| {
+        let text = format!("criterion {}\n{lists}", criterion.word());
+        let places = carried(criterion, at.map(|at| at.0), at.map(|at| at.1));
+        stated(comparer, name, history, text.as_bytes(), answer, places);
+    };
+    let pasts = "event past\n0 -\n1 -\n2 1\n3 0,1,2\nview order\n";
+    let converge = format!("{pasts}0 0,1,2,3\n");
+    say("C", &c_with("9"), Converge, &converge, 0, None);
+    say("C with its zero", &c_with("0,9"), Converge, &converge, 16, Some((0, 2)));
+    say("C, event 2 lost", &c_with("?"), Converge, &converge, 0, None);
+    say("C, event 2 as the whole order has it", &c_with("4,9"), Converge, &converge, 16, Some((0, 2)));
+    let views = format!("{pasts}0 0\n1 1\n2 1,2\n3 0,1,2,3\n");
+    say("C", &c_with("9"), Weak, &views, 0, None);
+    say("C with its zero", &c_with("0,9"), Weak, &views, 16, Some((2, 2)));
+    // Event 3's view sees both reads of its process, and in it the write of 4 stands before event 2.
+    say("C", &c_with("9"), Causal, &views, 16, Some((3, 2)));
+    let views = "view order\n0 0,1,2,3\n1 1,2,0,3\n";
+    say("C", &c_with("9"), Pram, views, 16, Some((1, 3)));
+    say("C with its zero", &c_with("0,9"), Pram, views, 16, Some((1, 2)));
+    // Each window has its own width, beside a register that starts at 0.
+    let lines = "0 0 0 write 4 -\n1 0 1 write 5 -\n2 0 0 write 6 -\n3 0 1 write 7 -\n4 0 0 read - 6\n5 0 1 read - 5,7\n";
+    let more = "6 0 2 read - 0\n7 0 3 read - -\n8 0 2 write 3 -\n9 0 2 read - 3\n";
+    let beside = format!("{HEAD}0 window 1\n1 window 2\n2 register -\n3 window 8\n{EVENTS}{lines}{more}");
+    let whole = "view order\n0 0,1,2,3,4,5,6,7,8,9\n";
+    say("three windows and a register", beside.as_bytes(), Sequential, whole, 0, None);
+    let wider = beside.replace("0 window 1\n1 window 2\n", "0 window 2\n1 window 2\n");
+    say("a width changed", wider.as_bytes(), Sequential, whole, 16, Some((0, 4)));
 }
 
 /// What T-02 states of channels, and what follows from its words. A history is written by its capacity and its lines.
@@ -341,12 +436,14 @@ fn history_cases() -> Vec<(String, u32, u32, String)> {
     }
     // The lines of events: object 0 a register, 1 a queue, 2 a stack, 3 a window of width 2.
     let four = "0 register -\n1 queue -\n2 stack -\n3 window 2\n";
-    let events: [(&str, u32); 109] = [
+    let events: [(&str, u32); 110] = [
         ("0 0 0 write 7 -", 0), ("0 0 0 read - 7", 0), ("0 0 1 push 7 -", 0), ("0 0 1 pop - 7", 0), ("0 0 1 pop - -", 0),
         ("0 0 1 peek - -", 0), ("0 7 2 peek - 65535", 0), ("0 0 2 push 65535 -", 0), ("0 0 3 write 0 -", 0), ("0 0 3 read - 0,0", 0),
+        // A window of width k answers 0 to k values.
+        ("0 0 3 read - 1", 0), ("0 0 3 read - -", 0),
         // 5: a length that the op can't give.
         ("0 0 0 write 7 7", 5), ("0 0 0 read - -", 5), ("0 0 0 read - 7,7", 5), ("0 0 1 push 7 1", 5), ("0 0 1 pop - 7,7", 5),
-        ("0 0 2 peek - 1,2", 5), ("0 0 3 read - 1", 5), ("0 0 3 read - 1,2,3", 5), ("0 0 3 read - -", 5), ("0 0 3 write 1 1,1", 5),
+        ("0 0 2 peek - 1,2", 5), ("0 0 3 read - 1,2,3", 5), ("0 0 3 write 1 1,1", 5), ("0 0 3 write 1 1", 5),
         // 4: an op that the kind lacks, a value where `-` belongs, or the reverse.
         ("0 0 0 push 7 -", 4), ("0 0 0 pop - -", 4), ("0 0 1 write 7 -", 4), ("0 0 1 read - 7", 4), ("0 0 3 peek - 1", 4),
         ("0 0 0 write - -", 4), ("0 0 0 read 7 7", 4), ("0 0 1 push - -", 4), ("0 0 1 pop 7 7", 4), ("0 0 1 peek 0 -", 4),

@@ -1,10 +1,11 @@
-//! The test suite of the archive: a model written from the words of document 01 and of T-01 to T-03 in document 02, a
+//! The test suite of the archive: a model written from the words of document 01 and of T-01 to T-04 in document 02, a
 //! brute force for small histories, comparisons of the archive with both, and wrong checkers that the comparisons must
 //! find.
 //!
 //! `cargo run --release --offline [-- SEED [ROUNDS]]`. The seed is printed, so that a run can be repeated. A line a group, and a last
 //! line with the sums. The exit status is 1 on any difference.
 
+mod answers;
 mod brute;
 mod certificate;
 mod check;
@@ -21,6 +22,7 @@ mod group_places;
 mod group_random;
 mod group_stated;
 mod group_weaken;
+mod group_windows;
 mod history;
 mod make;
 mod objects;
@@ -36,7 +38,7 @@ use std::process::ExitCode;
 use std::time::Instant;
 
 use checker::{Archive, Checker};
-use compare::{Comparer, CHECK_OF_CHANNEL, CHECK_OF_LOST};
+use compare::{Comparer, CHECK_OF_CHANNEL, CHECK_OF_LOST, CHECK_OF_WINDOW};
 use random::Random;
 
 type Group = (&'static str, fn(&mut Comparer, &mut Random, usize));
@@ -80,6 +82,11 @@ const GROUPS: &[Group] = &[
     ("channels, criteria apart", group_meets::channels_apart),
     ("written lists of events", group_lists::events),
     ("written lists of values", group_lists::values),
+    ("stated of windows", group_stated::windows),
+    ("the last values of every width", group_windows::last_values),
+    ("windows from their first read on", group_windows::scans),
+    ("windows, brute force and check", group_meets::short_reads),
+    ("windows, criteria apart", group_meets::windows_apart),
 ];
 
 /// The numbers that each function must have answered in a whole run.
@@ -87,6 +94,7 @@ const EXPECTED: &[(&str, &[u32])] = &[
     ("check", &[0, 1, 2, 3, 4, 5, 6, 11, 12, 13, 14, 15, 16]),
     (CHECK_OF_LOST, &[0, 1, 2, 3, 4, 5, 6, 11, 12, 13, 14, 15, 16]),
     (CHECK_OF_CHANNEL, &[0, 1, 2, 3, 4, 5, 6, 11, 12, 13, 14, 15, 16]),
+    (CHECK_OF_WINDOW, &[0, 1, 2, 3, 4, 5, 6, 11, 12, 13, 14, 15, 16]),
     ("verdict", &[0, 1, 2, 3, 4, 5, 6, 11, 12, 13, 14, 15, 16]),
     ("show", &[0, 1, 2, 3, 4, 5, 19]),
     ("rewrite_history", &[0, 1, 2, 3, 4, 5, 18]),
@@ -101,8 +109,9 @@ fn run_group(comparer: &mut Comparer, index: usize, seed: u64, rounds: usize) {
 }
 
 /// The groups whose answers are stated one by one: wrong checkers see them first, in this order.
-const STATED: [&str; 4] =
-    ["samples of document 01", "stated of channels", "texts with stated faults", "stated weakenings"];
+const STATED: [&str; 5] = [
+    "samples of document 01", "stated of channels", "stated of windows", "texts with stated faults", "stated weakenings",
+];
 
 /// The groups with long texts at every place take their time: wrong checkers see them last.
 const SLOW: [&str; 3] = ["faults at every line", "11 to 13 at every event", "14 to 16 at every view"];

@@ -1,4 +1,5 @@
-//! The objects of document 01 and the channels of T-02: their kinds, their ops and what each op does.
+//! The objects of document 01, with the channels of T-02 and the windows of T-04: their kinds, their ops and what each op
+//! does.
 
 #[derive(Clone, Copy, PartialEq, Eq, Debug)]
 pub enum Kind {
@@ -70,12 +71,19 @@ impl Op {
 }
 
 impl Object {
-    /// A register starts at 0, a queue, a stack and a channel start empty, a window of width k starts as k zeros.
+    /// A register starts at 0; a queue, a stack, a channel and a window start empty.
     pub fn start(&self) -> State {
         match self.kind {
             Kind::Register => vec![0],
-            Kind::Queue | Kind::Stack | Kind::Channel => vec![],
-            Kind::Window => vec![0; self.width.expect("a window has a width")],
+            Kind::Queue | Kind::Stack | Kind::Window | Kind::Channel => vec![],
+        }
+    }
+
+    /// How many of the values written to it are read: the last k of a window, the last one of a register.
+    pub fn reads(&self) -> usize {
+        match self.kind {
+            Kind::Window => self.width.expect("a window has a width"),
+            _ => 1,
         }
     }
 
@@ -90,7 +98,8 @@ impl Object {
             // A push onto a channel that is full answers the pushed value.
             (Op::Push, Kind::Channel) => vec![0, 1],
             (Op::Write | Op::Push, _) => vec![0],
-            (Op::Read, Kind::Window) => vec![self.width.expect("a window has a width")],
+            // A window of width k answers all values written to it while there are fewer than k.
+            (Op::Read, Kind::Window) => (0..=self.reads()).collect(),
             (Op::Read, _) => vec![1],
             (Op::Pop | Op::Peek, _) => vec![0, 1],
         }
@@ -99,6 +108,16 @@ impl Object {
 
 /// What the objects do. A wrong checker overrides one of these; the defaults are those of the documents.
 pub trait ObjectRules {
+    /// What the object holds at first.
+    fn start(&self, object: &Object) -> State {
+        object.start()
+    }
+
+    /// How many of the values written to a register or a window are read.
+    fn reads(&self, object: &Object) -> usize {
+        object.reads()
+    }
+
     /// Is it a channel with no slot left? The last slot is usable.
     fn full(&self, object: &Object, state: &State) -> bool {
         object.kind == Kind::Channel && state.len() >= object.capacity()
@@ -108,9 +127,11 @@ pub trait ObjectRules {
     fn act(&self, object: &Object, state: &mut State, op: Op, value: Option<u64>) -> Vec<u64> {
         match op {
             Op::Write => {
-                // A register drops the one value that it holds, a window its oldest.
-                state.remove(0);
                 state.push(value.expect("a write has a value"));
+                // What is no longer among the last values is dropped.
+                while state.len() > self.reads(object) {
+                    state.remove(0);
+                }
                 vec![]
             }
             Op::Read => state.clone(),

@@ -1,5 +1,5 @@
-//! The sample dispensers of document 01, the same with lost answers, small histories of channels, and the histories of
-//! Figure 3 of document 004.
+//! The sample dispensers of document 01 (C as T-04 of document 02 has it), the same with lost answers, small histories of
+//! channels and of windows, and the histories of Figure 3 of document 004.
 
 use crate::certificate::{Certificate, Criterion, List};
 use crate::history::{Event, History};
@@ -69,7 +69,7 @@ pub fn w() -> History {
 }
 
 pub fn c() -> History {
-    History { objects: vec![window(2)], events: vec![write(0, 4), write(1, 9), read(1, &[0, 9]), read(1, &[4, 9])] }
+    History { objects: vec![window(2)], events: vec![write(0, 4), write(1, 9), read(1, &[9]), read(1, &[4, 9])] }
 }
 
 pub fn r() -> History {
@@ -145,8 +145,8 @@ pub fn claims_of_lost() -> Vec<Claim> {
         ("a lost push left out", alone(queue(), vec![lost(push(0, 7)), pop(0, &[])]), vec![], all()),
         ("a lost write", alone(register(), vec![lost(write(0, 7)), read(0, &[7])]), all(), vec![]),
         ("a lost write left out", alone(register(), vec![lost(write(0, 7)), read(0, &[0])]), vec![], all()),
-        ("a window's lost write", alone(window(2), vec![lost(write(0, 7)), read(0, &[0, 7])]), all(), vec![]),
-        ("a window's lost write left out", alone(window(2), vec![lost(write(0, 7)), read(0, &[0, 0])]), vec![], all()),
+        ("a window's lost write", alone(window(2), vec![lost(write(0, 7)), read(0, &[7])]), all(), vec![]),
+        ("a window's lost write left out", alone(window(2), vec![lost(write(0, 7)), read(0, &[])]), vec![], all()),
         ("a lost peek", alone(queue(), vec![push(0, 7), lost(peek(0, &[])), pop(0, &[7])]), all(), vec![]),
         ("a lost peek that removes", alone(queue(), vec![push(0, 7), lost(peek(0, &[])), pop(0, &[])]), vec![], all()),
         ("a wrong answer behind a lost one", alone(register(), vec![lost(read(0, &[])), read(0, &[1])]), vec![], all()),
@@ -230,6 +230,49 @@ pub fn claims_of_channels() -> Vec<Claim> {
     ]
 }
 
+/// Small histories of one window, each with the criteria that it meets and breaks by the words of documents 01 and 02.
+pub fn claims_of_windows() -> Vec<Claim> {
+    use Criterion::{Causal, Converge, Pram, Sequential, Weak};
+    let all = || vec![Pram, Weak, Causal, Converge, Sequential];
+    let of = |width: usize, events: Vec<Event>| History { objects: vec![window(width)], events };
+    // Writes of 4, 9 and 7 by one process, and a read with this answer.
+    let three = |width: usize, answer: &[u64]| of(width, vec![write(0, 4), write(0, 9), write(0, 7), read(0, answer)]);
+    vec![
+        // One process: the view of each event has all earlier ones before it, so a history meets all five or none.
+        ("a window holds nothing at first", of(1, vec![read(0, &[])]), all(), vec![]),
+        ("a window of 8 holds nothing at first", of(8, vec![read(0, &[])]), all(), vec![]),
+        ("a zero at first", of(1, vec![read(0, &[0])]), vec![], all()),
+        ("two zeros at first", of(2, vec![read(0, &[0, 0])]), vec![], all()),
+        ("one of two places", of(2, vec![write(0, 4), read(0, &[4])]), all(), vec![]),
+        ("one of two places, and a zero", of(2, vec![write(0, 4), read(0, &[0, 4])]), vec![], all()),
+        ("a zero that was written", of(2, vec![write(0, 0), read(0, &[0])]), all(), vec![]),
+        ("two zeros that were written", of(2, vec![write(0, 0), write(0, 0), read(0, &[0, 0])]), all(), vec![]),
+        ("the last of three", three(1, &[7]), all(), vec![]),
+        ("the last two of three", three(2, &[9, 7]), all(), vec![]),
+        ("all three of three places", three(3, &[4, 9, 7]), all(), vec![]),
+        ("all three of eight places", three(8, &[4, 9, 7]), all(), vec![]),
+        ("the first two of three", three(2, &[4, 9]), vec![], all()),
+        ("the last of three in two places", three(2, &[7]), vec![], all()),
+        ("the last two, newest first", three(2, &[7, 9]), vec![], all()),
+        ("the first and the last", three(2, &[4, 7]), vec![], all()),
+        ("a zero, and all three", three(4, &[0, 4, 9, 7]), vec![], all()),
+        ("nothing after writes", three(2, &[]), vec![], all()),
+        ("a read changes nothing", of(2, vec![write(0, 4), read(0, &[4]), read(0, &[4])]), all(), vec![]),
+        ("a read takes the values", of(2, vec![write(0, 4), read(0, &[4]), read(0, &[])]), vec![], all()),
+        // Another process's write need not be known, and then the window is empty.
+        ("another's write", of(1, vec![write(0, 4), read(1, &[]), read(1, &[4])]), all(), vec![]),
+        // A read that answers 4 has the write in its past, and so have its process's later ones.
+        ("another's write forgotten", of(1, vec![write(0, 4), read(1, &[4]), read(1, &[])]), vec![], all()),
+        // Each reads before it knows of the other's write, but in one order the last read has both writes before it.
+        (
+            "each reads its own alone",
+            of(2, vec![write(0, 4), read(0, &[4]), write(1, 9), read(1, &[9])]),
+            vec![Pram, Weak, Causal, Converge],
+            vec![Sequential],
+        ),
+    ]
+}
+
 /// The same claims where the answers of all writes and pushes are lost: these answers are empty anyhow.
 pub fn updates_lost(claims: &[Claim]) -> Vec<Claim> {
     let lost = |history: &History| {
@@ -249,7 +292,8 @@ pub fn certificate(history: &History, criterion: Criterion, pasts: &[&[usize]], 
 /// The histories of Figure 3 as far as the text of document 004 gives their events. The paper's letters: SC is sequential, PC
 /// (pipelined) is pram, WCC is weak, CC is causal, CCv is converge. Each with the criteria that it meets and breaks: what the text
 /// says is in quotes, and what follows from it by the strength of the criteria goes with it. The drawing itself is not in the text, so
-/// where an event or a claim is ours the comment says so.
+/// where an event or a claim is ours the comment says so. Its windows start as zeros and ours are empty (T-04 of document 02), so the
+/// zeros in front are left out of their answers.
 pub fn figure_3() -> Vec<Claim> {
     use Criterion::{Causal, Converge, Pram, Sequential, Weak};
     let memory = |process: usize, register: char, value: Option<u64>, answer: &[u64]| {
@@ -287,7 +331,7 @@ pub fn figure_3() -> Vec<Claim> {
         (
             "a",
             window_2(vec![
-                write(0, 1), read(0, &[0, 1]), read(0, &[1, 2]), write(1, 2), read(1, &[0, 2]), read(1, &[1, 2]),
+                write(0, 1), read(0, &[1]), read(0, &[1, 2]), write(1, 2), read(1, &[2]), read(1, &[1, 2]),
             ]),
             vec![Weak, Converge],
             vec![Pram, Causal, Sequential],
@@ -295,7 +339,7 @@ pub fn figure_3() -> Vec<Claim> {
         // "not weak causally consistent"; "not causally consistent". That it is pipelined consistent is ours.
         (
             "b",
-            window_2(vec![write(0, 1), read(0, &[2, 1]), read(1, &[0, 1]), write(1, 2)]),
+            window_2(vec![write(0, 1), read(0, &[2, 1]), read(1, &[1]), write(1, 2)]),
             vec![Pram],
             vec![Weak, Causal, Converge, Sequential],
         ),
@@ -309,7 +353,7 @@ pub fn figure_3() -> Vec<Claim> {
         // "sequentially consistent".
         (
             "d",
-            window_2(vec![write(0, 1), read(0, &[0, 1]), write(1, 2), read(1, &[1, 2])]),
+            window_2(vec![write(0, 1), read(0, &[1]), write(1, 2), read(1, &[1, 2])]),
             vec![Sequential, Converge, Causal, Weak, Pram],
             vec![],
         ),

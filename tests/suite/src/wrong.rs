@@ -691,6 +691,164 @@ wrong_rules!(ChannelUnknown HistoryRules {
     }
 });
 
+// Windows, replayed and read wrongly.
+
+/// A checker in which windows keep another number of the values written to them, by their width.
+macro_rules! wrong_reads {
+    ($name:ident, $reads:expr) => {
+        wrong_rules!($name ObjectRules {
+            fn reads(&self, object: &Object) -> usize {
+                let reads: fn(usize) -> usize = $reads;
+                if object.kind == Kind::Window { reads(object.reads()) } else { object.reads() }
+            }
+        });
+    };
+}
+
+wrong_reads!(OnePlaceMore, |width| width + 1);
+wrong_reads!(OnePlaceLess, |width| width - 1);
+wrong_reads!(EightPlacesAlways, |_| 8);
+wrong_reads!(EightPlacesAsSeven, |width| width.min(7));
+wrong_reads!(OnePlaceAlways, |_| 1);
+
+/// A checker in which objects start otherwise.
+macro_rules! wrong_start {
+    ($name:ident, $start:expr) => {
+        wrong_rules!($name ObjectRules {
+            fn start(&self, object: &Object) -> State {
+                let start: fn(&Object) -> Option<State> = $start;
+                start(object).unwrap_or(object.start())
+            }
+        });
+    };
+}
+
+wrong_start!(WindowStartsFull, |object| (object.kind == Kind::Window).then(|| vec![0; object.reads()]));
+wrong_start!(WindowStartsWithOneZero, |object| (object.kind == Kind::Window).then(|| vec![0]));
+wrong_start!(WideWindowStartsFull, |object| (object.width == Some(8)).then(|| vec![0; object.reads()]));
+wrong_start!(RegisterStartsEmpty, |object| (object.kind == Kind::Register).then(Vec::new));
+
+wrong_rules!(FirstValuesKept ObjectRules {
+    fn act(&self, object: &Object, state: &mut State, op: Op, value: Option<u64>) -> Vec<u64> {
+        let full = object.kind == Kind::Window && state.len() == object.reads();
+        if full && op == Op::Write { vec![] } else { Document01.act(object, state, op, value) }
+    }
+});
+
+wrong_rules!(NewestReplaced ObjectRules {
+    fn act(&self, object: &Object, state: &mut State, op: Op, value: Option<u64>) -> Vec<u64> {
+        if object.kind == Kind::Window && op == Op::Write && state.len() == object.reads() {
+            state.pop();
+        }
+        Document01.act(object, state, op, value)
+    }
+});
+
+wrong_rules!(ReadTakesValues ObjectRules {
+    fn act(&self, object: &Object, state: &mut State, op: Op, value: Option<u64>) -> Vec<u64> {
+        let answer = Document01.act(object, state, op, value);
+        if object.kind == Kind::Window && op == Op::Read {
+            state.clear();
+        }
+        answer
+    }
+});
+
+wrong_rules!(SameValueWrittenOnce ObjectRules {
+    fn act(&self, object: &Object, state: &mut State, op: Op, value: Option<u64>) -> Vec<u64> {
+        if object.kind == Kind::Window && op == Op::Write && state.last().copied() == value {
+            return vec![];
+        }
+        Document01.act(object, state, op, value)
+    }
+});
+
+wrong_rules!(OldestPlaceOverwritten CheckRules {
+    fn replay(&self, history: &History, order: &[usize], visible: &dyn Fn(usize) -> bool) -> Option<usize> {
+        // A write goes to the oldest place, and a read goes over the places in their own order.
+        let mut writes = vec![0; history.objects.len()];
+        replay_by(history, order, visible, &mut |e, object, state| {
+            let event = &history.events[e];
+            let place = writes[event.object] % object.reads();
+            if object.kind == Kind::Window && event.op == Op::Write && state.len() == object.reads() {
+                writes[event.object] += 1;
+                state[place] = event.value.expect("a write has a value");
+                return vec![];
+            }
+            Document01.act(object, state, event.op, event.value)
+        })
+    }
+});
+
+wrong_rules!(OneWidthForAll CheckRules {
+    fn replay(&self, history: &History, order: &[usize], visible: &dyn Fn(usize) -> bool) -> Option<usize> {
+        let is_window = |object: &&mut Object| object.kind == Kind::Window;
+        let mut changed = history.clone();
+        let first = history.objects.iter().find(|object| object.kind == Kind::Window).and_then(|object| object.width);
+        changed.objects.iter_mut().filter(is_window).for_each(|object| object.width = first);
+        Document01.replay(&changed, order, visible)
+    }
+});
+
+wrong_rules!(EmptyReadsUnasked CheckRules {
+    fn differs(&self, event: &Event, given: &[u64]) -> bool {
+        let unasked = event.op == Op::Read && event.answer.as_ref().is_some_and(|answer| answer.is_empty());
+        !unasked && Document01.differs(event, given)
+    }
+});
+
+wrong_rules!(ZerosInFrontLetPass CheckRules {
+    fn differs(&self, event: &Event, given: &[u64]) -> bool {
+        // A text of before T-04 has the zeros that a window started with.
+        let without = |answer: &[u64]| answer.iter().copied().skip_while(|value| *value == 0).collect::<Vec<u64>>();
+        match &event.answer {
+            Some(answer) if event.op == Op::Read && answer.len() > given.len() => without(answer) != without(given),
+            _ => Document01.differs(event, given),
+        }
+    }
+});
+
+wrong_rules!(NewestAreEnough CheckRules {
+    fn differs(&self, event: &Event, given: &[u64]) -> bool {
+        match &event.answer {
+            Some(answer) if event.op == Op::Read => !given.ends_with(answer),
+            _ => Document01.differs(event, given),
+        }
+    }
+});
+
+wrong_rules!(ReadsAskedByLength CheckRules {
+    fn differs(&self, event: &Event, given: &[u64]) -> bool {
+        match &event.answer {
+            Some(answer) if event.op == Op::Read && given.len() > 1 => answer.len() != given.len(),
+            _ => Document01.differs(event, given),
+        }
+    }
+});
+
+/// A checker that has 5 for other lengths of the answers of reads: by the object and the length, or as it should be.
+macro_rules! wrong_read_length {
+    ($name:ident, $five:expr) => {
+        wrong_rules!($name HistoryRules {
+            fn event_answer(&self, fields: &EventFields, object: &Object) -> bool {
+                let five: fn(&Object, usize) -> Option<bool> = $five;
+                let stated = match &fields.answer {
+                    Some(answer) if fields.op == Op::Read => five(object, answer.len()),
+                    _ => None,
+                };
+                stated.unwrap_or(Document01.event_answer(fields, object))
+            }
+        });
+    };
+}
+
+wrong_read_length!(ShortReadIsFive, |object, length| (object.kind == Kind::Window).then(|| length != object.reads()));
+wrong_read_length!(EmptyReadIsFive, |object, length| (object.kind == Kind::Window && length == 0).then_some(true));
+wrong_read_length!(LongReadIsRead, |object, length| (object.kind == Kind::Window && length == object.reads() + 1).then_some(false));
+wrong_read_length!(EightValuesAreRead, |object, length| (object.kind == Kind::Window && length <= 8).then_some(false));
+wrong_read_length!(FullReadIsFive, |object, length| (object.width == Some(8) && length == 8).then_some(true));
+wrong_read_length!(EmptyReadOfRegister, |object, length| (object.kind == Kind::Register && length == 0).then_some(false));
+
 /// What is spoilt of what the archive gives.
 #[derive(Clone, Copy, PartialEq, Eq, Debug)]
 enum Spoil {
@@ -1057,5 +1215,30 @@ pub fn wrong_checkers() -> Vec<(&'static str, Box<dyn Checker>)> {
         spoilt("a buffer that is too short is written up to its end", Spoil::ShortWrittenToItsEnd),
         spoilt("the last of 64 numbers of a list is not written", Spoil::LastOf64LeftOut),
         spoilt("a list of more than 128 bytes is cut where it is written", Spoil::LongListCut),
+        model("a window starts full of zeros", WindowStartsFull),
+        model("a window starts with one zero", WindowStartsWithOneZero),
+        model("a window of width 8 starts full of zeros", WideWindowStartsFull),
+        model("a register starts empty", RegisterStartsEmpty),
+        model("a window keeps one value too many", OnePlaceMore),
+        model("a window keeps one value too few", OnePlaceLess),
+        model("a window keeps eight values whatever its width", EightPlacesAlways),
+        model("a window of width 8 keeps seven values", EightPlacesAsSeven),
+        model("a window keeps one value whatever its width", OnePlaceAlways),
+        model("a window keeps the first values written", FirstValuesKept),
+        model("a write to a full window replaces the newest value", NewestReplaced),
+        model("a write to a full window goes to the place of the oldest value", OldestPlaceOverwritten),
+        model("a read takes a window's values away", ReadTakesValues),
+        model("a value written to a window twice in a row is kept once", SameValueWrittenOnce),
+        model("all windows have the width of the first", OneWidthForAll),
+        model("a read that answers nothing is never wrong", EmptyReadsUnasked),
+        model("zeros in front of a read's values are let pass", ZerosInFrontLetPass),
+        model("a read may answer the newest values alone", NewestAreEnough),
+        model("of a read's answer of more than one value only the length is asked", ReadsAskedByLength),
+        model("5 for a read of fewer values than the width", ShortReadIsFive),
+        model("5 for a window's read of no value", EmptyReadIsFive),
+        model("no 5 for a read of one value more than the width", LongReadIsRead),
+        model("no 5 for a window's read of up to eight values", EightValuesAreRead),
+        model("5 for a read of eight values", FullReadIsFive),
+        model("no 5 for a register's read of no value", EmptyReadOfRegister),
     ]
 }

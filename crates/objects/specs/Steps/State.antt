@@ -16,7 +16,7 @@ pub record Starts (t : ℕ) (b : Bool) (m : ℕ) (r : State) : Type 0 where
   pub limit : r .limit ≡ m
   pub head : r .head ≡ 0
   pub tail : r .tail ≡ t
-  pub numbers : r .numbers ≡ replicate 72 64
+  pub numbers : r .numbers ≡ replicate 65 64
 
 -- An answer of these numbers.
 pub record Names (l : List ℕ) (r : Given) : Type 0 where

@@ -13,7 +13,7 @@ use Rattle.replays.specs.Replay.{Ready}
 use Rattle.orders.specs.Rows.{inRows}
 use Rattle.faults.specs.Steps.{isConverge}
 use Rattle.history.proofs.Guarantees.{within-sound}
-use Rattle.faults.proofs.RecordFacts.{widths-small, objects-small}
+use Rattle.faults.proofs.RecordFacts.{objects-small}
 use Rattle.faults.proofs.ReplayedLaws.{Taken, view-ready, place-below, place-fault, place-nothing, view-there, event-fault, event-nothing}
 
 -- where the function begins
@@ -76,7 +76,7 @@ counts-of-requires : tie.Need-counts-of-requires
 counts-of-requires c κs = few-events (c .before .before .before .before .before)
 
 starts-requires : tie.Need-starts-requires
-starts-requires c κs = let s = c .before .before .before .before .before .before in λ o l. widths-small (s .args .h) (s .pre .0) o
+starts-requires c κs = search needs
 
 is-converge-requires : tie.Need-is-converge-requires
 is-converge-requires c κs = search needs

@@ -9,8 +9,8 @@ enum-told c = search needs
 enum-told-2 : tie.Need-enum-told-2
 enum-told-2 c = search needs
 
-read-count-requires : tie.Need-read-count-requires
-read-count-requires c κs = search needs
+read-can-answer-requires : tie.Need-read-can-answer-requires
+read-can-answer-requires c κs = search needs
 
 enum-told-3 : tie.Need-enum-told-3
 enum-told-3 c = search needs
@@ -28,7 +28,7 @@ returns : tie.Need-returns
 returns c = rw (c .enum-told .given .1)
 
 returns-2 : tie.Need-returns-2
-returns-2 c = rw (c .before .enum-told2 .given .1, c .read-count .ensures)
+returns-2 c = rw (c .before .enum-told2 .given .1) (c .read-can-answer .ensures)
 
 returns-3 : tie.Need-returns-3
 returns-3 c = rw (c .before .enum-told3 .given .1) (c .push-can-answer .ensures)
@@ -45,7 +45,7 @@ can-answer-spec =
     (tie.spec
     enum-told
     enum-told-2
-    read-count-requires
+    read-can-answer-requires
     enum-told-3
     push-can-answer-requires
     enum-told-4

@@ -33,7 +33,7 @@ array-copy-out-o : tie.Need-array-copy-out-o Inv-loop μ-loop
 array-copy-out-o c = search needs
 
 fresh-requires : tie.Need-fresh-requires Inv-loop μ-loop
-fresh-requires c κs = c .before .before .before .before .pre (c .before .before .loop .i) (next-i (c .before))
+fresh-requires c κs = search needs
 
 mul-states : tie.Need-mul-states Inv-loop μ-loop
 mul-states c = search needs

@@ -83,7 +83,7 @@ has-op c os r =
 stands : (c : tie.In-loop Inv-loop μ-loop) → Stands (getD (c .before .before .args .objects) (place (c .before .before)) noObject) (c .before .loop .i) (c .before .loop .s)
 stands c = c .before .loop .inv .1 (c .before .before .args .objects) (c .before .before .pre) .0
 
-ready : (c : tie.In-loop Inv-loop μ-loop) → (c .before .loop .s .head ≤ c .before .loop .s .tail) × (c .before .loop .s .tail < 72)
+ready : (c : tie.In-loop Inv-loop μ-loop) → (c .before .loop .s .head ≤ c .before .loop .s .tail) × (c .before .loop .s .tail < 65)
 ready c = (stands c .ends, omega (arith, stands c .room, c .before .before .pre .short, in-part c))
 
 -- what an event makes of the object: a state that follows, and no wrong answer that is visible

@@ -78,7 +78,7 @@ view-holds c =
 stands : (c : tie.In-loop Inv-loop μ-loop) → Stands (getD (c .before .before .args .objects) (place c) noObject) (c .before .loop .i) (state c)
 stands c = c .before .loop .inv .2 (c .before .before .args .objects) (c .before .before .pre) .0 (place c) (is-object c)
 
-ready : (c : tie.In-loop Inv-loop μ-loop) → (state c .head ≤ state c .tail) × (state c .tail < 72)
+ready : (c : tie.In-loop Inv-loop μ-loop) → (state c .head ≤ state c .tail) × (state c .tail < 65)
 ready c =
     let r = stands c .room in
     let s = c .before .before .pre .short in

@@ -60,7 +60,7 @@ returns-4 : tie.Need-returns-4
 returns-4 c =
     let o = c .before .before .before .args .o in
     let kind = c .before .enum-told4 .given .1 in
-    fresh-law o Window (c .started4 .result) _ false _ kind (c .before .before .before .pre kind) (c .started4 .ensures) refl refl refl
+    fresh-law o Window (c .started4 .result) 0 false _ kind (omega arith) (c .started4 .ensures) refl refl refl
 
 returns-5 : tie.Need-returns-5
 returns-5 c =

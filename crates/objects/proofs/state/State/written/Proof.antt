@@ -1,6 +1,9 @@
--- A write puts the number behind the newest and drops the oldest, if there is one. Assumes nothing.
+-- A write puts the number behind the newest and drops the oldest, so that the object holds no more than it can. Assumes nothing.
+use Prim.Native.Nat.{_-_}
 use native.Mathlib.Omega.{arith}
-use Rattle.objects.proofs.StateLaws.{plain, write-changes, write-begins}
+use mathlib.Core.Path.{sym, _∙_}
+use borrow.Author.Tests.{leb-true}
+use Rattle.objects.proofs.StateLaws.{plain, write-drops, write-adds}
 use borrow.Author.Needs.{needs}
 use Rattle.objects.proofs.state.State.written.Statement.{statement}
 use Rattle.objects.proofs.state.State.written.Tie as tie
@@ -14,20 +17,31 @@ element-write-s c = search needs
 add-s : tie.Need-add-s
 add-s c = search needs
 
+is-full-requires : tie.Need-is-full-requires
+is-full-requires c κs = search needs
+
 add-s-2 : tie.Need-add-s-2
 add-s-2 c = search needs
 
+sub-s : tie.Need-sub-s
+sub-s c =
+    let s = c .before .before .args .self in
+    let e = leb-true (s .limit) (s .tail - s .head) (sym (c .before .is-full .ensures) ∙ c .if1 .taken) in
+    omega arith
+
 returns : tie.Need-returns
 returns c =
-    let s = c .before .args .self in
-    let len = plain (s .numbers) (c .before .good .0 .1 .1 .0 .1 .0 .1) in
-    write-changes s (c .before .pre .0) len (c .before .pre .1) _ (c .if1 .taken)
+    let b = c .before .before in
+    let s = b .args .self in
+    write-drops s (b .pre .0) (plain (s .numbers) (b .good .0 .1 .1 .0 .1 .0 .1)) (b .pre .1) _
+    (sym (c .before .is-full .ensures) ∙ c .if1 .taken)
 
 returns-2 : tie.Need-returns-2
 returns-2 c =
-    let s = c .before .args .self in
-    let len = plain (s .numbers) (c .before .good .0 .1 .1 .0 .1 .0 .1) in
-    write-begins s (c .before .pre .0) (omega arith) len (c .before .pre .1) _
+    let b = c .before .before in
+    let s = b .args .self in
+    write-adds s (b .pre .0) (plain (s .numbers) (b .good .0 .1 .1 .0 .1 .0 .1)) (b .pre .1) _
+    (sym (c .before .is-full .ensures) ∙ c .if1 .left)
 
 pub written-spec : {M : Type 1} → statement M
-written-spec = tie.close (tie.spec cast-at element-write-s add-s add-s-2 returns returns-2)
+written-spec = tie.close (tie.spec cast-at element-write-s add-s is-full-requires add-s-2 sub-s returns returns-2)
