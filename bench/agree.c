@@ -142,12 +142,37 @@ static void other_answer(struct text *t) {
         replace(t, c, d, (const uint8_t *)"-", 1);
 }
 
+/* Another answer for some read: a zero more in front, its oldest value less, or nothing. */
+static void other_read(struct text *t) {
+    static const char word[] = " read - ";
+    const size_t n = sizeof word - 1;
+    size_t a = t->length == 0 ? 0 : draw((unsigned)t->length);
+    while (a + n <= t->length && memcmp(t->bytes + a, word, n) != 0) a++;
+    if (a + n > t->length) return;
+    a += n;
+    size_t b = a; /* the oldest value is from a to b, the answer from a to c */
+    while (b < t->length && is_digit(t->bytes[b])) b++;
+    size_t c = b;
+    while (c < t->length && t->bytes[c] != '\n') c++;
+    const uint8_t *zero = (const uint8_t *)"0,"; /* alone where the answer was none */
+    switch (draw(3)) {
+    case 0:
+        replace(t, a, b == a ? c : a, zero, b == a ? 1 : 2);
+        break;
+    case 1:
+        if (b < c && t->bytes[b] == ',') replace(t, a, b + 1, zero, 0);
+        break;
+    default:
+        replace(t, a, c, (const uint8_t *)"-", 1);
+    }
+}
+
 static void damage(struct text *t) {
     static const char bytes[] = "0123456789-, \n\nabw?";
     size_t a = 0, b = 0, c = 0, d = 0;
     const size_t at = t->length == 0 ? 0 : draw((unsigned)t->length);
     const uint8_t byte = draw(40) == 0 ? (uint8_t)draw(256) : (uint8_t)bytes[draw(sizeof bytes - 1)];
-    const unsigned which = draw(19);
+    const unsigned which = draw(20);
     switch (which) {
     case 0: /* another byte */
         if (t->length > 0) t->bytes[at] = byte;
@@ -218,6 +243,9 @@ static void damage(struct text *t) {
         break;
     case 13:
         other_answer(t);
+        break;
+    case 14:
+        other_read(t);
         break;
     default: /* another number */
         if (some_number(t, &a, &b)) {

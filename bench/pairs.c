@@ -62,8 +62,9 @@ static struct answer answer_in(const struct run *r, const struct list *view) {
     const unsigned last = view->events[view->length - 1];
     const unsigned object = r->events[last].object;
     const enum kind kind = r->kinds[object];
-    unsigned values[WIDTH + EVENTS] = {0};
-    unsigned held = kind == REGISTER ? 1 : kind == WINDOW ? r->widths[object] : 0;
+    const unsigned read = kind == WINDOW ? r->widths[object] : 1; /* so many values are read */
+    unsigned values[1 + EVENTS] = {0};
+    unsigned held = kind == REGISTER ? 1 : 0;
     struct answer a = {0};
     for (unsigned i = 0; i < view->length; i++) {
         const struct event *e = &r->events[view->events[i]];
@@ -74,7 +75,7 @@ static struct answer answer_in(const struct run *r, const struct list *view) {
             a.values[a.length++] = e->value;
         else if (e->op == WRITE || e->op == PUSH)
             values[held++] = e->value;
-        if (e->op == WRITE) memmove(values, values + 1, --held * sizeof values[0]);
+        if (e->op == WRITE && held > read) memmove(values, values + 1, --held * sizeof values[0]);
         if (e->op == READ)
             while (a.length < held) {
                 a.values[a.length] = values[a.length];

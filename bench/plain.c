@@ -25,7 +25,7 @@ enum criterion { PRAM, WEAK, CAUSAL, CONVERGE, SEQUENTIAL, NO_CRITERION };
 
 struct object {
     uint8_t kind;
-    uint8_t width; /* how many values a read answers, or a channel holds */
+    uint8_t width; /* how many values a read answers, or a channel holds, at most */
 };
 
 struct event {
@@ -157,7 +157,7 @@ static uint32_t read_object(struct history *h, struct lines *t) {
 
 /* Whether an op of an object can answer so many values. */
 static bool can_answer(struct object o, enum op op, uint32_t length) {
-    if (op == READ) return length == o.width;
+    if (op == READ) return o.kind == WINDOW ? length <= o.width : length == 1;
     if (op == POP || op == PEEK || op == OFFER) return length <= 1;
     return length == 0;
 }
@@ -349,20 +349,20 @@ static bool is_against(const struct view *w, const uint64_t *order) {
 }
 
 /* What the objects hold: values[o][head[o]] is the oldest value and values[o][tail[o] - 1] the newest. A register is a window of
- * width 1. The zeros that registers and windows begin with are written once, since a replay writes only behind them. */
+ * width 1 that begins with a 0. It is written once, since a replay writes only behind it. */
 struct contents {
     uint8_t start[OBJECTS]; /* where the tails begin */
     uint8_t head[OBJECTS];
     uint8_t tail[OBJECTS];
-    uint16_t values[OBJECTS][WIDTH + EVENTS];
+    uint16_t values[OBJECTS][1 + EVENTS];
 };
 
 static void start_contents(struct contents *s, const struct history *h) {
     memset(s->start, 0, sizeof s->start);
     for (unsigned o = 0; o < h->declared; o++) {
-        const struct object object = h->objects[o];
-        if (object.kind == REGISTER || object.kind == WINDOW) s->start[o] = object.width;
-        memset(s->values[o], 0, s->start[o] * sizeof s->values[o][0]);
+        if (h->objects[o].kind != REGISTER) continue;
+        s->start[o] = 1;
+        s->values[o][0] = 0;
     }
 }
 
@@ -380,9 +380,10 @@ static bool replay(const struct history *h, struct contents *s, const struct vie
         switch ((enum op)e->op) {
         case WRITE:
             values[s->tail[o]++] = e->value;
-            s->head[o]++;
+            if (s->tail[o] - s->head[o] > h->objects[o].width) s->head[o]++;
             break;
         case READ:
+            if (seen && e->answered != s->tail[o] - s->head[o]) return false;
             for (unsigned k = 0; seen && k < e->answered; k++)
                 if (e->answer[k] != values[s->head[o] + k]) return false;
             break;

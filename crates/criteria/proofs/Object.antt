@@ -20,7 +20,8 @@ use Rattle.history.specs.Kinds.{isChannel, isShelf, hasOp}
 use Rattle.history.specs.Readable.{isWrite}
 use Rattle.criteria.specs.Object.{freshOf, fresh, untop, full, keeps, lastValues, after, gives}
 use Rattle.criteria.specs.History.{History, event, object}
-use Rattle.criteria.specs.Replay.{Contents, start, answered, changed, afterAll, written, allWritten}
+use Rattle.criteria.specs.Replay.{Contents, start, answered, changed, afterAll}
+use Rattle.criteria.specs.Written.{writtenTo, allWrittenTo}
 
 -- ---- a value behind the others, and the last values of a list
 length-behind : (s : List ℕ) (v : ℕ) → length (s ++ (v ∷ [])) ≡ suc (length s)
@@ -63,7 +64,7 @@ fresh-empty : (k : Kind) (width : ℕ) → isChannel k ≡ true → freshOf k wi
 fresh-empty Register width c = absurd (false≢true c)
 fresh-empty Queue width c = refl
 fresh-empty Stack width c = refl
-fresh-empty Window width c = absurd (false≢true c)
+fresh-empty Window width c = refl
 fresh-empty Channel width c = refl
 
 popped : (k : Kind) (s : List ℕ) → isChannel k ≡ true → length (untop k s) ≤ length s
@@ -130,13 +131,13 @@ start-at [] o l = absurd (omega (arith, l))
 start-at (x ∷ os) zero l = refl
 start-at (x ∷ os) (suc o) l = start-at os o (omega (arith, l))
 
--- a register and a window start with no more values than they keep
-fresh-kept : (k : Kind) (width : ℕ) → isShelf k ≡ false → length (freshOf k width) ≤ keeps k width
-fresh-kept Register width n = omega arith
-fresh-kept Queue width n = omega arith
-fresh-kept Stack width n = omega arith
-fresh-kept Window width n = omega arith
-fresh-kept Channel width n = omega arith
+-- no object starts with more values than it keeps
+fresh-kept : (k : Kind) (width : ℕ) → length (freshOf k width) ≤ keeps k width
+fresh-kept Register width = omega arith
+fresh-kept Queue width = omega arith
+fresh-kept Stack width = omega arith
+fresh-kept Window width = omega arith
+fresh-kept Channel width = omega arith
 
 -- what a write or a read makes of the last values of a list is the last values of that list and what it writes
 op-last : (o : Object) (op : Op) (v : ℕ) (s : List ℕ) → hasOp (o .kind) op ≡ true → isShelf (o .kind) ≡ false
@@ -160,7 +161,7 @@ module _ (h : History) (o : ℕ) (declared : o < length (h .objects)) (plain : i
       (getD-set-same s o (after (object h o) op v (getD s o [])) [] l ∙ ap (after (object h o) op v) q ∙ op-last (object h o) op v p has plain)
 
   turn-last : (s : Contents) (p : List ℕ) (e : ℕ) → o < length s → getD s o [] ≡ lastValues kept p
-      → getD (changed h s e) o [] ≡ lastValues kept (p ++ written h o e)
+      → getD (changed h s e) o [] ≡ lastValues kept (p ++ writtenTo h o e)
   turn-last s p e l q =
       by-eq (event h e .object) o
       (λ i.
@@ -174,27 +175,27 @@ module _ (h : History) (o : ℕ) (declared : o < length (h .objects)) (plain : i
       (getD-set-other s (event h e .object) o _ [] (λ i. d (sym i)) ∙ q ∙ ap (lastValues kept) (sym (append-nil p))))
 
   all-last : (s : Contents) (p view : List ℕ) → o < length s → getD s o [] ≡ lastValues kept p
-      → getD (afterAll h s view) o [] ≡ lastValues kept (p ++ allWritten h o view)
+      → getD (afterAll h s view) o [] ≡ lastValues kept (p ++ allWrittenTo h o view)
   all-last s p [] l q = q ∙ ap (lastValues kept) (sym (append-nil p))
   all-last s p (e ∷ view) l q =
-      all-last (changed h s e) (p ++ written h o e) view (rw (length-set s (event h e .object) _) l) (turn-last s p e l q)
-      ∙ ap (lastValues kept) (append-assoc p (written h o e) (allWritten h o view))
+      all-last (changed h s e) (p ++ writtenTo h o e) view (rw (length-set s (event h e .object) _) l) (turn-last s p e l q)
+      ∙ ap (lastValues kept) (append-assoc p (writtenTo h o e) (allWrittenTo h o view))
 
-  -- it holds the last ones of the values that it starts with and those written to it
-  pub holds-last : (view : List ℕ) → getD (afterAll h (start h) view) o [] ≡ lastValues kept (fresh (object h o) ++ allWritten h o view)
+  -- it holds the last of the values that it starts with and those written to it
+  pub holds-last : (view : List ℕ) → getD (afterAll h (start h) view) o [] ≡ lastValues kept (fresh (object h o) ++ allWrittenTo h o view)
   holds-last view =
       all-last (start h) (fresh (object h o)) view (rw (length-map (h .objects) fresh) declared)
-      (start-at (h .objects) o declared ∙ sym (last-all kept (fresh (object h o)) (fresh-kept (object h o .kind) (object h o .width) plain)))
+      (start-at (h .objects) o declared ∙ sym (last-all kept (fresh (object h o)) (fresh-kept (object h o .kind) (object h o .width))))
 
 -- "a read answers the last k values written, or all of them while there are fewer, oldest first"
 module _ (h : History) (o : ℕ) (declared : o < length (h .objects)) (window : object h o .kind ≡ Window)
     (ops : (e : ℕ) → event h e .object ≡ o → hasOp (object h o .kind) (event h e .op) ≡ true) where
-  pub window-holds : (view : List ℕ) → getD (afterAll h (start h) view) o [] ≡ lastValues (object h o .width) (allWritten h o view)
+  pub window-holds : (view : List ℕ) → getD (afterAll h (start h) view) o [] ≡ lastValues (object h o .width) (allWrittenTo h o view)
   window-holds view =
       subst
-      (λ (k : Kind). getD (afterAll h (start h) view) o [] ≡ lastValues (keeps k (object h o .width)) (freshOf k (object h o .width) ++ allWritten h o view))
+      (λ (k : Kind). getD (afterAll h (start h) view) o [] ≡ lastValues (keeps k (object h o .width)) (freshOf k (object h o .width) ++ allWrittenTo h o view))
       window (holds-last h o declared (ap isShelf window) ops view)
 
   pub window-answers : (view : List ℕ) (e : ℕ) → event h e .object ≡ o → event h e .op ≡ Read
-      → answered h (afterAll h (start h) view) e ≡ lastValues (object h o .width) (allWritten h o view)
+      → answered h (afterAll h (start h) view) e ≡ lastValues (object h o .width) (allWrittenTo h o view)
   window-answers view e i read = rw (read, i) (window-holds view)

@@ -1,9 +1,9 @@
--- The lists of records that were read are what the theorems ask: their counts and numbers are the text's, and what the readers
--- guarantee is `FewProcesses` and `Readable`. Assumes nothing.
-use Prim.Native.Nat.{ℕ, zero, suc, _+_, _<_}
+-- The lists of records that were read are what the theorems ask: their counts and numbers are the text's, what the readers guarantee
+-- is `FewProcesses` and `Readable`, and windows have only the ops that they can have. Assumes nothing.
+use Prim.Native.Nat.{ℕ, zero, suc, _+_, _≤_, _<_}
 use native.Mathlib.Nat.{not-suc-le-zero}
 use native.Mathlib.Omega.{arith}
-use mathlib.Core.Path.{_≡_, refl, sym, ap, _∙_}
+use mathlib.Core.Path.{_≡_, refl, sym, ap, subst, _∙_}
 use mathlib.Core.Bool.{Bool, true, false, cond, false≢true}
 use mathlib.Core.List.{List, [], _∷_, map}
 use lib.ListN.{length, getD, length-map, List·getD-eq-default}
@@ -12,7 +12,10 @@ use borrow.Author.Tests.{eqb-true, ltb-true}
 use Rattle.layout.proofs.Cases.{by-lt, and-left, and-right}
 use Rattle.history.specs.declared.record.Event as written-event
 use Rattle.history.specs.declared.record.History as written-history
+use Rattle.history.specs.declared.record.Kind.the-variants.{Window}
+use Rattle.history.specs.declared.record.Op.the-variants.{Read}
 use Rattle.history.specs.Record.{noEvent, eventsIn}
+use Rattle.history.specs.Kinds.{hasOp}
 use Rattle.history.proofs.Guarantees as history-guarantees
 use Rattle.certificate.specs.declared.record.Criterion.{Criterion}
 use Rattle.certificate.specs.declared.record.Criterion.the-variants.{Pram, Weak, Causal, Converge, Sequential}
@@ -24,11 +27,15 @@ use Rattle.certificate.specs.Faults.{rising}
 use Rattle.certificate.proofs.NumberingLaws.{count-long}
 use Rattle.certificate.proofs.Guarantees as certificate-guarantees
 use Rattle.criteria.specs.Tests.{keepIf, keep, upTo, mem, RisingFrom, Rising}
-use Rattle.criteria.specs.History.{Event, History, size, event, process, own}
+use Rattle.criteria.specs.Object.{lastValues}
+use Rattle.criteria.specs.History.{Event, History, size, event, object, process, own}
+use Rattle.criteria.specs.Replay.{start, answered, afterAll}
+use Rattle.criteria.specs.Written.{allWrittenTo}
 use Rattle.criteria.specs.Certificate.{active, processes, pastCount, viewCount, viewNumber, EventsOf, Readable}
 use Rattle.criteria.specs.Records.{eventOf, historyOf, certificateOf}
 use Rattle.criteria.proofs.Lists.{by-test, any-at, any-some, same-test, true-or-left, true-or-right}
 use Rattle.criteria.proofs.Meeting.{FewProcesses, nil-events}
+use Rattle.criteria.proofs.Object.{window-answers}
 
 -- ---- the events of a history
 pub size-is : (h : written-history.History) → size (historyOf h) ≡ length (eventsIn h)
@@ -53,6 +60,28 @@ pub few-processes : (h : written-history.History) → history-guarantees.Sound h
 few-processes h s e l =
     let k : e < h .count = omega (arith, size-is h, s .events) in
     rw (process-is h e (omega (arith, size-is h))) (s .event e k .process)
+
+-- ---- a window of a history that was read: its ops are write and read, so a read answers the last values written to it
+event-behind : (h : written-history.History) (e : ℕ) → length (eventsIn h) ≤ e → event (historyOf h) e .op ≡ Read
+unfolding historyOf
+event-behind h e l = rw (List·getD-eq-default (map eventOf (eventsIn h)) _ {n = e} (omega (arith, l, length-map (eventsIn h) eventOf)))
+
+op-at : (h : written-history.History) → history-guarantees.Sound h → (e : ℕ) → e < length (eventsIn h)
+    → hasOp (object (historyOf h) (event (historyOf h) e .object) .kind) (event (historyOf h) e .op) ≡ true
+unfolding historyOf eventOf
+op-at h s e l = rw (event-is h e l) (s .event e (omega (arith, s .events, l)) .op)
+
+module _ (h : written-history.History) (s : history-guarantees.Sound h) (o : ℕ) (declared : o < length (historyOf h .objects)) (window : object (historyOf h) o .kind ≡ Window) where
+  window-ops : (e : ℕ) → event (historyOf h) e .object ≡ o → hasOp (object (historyOf h) o .kind) (event (historyOf h) e .op) ≡ true
+  window-ops e i =
+      by-lt e (length (eventsIn h))
+      (λ l. subst (λ (k : ℕ). hasOp (object (historyOf h) k .kind) (event (historyOf h) e .op) ≡ true) i (op-at h s e l))
+      (λ l. rw (window, event-behind h e l))
+
+  pub window-reads : (view : List ℕ) (e : ℕ) → event (historyOf h) e .object ≡ o → event (historyOf h) e .op ≡ Read
+      → answered (historyOf h) (afterAll (historyOf h) (start (historyOf h)) view) e
+      ≡ lastValues (object (historyOf h) o .width) (allWrittenTo (historyOf h) o view)
+  window-reads = window-answers (historyOf h) o declared window window-ops
 
 -- ---- the processes with events
 has-at : (p : ℕ) (es : List written-event.Event) (i : ℕ) → i < length es → eqb (getD es i noEvent .process .0) p ≡ true → hasEvents p es ≡ true

@@ -7,3 +7,4 @@ pub mod Certificate
 pub mod Check
 pub mod Weaken
 pub mod Records
+pub mod Written

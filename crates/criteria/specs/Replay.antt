@@ -2,13 +2,11 @@
 -- object gives."; source document 004, Definition 2: the view is a sequential history admissible for the objects, in which an
 -- operation whose answer is not visible is hidden).
 use mathlib.Core.Path.{_≡_}
-use mathlib.Core.Bool.{Bool, true, cond, _&&_}
-use mathlib.Core.List.{List, [], _∷_, _++_, map}
+use mathlib.Core.Bool.{Bool, true}
+use mathlib.Core.List.{List, [], _∷_, map}
 use mathlib.Core.Option.{Option, none, some}
 use Prim.Native.Nat.{ℕ}
-use lib.Dec.{eqb}
 use lib.ListN.{getD, set}
-use Rattle.history.specs.Readable.{isWrite}
 use Rattle.criteria.specs.Object.{fresh, after, gives}
 use Rattle.criteria.specs.History.{History, event, object}
 
@@ -33,14 +31,6 @@ changed h s e =
 abbrev pub afterAll : History → Contents → List ℕ → Contents
 afterAll h s [] = s
 afterAll h s (e ∷ v) = afterAll h (changed h s e) v
-
--- The values that an event, and a list of events, writes to object o.
-abbrev pub written : History → ℕ → ℕ → List ℕ
-written h o e = cond (eqb (event h e .object) o && isWrite (event h e .op)) (event h e .value ∷ []) []
-
-abbrev pub allWritten : History → ℕ → List ℕ → List ℕ
-allWritten h o [] = []
-allWritten h o (e ∷ v) = written h o e ++ allWritten h o v
 
 -- A recorded answer is the one given. Of one that was lost nothing is asked: it "is visible in no view, under any criterion" (document
 -- 02, T-01).

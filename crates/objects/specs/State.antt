@@ -14,8 +14,8 @@ use Rattle.criteria.specs.Object.{fresh, after, gives}
 use Rattle.objects.specs.declared.state.State.{State}
 use Rattle.objects.specs.declared.state.Given.{Given}
 
--- A state holds the numbers of the events that put the values there; 64 stands for the value 0 of a register's start. The values of the
--- events are beside it, by their numbers.
+-- A state holds the numbers of the events that put the values there; 64 stands for the value 0 that a register starts with. The values
+-- of the events are beside it, by their numbers.
 abbrev pub valueIn : List ℕ → ℕ → ℕ
 valueIn vs k = getD vs k 0
 

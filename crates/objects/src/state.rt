@@ -12,8 +12,9 @@ use history::record::Kind;
 use history::record::Object;
 use history::record::Op;
 
-// What the object holds is the values of the events numbers[head..tail], oldest first; 64 stands for the value 0 of a register's start.
-// Pop and peek take the newest of them, or the oldest. The object holds at most `limit` values.
+// What the object holds is the values of the events numbers[head..tail], oldest first. There is a place for each of 64 events, and one
+// for the number 64, which stands for the value 0 that a register starts with. Pop and peek take the newest of them, or the oldest.
+// The object holds at most `limit` values.
 pub struct State {
     pub numbers: [u8; 65],
     pub head: u8,
@@ -124,7 +125,7 @@ impl State {
         s
     }
 
-    // Puts the event behind the newest and drops the oldest, so that the object holds no more than it can.
+    // Puts the event behind the newest, and keeps the last ones where the object held as many as it can.
     fn written(self, no: EventNo) -> State
         requires { ⌜ (self .head ≤ self .tail) × (self .tail < 65) ⌝ }
         ensures { λ r. ⌜ Changed self Op.Write (no .0) r ⌝ }

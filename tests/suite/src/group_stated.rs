@@ -187,6 +187,8 @@ pub fn windows(comparer: &mut Comparer, _: &mut Random, _: usize) {
     say("all three of four", 4, &three("4,9,7"), "0,1,2,3", 0, None);
     say("a zero and all three", 4, &three("0,4,9,7"), "0,1,2,3", 16, Some(3));
     say("two of all three", 3, &three("9,7"), "0,1,2,3", 16, Some(3));
+    say("the same value twice", 2, "0 0 0 write 4 -\n1 0 0 write 4 -\n2 1 0 read - 4,4\n", "0,1,2", 0, None);
+    say("the same value once", 2, "0 0 0 write 4 -\n1 0 0 write 4 -\n2 1 0 read - 4\n", "0,1,2", 16, Some(2));
     // As many writes as leave room for a read.
     let writes: String = (0..63).map(|e| format!("{e} {} 0 write {} -\n", e % 8, 300 + e)).collect();
     let all = (0..64).map(|e| e.to_string()).collect::<Vec<_>>().join(",");

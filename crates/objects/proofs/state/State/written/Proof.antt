@@ -1,4 +1,4 @@
--- A write puts the number behind the newest and drops the oldest, so that the object holds no more than it can. Assumes nothing.
+-- A write puts the number behind the newest, and keeps the last ones where the object held as many as it can. Assumes nothing.
 use Prim.Native.Nat.{_-_}
 use native.Mathlib.Omega.{arith}
 use mathlib.Core.Path.{sym, _∙_}
