@@ -117,14 +117,19 @@ static void other_width(struct text *t) {
     replace(t, a, b, (const uint8_t *)w, strlen(w));
 }
 
-/* Another answer for some push: the pushed value where it answered nothing, else nothing, or some number. */
-static void other_answer(struct text *t) {
-    static const char word[] = " push ";
-    const size_t n = sizeof word - 1;
+/* The place behind the first such word from some place on, or false. */
+static bool behind_some(const struct text *t, const char *word, size_t *behind) {
+    const size_t n = strlen(word);
     size_t a = t->length == 0 ? 0 : draw((unsigned)t->length);
     while (a + n <= t->length && memcmp(t->bytes + a, word, n) != 0) a++;
-    if (a + n > t->length) return;
-    a += n;
+    *behind = a + n;
+    return a + n <= t->length;
+}
+
+/* Another answer for some push: the pushed value where it answered nothing, else nothing, or some number. */
+static void other_answer(struct text *t) {
+    size_t a;
+    if (!behind_some(t, " push ", &a)) return;
     size_t b = a; /* the value is from a to b, the answer from c to d */
     while (b < t->length && t->bytes[b] != ' ' && t->bytes[b] != '\n') b++;
     if (b == t->length || t->bytes[b] == '\n') return;
@@ -144,12 +149,8 @@ static void other_answer(struct text *t) {
 
 /* Another answer for some read: a zero more in front, its oldest value less, or nothing. */
 static void other_read(struct text *t) {
-    static const char word[] = " read - ";
-    const size_t n = sizeof word - 1;
-    size_t a = t->length == 0 ? 0 : draw((unsigned)t->length);
-    while (a + n <= t->length && memcmp(t->bytes + a, word, n) != 0) a++;
-    if (a + n > t->length) return;
-    a += n;
+    size_t a;
+    if (!behind_some(t, " read - ", &a)) return;
     size_t b = a; /* the oldest value is from a to b, the answer from a to c */
     while (b < t->length && is_digit(t->bytes[b])) b++;
     size_t c = b;

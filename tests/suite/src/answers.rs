@@ -28,6 +28,15 @@ pub fn hold(comparer: &mut Comparer, name: &str, history: &History, certificate:
     }
 }
 
+/// Holds the checker to 16, in whatever view.
+pub fn hold_wrong(comparer: &mut Comparer, name: &str, history: &History, certificate: &[u8]) {
+    let text = history.text();
+    let answer = comparer.check(&text, certificate);
+    if !comparer.done() {
+        comparer.note(answer == 16, || format!("{name}: given {answer}, stated 16\n{}", String::from_utf8_lossy(&text)));
+    }
+}
+
 pub const ACCEPTED: (u32, u32, u32) = (0, NONE, NONE);
 
 /// 16 at the event, in view 0.

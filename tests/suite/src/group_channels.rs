@@ -1,6 +1,6 @@
 //! Channels that get full: the last slot of every capacity, pushes that are refused, and both under every criterion.
 
-use crate::answers::{hold, in_order, wrong_at, wrong_by, ACCEPTED};
+use crate::answers::{hold, hold_wrong, in_order, wrong_at, wrong_by, ACCEPTED};
 use crate::certificate::{List, CRITERIA};
 use crate::compare::{Call, Comparer};
 use crate::history::{Event, History};
@@ -202,15 +202,8 @@ pub fn crowds(comparer: &mut Comparer, random: &mut Random, rounds: usize) {
                 let Some(other) = other_answer(random, &history, e) else { continue };
                 let mut changed = history.clone();
                 changed.events[e].answer = Some(other);
-                let answer = comparer.check(&changed.text(), &certificate);
-                if comparer.done() {
-                    return;
-                }
                 // Every answer is visible in some view, and was right there.
-                comparer.note(answer == 16, || {
-                    let text = String::from_utf8_lossy(&changed.text()).into_owned();
-                    format!("{criterion:?}, the answer of {e} changed: given {answer}, stated 16\n{text}")
-                });
+                hold_wrong(comparer, &format!("{criterion:?}, the answer of {e} changed"), &changed, &certificate);
                 lose_now_and_then(random, &mut changed);
                 comparer.check(&changed.text(), &certificate);
             }

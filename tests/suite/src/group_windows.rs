@@ -1,7 +1,7 @@
 //! Windows from their first read on: what a read answers after any number of writes, for every width and under every
 //! criterion.
 
-use crate::answers::{hold, in_order, wrong_at, wrong_by, ACCEPTED};
+use crate::answers::{hold, hold_wrong, in_order, wrong_at, wrong_by, ACCEPTED};
 use crate::certificate::{List, CRITERIA};
 use crate::compare::{Call, Comparer};
 use crate::history::{Event, History};
@@ -197,16 +197,9 @@ pub fn scans(comparer: &mut Comparer, random: &mut Random, rounds: usize) {
                 let right = history.events[e].answer.clone().expect("it was made");
                 let wrong = wrong_answers(of.reads(), &right);
                 for (name, answer) in wrong.into_iter().filter(|(_, answer)| of.answer_lengths(Op::Read).contains(&answer.len())) {
-                    let changed = answering(&history, e, answer);
-                    let answer = comparer.check(&changed.text(), &certificate);
-                    if comparer.done() {
-                        return;
-                    }
                     // Every answer is visible in some view, and was right there.
-                    comparer.note(answer == 16, || {
-                        let text = String::from_utf8_lossy(&changed.text()).into_owned();
-                        format!("{criterion:?}, {name} at {e}: given {answer}, stated 16\n{text}")
-                    });
+                    let name = format!("{criterion:?}, {name} at {e}");
+                    hold_wrong(comparer, &name, &answering(&history, e, answer), &certificate);
                 }
                 let mut changed = history.clone();
                 lose_now_and_then(random, &mut changed);

@@ -590,15 +590,21 @@ wrong_rules!(PopsFreeNoSlot CheckRules {
     }
 });
 
-wrong_rules!(OneCapacityForAll CheckRules {
-    fn replay(&self, history: &History, order: &[usize], visible: &dyn Fn(usize) -> bool) -> Option<usize> {
-        let is_channel = |object: &&mut Object| object.kind == Kind::Channel;
-        let mut changed = history.clone();
-        let first = history.objects.iter().find(|object| object.kind == Kind::Channel).and_then(|object| object.width);
-        changed.objects.iter_mut().filter(is_channel).for_each(|object| object.width = first);
-        Document01.replay(&changed, order, visible)
-    }
-});
+/// A checker in which all objects of the kind have the width of the first.
+macro_rules! one_width_for_all {
+    ($name:ident, $kind:expr) => {
+        wrong_rules!($name CheckRules {
+            fn replay(&self, history: &History, order: &[usize], visible: &dyn Fn(usize) -> bool) -> Option<usize> {
+                let mut changed = history.clone();
+                let first = history.objects.iter().find(|object| object.kind == $kind).and_then(|object| object.width);
+                changed.objects.iter_mut().filter(|object| object.kind == $kind).for_each(|object| object.width = first);
+                Document01.replay(&changed, order, visible)
+            }
+        });
+    };
+}
+
+one_width_for_all!(OneCapacityForAll, Kind::Channel);
 
 wrong_width_limit!(CapacityLimitedByEight, |_| 8);
 wrong_width_limit!(CapacityBelowSixtyFour, |kind| if kind == Kind::Channel { 63 } else { 8 });
@@ -780,15 +786,7 @@ wrong_rules!(OldestPlaceOverwritten CheckRules {
     }
 });
 
-wrong_rules!(OneWidthForAll CheckRules {
-    fn replay(&self, history: &History, order: &[usize], visible: &dyn Fn(usize) -> bool) -> Option<usize> {
-        let is_window = |object: &&mut Object| object.kind == Kind::Window;
-        let mut changed = history.clone();
-        let first = history.objects.iter().find(|object| object.kind == Kind::Window).and_then(|object| object.width);
-        changed.objects.iter_mut().filter(is_window).for_each(|object| object.width = first);
-        Document01.replay(&changed, order, visible)
-    }
-});
+one_width_for_all!(OneWidthForAll, Kind::Window);
 
 wrong_rules!(EmptyReadsUnasked CheckRules {
     fn differs(&self, event: &Event, given: &[u64]) -> bool {
