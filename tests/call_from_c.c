@@ -142,7 +142,7 @@ int main(void) {
     for (size_t i = 0; i < 9; i++) places[i] = 99;
     printf("verdict %" PRIu32 ":", walnutgleam_verdict(bytes(history), h, bytes(certificate), c, places, 7));
     for (size_t i = 0; i < 9; i++) printf(" %" PRIu32, places[i]);
-    printf("\n");
+    printf("\nline %" PRIu32 ": %.*s\n", places[2], (int)places[6], history + places[5]);
 
     /* a damaged certificate: the places name its line, and only the first three are asked for */
     for (size_t i = 0; i < 9; i++) places[i] = 99;
@@ -150,16 +150,10 @@ int main(void) {
     for (size_t i = 0; i < 9; i++) printf(" %" PRIu32, places[i]);
     printf("\n");
 
-    uint64_t start = 0;
     uint64_t length = 0;
-    uint32_t answer = walnutgleam_show(bytes(history), h, 1, &start, &length);
-    printf("show %" PRIu32 ": %.*s\n", answer, (int)length, history + start);
-    answer = walnutgleam_show(bytes(history), h, 2, &start, &length);
-    printf("show %" PRIu32 ": %.*s\n", answer, (int)length, history + start);
-
     uint8_t buffer[128];
     memset(buffer, '.', sizeof buffer);
-    answer = walnutgleam_rewrite_history(bytes(history), h, buffer, sizeof buffer, &length);
+    uint32_t answer = walnutgleam_rewrite_history(bytes(history), h, buffer, sizeof buffer, &length);
     printf("history %" PRIu32 " %" PRIu64 " %s\n", answer, length, memcmp(buffer, history, h) == 0 && buffer[h] == '.' ? "same" : "other");
     answer = walnutgleam_rewrite_certificate(bytes(history), h, bytes(certificate), c, buffer, c - 1, &length);
     printf("certificate %" PRIu32 " %" PRIu64 " %s\n", answer, length, memcmp(buffer, history, h) == 0 ? "unchanged" : "changed");

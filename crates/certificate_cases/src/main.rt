@@ -3,13 +3,13 @@
 // buffer that is shown.
 use certificate::record::Certificate;
 use certificate::record::EventList;
-use certificate_reader::read::Text;
-use certificate_reader::read::faulty_line;
 use certificate_reader::read::read_certificate;
 use certificate_writer::write::write_certificate;
+use checker::check::carried_line;
 use history::record::Event;
 use history::record::History;
 use history::record::ProcessNo;
+use history_reader::place::Text;
 use layout::word::is_word;
 use libc::STDOUT_FILENO;
 
@@ -55,7 +55,8 @@ fn case<'a>(name: &[u8], history: &'a [u8], text: &'a [u8]) {
     let mut rows = [[0u8; 64]; 64];
     let r = read_certificate(history, text, &mut rows);
     let fault = r.fault;
-    let which = r.text;
+    let place = r.place;
+    let which = place.text;
     if fault == 0 {
         say_back(history, text);
     } else {
@@ -64,9 +65,9 @@ fn case<'a>(name: &[u8], history: &'a [u8], text: &'a [u8]) {
         say(b", text ");
         say_text(which);
         say(b", line ");
-        say_number(r.line as u64);
+        say_number(place.line as u64);
         say(b": [");
-        say(faulty_line(history, text));
+        say(carried_line(history, text));
         say(b"]\n");
     }
 }

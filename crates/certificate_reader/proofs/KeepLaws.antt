@@ -16,6 +16,8 @@ use Rattle.layout.proofs.StandsLaws.{at-cons}
 use Rattle.history.specs.Record.{pad}
 use Rattle.history.proofs.PadLaws.{pad-set, take-pad}
 use Rattle.history.specs.declared.record.Event.{Event}
+use Rattle.history_reader.specs.declared.place.Place.{Place}
+use Rattle.history_reader.specs.Place.{nowhere}
 use Rattle.certificate.specs.declared.record.Criterion.{Criterion}
 use Rattle.certificate.specs.declared.record.EventList.{EventList}
 use Rattle.certificate.specs.declared.next.NextList.{NextList}
@@ -251,12 +253,12 @@ module _ (whole : Lines) (r : LinesRead) (rows : List (List ℕ)) where
   refused fault line at size q w n =
       (q ∙ ap linesRead (sym w), sym (ap (λ (x : Lines). rowsAfter x rows) w ∙ rw (ne-eqb fault 0 n)))
 
-pub all-read : (whole : Lines) (c : Criterion) (array : List EventList) (lengths : List ℕ) (read rows : List (List ℕ)) (pasts views : List (List ℕ))
+pub all-read : (whole : Lines) (p : Place) → p ≡ nowhere → (c : Criterion) (array : List EventList) (lengths : List ℕ) (read rows : List (List ℕ)) (pasts views : List (List ℕ))
     → whole ≡ accepted c pasts views → array ≡ pad 64 noList (map eventListOf pasts) → lengths ≡ pad 64 0 (map length views) → read ≡ rowsOf views
-    → (_≡_ {A = LinesRead} (record { fault = 0; line = 0; start = 0; end = 0; certificate = record { criterion = c; pasts = array; lengths = lengths } }) (linesRead whole))
+    → (_≡_ {A = LinesRead} (record { fault = 0; place = p; certificate = record { criterion = c; pasts = array; lengths = lengths } }) (linesRead whole))
     × (read ≡ rowsAfter whole rows)
 unfolding certificateOf
-all-read whole c array lengths read rows pasts views w p l r = (rw (w, p, l), rw (w, r))
+all-read whole p n c array lengths read rows pasts views w q l r = (rw (n, w, q, l), rw (w, r))
 
 -- the rest of the lines says it
 pub passed-on : (whole rest : Lines) (r : LinesRead) (rows old : List (List ℕ)) → whole ≡ rest → (r ≡ linesRead rest) × (rows ≡ rowsAfter rest old)

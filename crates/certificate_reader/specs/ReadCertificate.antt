@@ -1,52 +1,42 @@
 -- Reading a certificate text, given its history text: its record and rows, or the first faulty line and the first fault on it.
-use Prim.Native.Nat.{ℕ, _+_, _-_}
+use Prim.Native.Nat.{ℕ, _+_}
 use mathlib.Core.Bool.{Bool, true, false, cond}
 use mathlib.Core.List.{List, [], _∷_, _++_}
-use lib.ListN.{length, getD, take, drop}
+use lib.ListN.{length, getD}
 use lib.Dec.{eqb, leb}
 use Rattle.layout.specs.Split.{split}
 use Rattle.layout.specs.Word.{same, pastHeading, viewHeading}
 use Rattle.history.specs.declared.record.Event.{Event}
 use Rattle.history.specs.declared.record.History.{History}
 use Rattle.history.specs.Record.{eventsIn}
+use Rattle.history_reader.specs.declared.place.Text.the-variants.{CertificateText}
+use Rattle.history_reader.specs.declared.place.Place.{Place}
 use Rattle.history_reader.specs.declared.read.HistoryRead.{HistoryRead}
+use Rattle.history_reader.specs.Place.{nowhere, faultyPlace}
 use Rattle.history_reader.specs.ReadHistory.{readHistory}
 use Rattle.certificate.specs.declared.record.Criterion.{Criterion}
 use Rattle.certificate.specs.declared.record.Criterion.the-variants.{Pram}
 use Rattle.certificate.specs.Record.{certificateOf, noCertificate, rowsOf}
 use Rattle.certificate.specs.Criteria.{hasPasts, countFrom, viewNumbers, criterionOf}
 use Rattle.certificate.specs.Faults.{criterionLine, listFault, listSaid}
-use Rattle.certificate_reader.specs.declared.read.Text.{Text}
-use Rattle.certificate_reader.specs.declared.read.Text.the-variants.{Neither, HistoryText, CertificateText}
 use Rattle.certificate_reader.specs.declared.read.CertificateRead.{CertificateRead}
 
--- What lines are as a certificate: fault 0, the criterion, the pasts and the views; or the fault, the number of its line from 1, and
--- the faulty line as the bytes from `start` to `end`.
+-- What lines are as a certificate: fault 0, the criterion, the pasts and the views; or the fault, and the place of the faulty line.
 pub record Lines : Type 0 where
   pub fault : ℕ
-  pub line : ℕ
-  pub start : ℕ
-  pub end : ℕ
+  pub place : Place
   pub criterion : Criterion
   pub pasts : List (List ℕ)
   pub views : List (List ℕ)
 
--- A refusal. The line begins at the place `at` and has `size` bytes without its line feed; an empty part starts at 0.
+-- A refusal. The line begins at the place `at` and has `size` bytes without its line feed.
 abbrev pub refusal : ℕ → ℕ → ℕ → ℕ → Lines
 refusal fault line at size =
-    record {
-      fault = fault;
-      line = line;
-      start = cond (eqb size 0) 0 at;
-      end = cond (eqb size 0) 0 (at + size);
-      criterion = Pram;
-      pasts = [];
-      views = [];
-    }
+    record { fault = fault; place = faultyPlace CertificateText line at size; criterion = Pram; pasts = []; views = [] }
 
 abbrev pub accepted : Criterion → List (List ℕ) → List (List ℕ) → Lines
 accepted c pasts views =
-    record { fault = 0; line = 0; start = 0; end = 0; criterion = c; pasts = pasts; views = views }
+    record { fault = 0; place = nowhere; criterion = c; pasts = pasts; views = views }
 
 -- The parts of a text between its line feeds are its lines and, last, what follows the last line feed. So a last part that is
 -- not empty is a line without its line feed, and an empty one is where a missing line would stand. Each function below is about
@@ -105,30 +95,11 @@ readLines es text = cond (leb (length text) 32768) (linesFrom es (split 10 text)
 -- The history's refusal; or what the certificate text is, with the history's record where it is one.
 abbrev pub historyRefused : HistoryRead → CertificateRead
 historyRefused h =
-    record {
-      fault = h .fault;
-      text = HistoryText;
-      line = h .line;
-      start = h .start;
-      end = h .end;
-      history = h .history;
-      certificate = noCertificate;
-    }
-
-abbrev pub textOf : ℕ → Text
-textOf fault = cond (eqb fault 0) Neither CertificateText
+    record { fault = h .fault; place = h .place; history = h .history; certificate = noCertificate }
 
 abbrev pub certificateRead : History → Lines → CertificateRead
 certificateRead h r =
-    record {
-      fault = r .fault;
-      text = textOf (r .fault);
-      line = r .line;
-      start = r .start;
-      end = r .end;
-      history = h;
-      certificate = certificateOf (r .criterion) (r .pasts) (r .views);
-    }
+    record { fault = r .fault; place = r .place; history = h; certificate = certificateOf (r .criterion) (r .pasts) (r .views) }
 
 -- The history's refusals come first.
 unfoldable pub readCertificate : List ℕ → List ℕ → CertificateRead
@@ -144,13 +115,3 @@ rowsAfter r rows = cond (eqb (r .fault) 0) (rowsOf (r .views)) rows
 unfoldable pub rowsRead : List ℕ → List ℕ → List (List ℕ) → List (List ℕ)
 rowsRead history text rows =
     cond (eqb (readHistory history .fault) 0) (rowsAfter (readLines (eventsIn (readHistory history .history)) text) rows) rows
-
--- The faulty line, as part of whichever text it is in and without its line feed; empty where there is none.
-abbrev pub partOf : Text → List ℕ → List ℕ → ℕ → ℕ → List ℕ
-partOf Neither history text start end = []
-partOf HistoryText history text start end = take (end - start) (drop start history)
-partOf CertificateText history text start end = take (end - start) (drop start text)
-
-unfoldable pub faultyLine : List ℕ → List ℕ → List ℕ
-faultyLine history text =
-    partOf (readCertificate history text .text) history text (readCertificate history text .start) (readCertificate history text .end)

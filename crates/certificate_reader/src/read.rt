@@ -7,7 +7,7 @@ ghost use Rattle.layout.specs.Split.{split};
 ghost use Rattle.history.specs.Record.{pad};
 ghost use Rattle.certificate.specs.Record.{noList, eventListOf, certificateOf, entriesIn};
 ghost use Rattle.certificate.specs.declared.record.Criterion.the-variants.{Pram};
-ghost use Rattle.certificate_reader.specs.ReadCertificate.{refusal, viewsFrom, pastsFrom, bodyFrom, linesFrom, readLines, rowsAfter, readCertificate, rowsRead, faultyLine};
+ghost use Rattle.certificate_reader.specs.ReadCertificate.{refusal, viewsFrom, pastsFrom, bodyFrom, linesFrom, readLines, rowsAfter, readCertificate, rowsRead};
 ghost use Rattle.certificate_reader.specs.Steps.Lines.{linesRead, viewLines, pastLines};
 use certificate::criterion::has_pasts;
 use certificate::criterion::read_criterion;
@@ -18,25 +18,18 @@ use certificate::record::Criterion;
 use certificate::record::EventList;
 use history::record::Event;
 use history::record::History;
+use history_reader::place::Place;
+use history_reader::place::Text;
+use history_reader::place::faulty_place;
+use history_reader::place::nowhere;
 use history_reader::read::read_history;
 use layout::split::find_from;
 use layout::word::is_word;
 
-// The text that a refusal is about.
-pub enum Text {
-    Neither,
-    HistoryText,
-    CertificateText,
-}
-
-// The two records and fault 0; or the first fault, the text that it is in, the number of its line from 1, and that line from
-// `start` to `end`.
+// The two records and fault 0; or the first fault and the place of its line.
 pub struct CertificateRead {
     pub fault: u8,
-    pub text: Text,
-    pub line: usize,
-    pub start: usize,
-    pub end: usize,
+    pub place: Place,
     pub history: History,
     pub certificate: Certificate,
 }
@@ -44,9 +37,7 @@ pub struct CertificateRead {
 // The same of a certificate text alone.
 pub struct LinesRead {
     pub fault: u8,
-    pub line: usize,
-    pub start: usize,
-    pub end: usize,
+    pub place: Place,
     pub certificate: Certificate,
 }
 
@@ -89,20 +80,10 @@ fn refuse(fault: u8, line: usize, start: usize, end: usize) -> LinesRead
     ensures { λ r. ⌜ r ≡ linesRead (refusal fault line start (end - start)) ⌝ }
 {
     let certificate = no_certificate();
-    if start == end {
-        return LinesRead {
-            fault,
-            line,
-            start: 0,
-            end: 0,
-            certificate,
-        };
-    }
+    let place = faulty_place(Text::CertificateText, line, start, end);
     LinesRead {
         fault,
-        line,
-        start,
-        end,
+        place,
         certificate,
     }
 }
@@ -154,11 +135,10 @@ fn read_views(
                 pasts,
                 lengths,
             };
+            let place = nowhere();
             return LinesRead {
                 fault: 0,
-                line: 0,
-                start: 0,
-                end: 0,
+                place,
                 certificate,
             };
         }
@@ -357,13 +337,11 @@ pub fn read_certificate(history: &[u8], text: &[u8], rows: &mut [[u8; 64]; 64]) 
     let fault = h.fault;
     let record = h.history;
     if fault != 0 {
+        let place = h.place;
         let certificate = no_certificate();
         return CertificateRead {
             fault,
-            text: Text::HistoryText,
-            line: h.line,
-            start: h.start,
-            end: h.end,
+            place,
             history: record,
             certificate,
         };
@@ -372,43 +350,12 @@ pub fn read_certificate(history: &[u8], text: &[u8], rows: &mut [[u8; 64]; 64]) 
     let count = record.count;
     let r = read_text(text, events, count, rows);
     let second = r.fault;
-    // The certificate is taken out in each branch: taken out before them, the compiled code copies it once more.
-    if second != 0 {
-        let certificate = r.certificate;
-        return CertificateRead {
-            fault: second,
-            text: Text::CertificateText,
-            line: r.line,
-            start: r.start,
-            end: r.end,
-            history: record,
-            certificate,
-        };
-    }
+    let place = r.place;
     let certificate = r.certificate;
     CertificateRead {
         fault: second,
-        text: Text::Neither,
-        line: r.line,
-        start: r.start,
-        end: r.end,
+        place,
         history: record,
         certificate,
-    }
-}
-
-// The faulty line, as part of whichever text it is in and without its line feed; empty where there is none.
-pub fn faulty_line<'a>(history: &'a [u8], text: &'a [u8]) -> &'a [u8]
-    ensures { λ r. ⌜ now r ≡ faultyLine (now (history .entry)) (now (text .entry)) ⌝ }
-{
-    let mut rows = no_rows();
-    let r = read_certificate(history, text, &mut rows);
-    let start = r.start;
-    let end = r.end;
-    let which = r.text;
-    match which {
-        Text::Neither => &history[0..0],
-        Text::HistoryText => &history[start..end],
-        Text::CertificateText => &text[start..end],
     }
 }

@@ -9,6 +9,7 @@ use borrow.Author.Tests.{eq-eqb, ne-eqb}
 use Rattle.layout.proofs.Cases.{by-eq}
 use Rattle.history.specs.declared.record.Event.{Event}
 use Rattle.history.specs.Record.{eventsIn}
+use Rattle.history_reader.specs.Place.{nowhere}
 use Rattle.history_reader.specs.ReadHistory.{readHistory}
 use Rattle.history_theorems.proofs.Guarantees.{read-sound}
 use Rattle.certificate.specs.declared.record.Certificate.{Certificate}
@@ -17,7 +18,6 @@ use Rattle.certificate.specs.Criteria.{viewNumbers, pastCount}
 use Rattle.certificate.specs.CertificateText.{textOf, certificateText}
 use Rattle.certificate.specs.Readable.{fits, Readable}
 use Rattle.certificate.proofs.FitsLaws.{Fits, fits-facts, facts-fit, pasts-in, views-in}
-use Rattle.certificate_reader.specs.declared.read.Text.the-variants.{Neither}
 use Rattle.certificate_reader.specs.declared.read.CertificateRead.{CertificateRead}
 use Rattle.certificate_reader.specs.ReadCertificate.{Lines, accepted, readLines, certificateRead, readCertificate, rowsAfter, rowsRead}
 use Rattle.certificate_theorems.proofs.TextRound.{text-read, Reads, read-text}
@@ -129,10 +129,7 @@ module _ (history text : List ℕ) where
     pub read-as : readCertificate history text
         ≡ record {
           fault = 0;
-          text = Neither;
-          line = 0;
-          start = 0;
-          end = 0;
+          place = nowhere;
           history = readHistory history .history;
           certificate = certificateOf (reads .criterion) (reads .pasts) (reads .views);
         }
@@ -171,11 +168,11 @@ module _ (history : List ℕ) (z : readHistory history .fault ≡ 0) (c : Certif
   back-lines = written-lines (eventsOf history) (few-events history z) c rows w
 
   pub written-read : readCertificate history (certificateText (eventsOf history) c rows)
-      ≡ record { fault = 0; text = Neither; line = 0; start = 0; end = 0; history = readHistory history .history; certificate = c }
+      ≡ record { fault = 0; place = nowhere; history = readHistory history .history; certificate = c }
   written-read =
       history-read history (certificateText (eventsOf history) c rows) z
       ∙ ap (certificateRead (readHistory history .history)) back-lines
-      ∙ ap (λ (x : Certificate). record { fault = 0; text = Neither; line = 0; start = 0; end = 0; history = readHistory history .history; certificate = x })
+      ∙ ap (λ (x : Certificate). record { fault = 0; place = nowhere; history = readHistory history .history; certificate = x })
       (sym (facts .record-is))
 
   pub written-rows : (old : List (List ℕ)) → rowsRead history (certificateText (eventsOf history) c rows) old ≡ rows

@@ -15,6 +15,7 @@ use Rattle.history.specs.Record.{eventsIn}
 use Rattle.history.specs.HistoryText.{historyText}
 use Rattle.history.specs.Readable as history-readable
 use Rattle.history_reader.specs.declared.read.HistoryRead.{HistoryRead}
+use Rattle.history_reader.specs.Place.{nowhere}
 use Rattle.history_reader.specs.ReadHistory.{readHistory}
 use Rattle.history_theorems.proofs.Theorems as history-theorems
 use Rattle.certificate.specs.declared.record.Certificate.{Certificate}
@@ -45,7 +46,7 @@ module _ (h : History) (c : Certificate) (rows : List (List ℕ)) where
     inside-limits : history-readable.within h ≡ true
     inside-limits = and-left (history-readable.within h) (fits (eventsIn h) c rows) w
 
-    history-back : readHistory (historyText h) ≡ record { fault = 0; line = 0; start = 0; end = 0; history = h }
+    history-back : readHistory (historyText h) ≡ record { fault = 0; place = nowhere; history = h }
     history-back = history-theorems.written-read h inside-limits
 
     same-history : readHistory (historyText h) .history ≡ h

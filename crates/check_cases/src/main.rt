@@ -1,4 +1,6 @@
-// Checks a certificate text for a history text in each case, one for each answer at least, and prints the verdict's lines.
+// Checks a certificate text for a history text in each case, one for each answer at least, and prints the verdict's lines and, in
+// brackets, the line of a text that it carries.
+use checker::check::carried_line;
 use libc::STDOUT_FILENO;
 use verdict_lines::print::print_check;
 
@@ -6,13 +8,16 @@ fn say(bytes: &[u8]) {
     io::write_all(STDOUT_FILENO, bytes);
 }
 
-fn case(name: &[u8], history: &[u8], certificate: &[u8]) {
+fn case<'a>(name: &[u8], history: &'a [u8], certificate: &'a [u8]) {
     say(name);
     say(b"\n");
     let lines = print_check(history, certificate);
     let k = lines.length;
     let bytes = lines.bytes;
     say(&bytes[..k]);
+    say(b"[");
+    say(carried_line(history, certificate));
+    say(b"]\n");
 }
 
 fn long_case(name: &[u8], certificate: &[u8]) {

@@ -16,11 +16,11 @@ use Rattle.certificate.specs.Criteria as text
 use Rattle.certificate_reader.specs.ReadCertificate.{readCertificate}
 use Rattle.certificate_theorems.proofs.Theorems.{eventsOf}
 use Rattle.criteria.specs.Criteria.{Meets}
-use Rattle.criteria.specs.Check.{Fault, answerOf}
+use Rattle.criteria.specs.Check.{Fault}
 use Rattle.criteria.specs.Weaken.{isPair}
 use Rattle.criteria.specs.Records.{historyOf}
 use Rattle.criteria.proofs.Meeting.{complete}
-use Rattle.checker.specs.CheckText.{checked, historyRead, certificateRead, checkText, Accepted, Names}
+use Rattle.checker.specs.CheckText.{foundIn, historyRead, certificateRead, checkText, Accepted, Names}
 use Rattle.checker.specs.WeakenText.{wantedOf, weakenedText, weakenedWanted, plain, weakenAnswer, weakenLength, weakenBytes}
 use Rattle.checker.specs.Demand3.{Bytes, Certified, Weakens, Written, TooShort, Demand3}
 use Rattle.checker.proofs.TextTheorems.{checked-as, accepted-read, accepted-passes, accepted-names, accepted-meets, text-of, text-accepted}
@@ -80,7 +80,7 @@ module _ (history text : List ℕ) (a : Accepted history text) where
   verdict-plain : (v : Criterion) → Names history text v → checkText history text ≡ plain v 0
   verdict-plain v n =
       checked-as history text (accepted-read history text a)
-      ∙ ap₂ (λ (k : Criterion) (x : Option Fault). checked k (answerOf x)) (named v n) (accepted-passes history text a)
+      ∙ ap₂ (λ (k : Criterion) (x : Option Fault). foundIn history (readHistory history .history .declared) k x) (named v n) (accepted-passes history text a)
 
   module _ (v w : Criterion) (n : Names history text v) (wanted : ℕ) (q : wantedOf wanted ≡ some w) (t : List ℕ)
       (e : weakenedText history text w ≡ some t) (buffer : List ℕ) where

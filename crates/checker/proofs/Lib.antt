@@ -1,6 +1,8 @@
 pub mod ListTexts
 pub mod TextTheorems
+pub mod EventLaws
 pub mod VerdictLaws
+pub mod LineTheorems
 pub mod WeakenTheorems
 pub mod ByteLaws
 pub mod Samples

@@ -1,21 +1,23 @@
--- Document 01's (p) cases on the texts, C's as document 02, T-04 has it, and cases of lost answers, of channels and of windows (document
--- 02, T-01, T-02, T-04), one list, by computation. Assumes nothing.
+-- Document 01's (p) cases on the texts, with their lines (document 02, T-05) and C's as T-04 has it, and cases of lost answers, of channels
+-- and of windows (T-01, T-02, T-04), one list, by computation. Assumes nothing.
 use Prim.Native.Nat.{ℕ}
-use mathlib.Core.Path.{_≡_, refl, ap₂, _∙_}
+use mathlib.Core.Path.{_≡_, refl, ap, ap₂, _∙_}
 use mathlib.Core.List.{List, [], _∷_, _++_}
 use mathlib.Core.Option.{Option, none, some}
 use Rattle.certificate.specs.declared.record.Criterion.{Criterion}
 use Rattle.certificate.specs.declared.record.Criterion.the-variants.{Pram, Weak, Causal, Converge, Sequential}
-use Rattle.certificate_reader.specs.declared.read.Text.the-variants.{Neither}
+use Rattle.history_reader.specs.declared.place.Text.the-variants.{HistoryText}
+use Rattle.history_reader.specs.declared.place.Place.{Place}
+use Rattle.history_reader.specs.Place.{nowhere, eventPlace}
 use Rattle.history_reader.specs.ReadHistory.{readHistory}
 use Rattle.certificate_reader.specs.ReadCertificate.{readCertificate}
 use Rattle.criteria.specs.History.{own}
 use Rattle.criteria.specs.Replay.{start, Replays}
 use Rattle.criteria.specs.Certificate.{Certificate}
-use Rattle.criteria.specs.Check.{Fault, answerOf, check}
+use Rattle.criteria.specs.Check.{Fault, fault12, answerOf, check}
 use Rattle.criteria.proofs.Replay.{none-wrong}
 use Rattle.criteria.proofs.Samples as lists
-use Rattle.checker.specs.CheckText.{Verdict, checked, historyRead, certificateRead, checkText}
+use Rattle.checker.specs.CheckText.{Verdict, checked, foundIn, historyRead, certificateRead, checkText, carriedLine}
 use Rattle.checker.proofs.TextTheorems.{checked-as}
 use Rattle.layout.specs.Split as layout-split
 use Rattle.layout.specs.Word as layout-word
@@ -36,14 +38,22 @@ use Rattle.criteria.specs.Check as criteria-check
 use Rattle.criteria.specs.Records as criteria-records
 use Rattle.checker.specs.CheckText as checker-checktext
 
--- The answer's number, view and event, with no text, line or part.
-abbrev pub answer : Criterion → ℕ → Option ℕ → Option ℕ → Verdict
-answer c n v e = record { number = n; criterion = some c; text = Neither; line = none; start = 0; end = 0; view = v; event = e }
+-- The answer's number and its view; and with an event, the number of its line in the history text, its start and its end.
+abbrev pub answer : Criterion → ℕ → Option ℕ → Verdict
+answer c n v = record { number = n; criterion = some c; place = nowhere; view = v; event = none }
+
+abbrev pub answerAt : Criterion → ℕ → Option ℕ → ℕ → ℕ → ℕ → ℕ → Verdict
+answerAt c n v e line start end =
+    record { number = n; criterion = some c; place = record { text = HistoryText; line = line; start = start; end = end }; view = v; event = some e }
 
 -- ---- the histories
 -- A queue; process 0 pushes 7, process 1 pops 7.
 abbrev pub Q : List ℕ
 Q = 111 ∷ 98 ∷ 106 ∷ 101 ∷ 99 ∷ 116 ∷ 32 ∷ 107 ∷ 105 ∷ 110 ∷ 100 ∷ 32 ∷ 119 ∷ 105 ∷ 100 ∷ 116 ∷ 104 ∷ 10 ∷ 48 ∷ 32 ∷ 113 ∷ 117 ∷ 101 ∷ 117 ∷ 101 ∷ 32 ∷ 45 ∷ 10 ∷ 101 ∷ 118 ∷ 101 ∷ 110 ∷ 116 ∷ 32 ∷ 112 ∷ 114 ∷ 111 ∷ 99 ∷ 101 ∷ 115 ∷ 115 ∷ 32 ∷ 111 ∷ 98 ∷ 106 ∷ 101 ∷ 99 ∷ 116 ∷ 32 ∷ 111 ∷ 112 ∷ 32 ∷ 118 ∷ 97 ∷ 108 ∷ 117 ∷ 101 ∷ 32 ∷ 97 ∷ 110 ∷ 115 ∷ 119 ∷ 101 ∷ 114 ∷ 10 ∷ 48 ∷ 32 ∷ 48 ∷ 32 ∷ 48 ∷ 32 ∷ 112 ∷ 117 ∷ 115 ∷ 104 ∷ 32 ∷ 55 ∷ 32 ∷ 45 ∷ 10 ∷ 49 ∷ 32 ∷ 49 ∷ 32 ∷ 48 ∷ 32 ∷ 112 ∷ 111 ∷ 112 ∷ 32 ∷ 45 ∷ 32 ∷ 55 ∷ 10 ∷ []
+
+-- Its last line: `1 1 0 pop - 7`.
+abbrev pub q-pop : List ℕ
+q-pop = 49 ∷ 32 ∷ 49 ∷ 32 ∷ 48 ∷ 32 ∷ 112 ∷ 111 ∷ 112 ∷ 32 ∷ 45 ∷ 32 ∷ 55 ∷ []
 
 -- A window of 2; process 0 writes 4 and reads 9,4, process 1 writes 9 and reads 4,9.
 abbrev pub W : List ℕ
@@ -149,42 +159,43 @@ three-order-text = 99 ∷ 114 ∷ 105 ∷ 116 ∷ 101 ∷ 114 ∷ 105 ∷ 111 �
 
 pub record Samples : Type 0 where
   -- "(p) sequential view 0,1 accepted."
-  pub q-sequential : checkText Q q-sequential-text ≡ answer Sequential 0 none none
+  pub q-sequential : checkText Q q-sequential-text ≡ answer Sequential 0 none
   -- "(p) view 1,0: 16, view 0, event 1."
-  pub q-turned : checkText Q q-turned-text ≡ answer Sequential 16 (some 0) (some 1)
+  pub q-turned : checkText Q q-turned-text ≡ answerAt Sequential 16 (some 0) 1 5 80 93
+  pub q-turned-line : carriedLine Q q-turned-text ≡ q-pop
   -- "(p) view 0 as 0 only: 14, view 0."
-  pub q-short : checkText Q q-short-text ≡ answer Sequential 14 (some 0) none
+  pub q-short : checkText Q q-short-text ≡ answer Sequential 14 (some 0)
   -- "(p) pram, view 0 as 0,1 and view 1 as 0,1 accepted."
-  pub q-pram : checkText Q q-pram-text ≡ answer Pram 0 none none
+  pub q-pram : checkText Q q-pram-text ≡ answer Pram 0 none
   -- "(p) causal accepted with pasts -; 0,2; -; 0,2 and views 0; 2,0,1; 2; 0,2,3."
-  pub w-causal : checkText W w-causal-text ≡ answer Causal 0 none none
+  pub w-causal : checkText W w-causal-text ≡ answer Causal 0 none
   -- "(p) past of 1 as 2 only: 11, event 1."
-  pub w-past : checkText W w-past-text ≡ answer Causal 11 none (some 1)
+  pub w-past : checkText W w-past-text ≡ answerAt Causal 11 none 1 5 82 98
   -- "(p) converge accepted with pasts -; -; 1; 0,1,2 and view 0,1,2,3."
-  pub c-converge : checkText C c-converge-text ≡ answer Converge 0 none none
+  pub c-converge : checkText C c-converge-text ≡ answer Converge 0 none
   -- "(p) weak with pasts -; -; -; 0,1,2,3; 0,1,2,3 and any views that read: 12, event 3." And there is such a text.
   pub r-inside : (text : List ℕ) → readCertificate R text .fault ≡ 0 → certificateRead R text .criterion ≡ Weak → certificateRead R text .pasts ≡ r-pasts
-      → checkText R text ≡ answer Weak 12 none (some 3)
-  pub r-inside-one : checkText R r-inside-text ≡ answer Weak 12 none (some 3)
+      → checkText R text ≡ answerAt Weak 12 none 3 7 115 129
+  pub r-inside-one : checkText R r-inside-text ≡ answerAt Weak 12 none 3 7 115 129
   pub r-inside-pasts : certificateRead R r-inside-text .pasts ≡ r-pasts
   -- "(p) empty history, sequential view `0 -` accepted"
-  pub nothing-sequential : checkText Nothing nothing-sequential-text ≡ answer Sequential 0 none none
+  pub nothing-sequential : checkText Nothing nothing-sequential-text ≡ answer Sequential 0 none
   -- "(p) p2's view 1,2,3,4,0 replays." M is read.
   pub m-reads : readHistory M .fault ≡ 0
   pub m-replays : Replays (historyRead M) (own (historyRead M) 2) (start (historyRead M)) (1 ∷ 2 ∷ 3 ∷ 4 ∷ 0 ∷ [])
   -- Document 02, T-01: a lost answer "is visible in no view, under any criterion", so Q's other order is accepted too;
-  pub lost-sequential : checkText Lost q-sequential-text ≡ answer Sequential 0 none none
-  pub lost-turned : checkText Lost q-turned-text ≡ answer Sequential 0 none none
+  pub lost-sequential : checkText Lost q-sequential-text ≡ answer Sequential 0 none
+  pub lost-turned : checkText Lost q-turned-text ≡ answer Sequential 0 none
   -- "the operation itself still takes effect": the pack was taken, and the next pop finds none;
-  pub lost-takes : checkText LostThenSeven three-order-text ≡ answer Sequential 16 (some 0) (some 2)
-  pub lost-then-none : checkText LostThenNone three-order-text ≡ answer Sequential 0 none none
+  pub lost-takes : checkText LostThenSeven three-order-text ≡ answerAt Sequential 16 (some 0) 2 6 94 107
+  pub lost-then-none : checkText LostThenNone three-order-text ≡ answer Sequential 0 none
   -- "Fault 5 doesn't apply to `?`", and the others do. In a list `?` is no number.
   pub lost-of-register : readHistory LostOfRegister .fault ≡ 4
   pub lost-in-list : readHistory LostInList .fault ≡ 2
   -- Document 02, T-02: "capacity 1 takes one pack", and "a push onto a full channel changes nothing and answers the pushed value";
-  pub channel-sequential : checkText (OneSlot 45 54) three-order-text ≡ answer Sequential 0 none none
-  pub channel-full : checkText (OneSlot 45 45) three-order-text ≡ answer Sequential 16 (some 0) (some 1)
-  pub channel-last : checkText (OneSlot 53 54) three-order-text ≡ answer Sequential 16 (some 0) (some 0)
+  pub channel-sequential : checkText (OneSlot 45 54) three-order-text ≡ answer Sequential 0 none
+  pub channel-full : checkText (OneSlot 45 45) three-order-text ≡ answerAt Sequential 16 (some 0) 1 5 82 96
+  pub channel-last : checkText (OneSlot 53 54) three-order-text ≡ answerAt Sequential 16 (some 0) 0 4 67 81
   -- "limits on width fall under 3, 64 for a channel and 8 on any other kind"; `-` on a channel is 4, a width on a queue too.
   pub channel-64 : readHistory (OneObject channelWord (54 ∷ 52 ∷ [])) .fault ≡ 0
   pub channel-65 : readHistory (OneObject channelWord (54 ∷ 53 ∷ [])) .fault ≡ 3
@@ -193,36 +204,39 @@ pub record Samples : Type 0 where
   pub queue-9 : readHistory (OneObject queueWord (57 ∷ [])) .fault ≡ 3
   pub queue-8 : readHistory (OneObject queueWord (56 ∷ [])) .fault ≡ 4
   -- Document 02, T-04: "a window starts empty"; "fault 5 now allows 0 to k values".
-  pub window-empty : checkText (Unscanned dash) q-short-text ≡ answer Sequential 0 none none
-  pub window-zero : checkText (Unscanned (48 ∷ [])) q-short-text ≡ answer Sequential 16 (some 0) (some 0)
+  pub window-empty : checkText (Unscanned dash) q-short-text ≡ answer Sequential 0 none
+  pub window-zero : checkText (Unscanned (48 ∷ [])) q-short-text ≡ answerAt Sequential 16 (some 0) 0 4 66 80
   pub window-two : readHistory (Unscanned (48 ∷ 44 ∷ 57 ∷ [])) .fault ≡ 5
   -- Document 01's C, where event 2 answers `0,9`, is read, and that answer is wrong.
-  pub c-zeros : checkText (CWith (48 ∷ 44 ∷ 57 ∷ [])) c-converge-text ≡ answer Converge 16 (some 0) (some 2)
+  pub c-zeros : checkText (CWith (48 ∷ 44 ∷ 57 ∷ [])) c-converge-text ≡ answerAt Converge 16 (some 0) 2 6 98 114
 
 -- a certificate is its criterion, its pasts and its views
 certificate-is : (c : Certificate) (w : Criterion) (ps : List (List ℕ)) → c .criterion ≡ w → c .pasts ≡ ps → c ≡ lists.claim w ps (c .views)
 certificate-is c w ps e q = ap₂ (λ (w : Criterion) (ps : List (List ℕ)). lists.claim w ps (c .views)) e q
 
--- R with any views that read, where R is read as the history of that name on lists
-r-any : historyRead R ≡ lists.R → (text : List ℕ) → readCertificate R text .fault ≡ 0 → certificateRead R text .criterion ≡ Weak
-    → certificateRead R text .pasts ≡ r-pasts → checkText R text ≡ answer Weak 12 none (some 3)
-r-any h text z w p =
+-- R with any views that read, where R is read as the history of that name on lists and event 3 has that line
+r-any : historyRead R ≡ lists.R → eventPlace R (readHistory R .history .declared) 3 ≡ record { text = HistoryText; line = 7; start = 115; end = 129 }
+    → (text : List ℕ) → readCertificate R text .fault ≡ 0 → certificateRead R text .criterion ≡ Weak
+    → certificateRead R text .pasts ≡ r-pasts → checkText R text ≡ answerAt Weak 12 none 3 7 115 129
+r-any h at text z w p =
     checked-as R text z
-    ∙ ap₂ (λ (c : Criterion) (x : Option Fault). checked c (answerOf x)) w
+    ∙ ap₂ (λ (c : Criterion) (x : Option Fault). foundIn R (readHistory R .history .declared) c x) w
     (ap₂ check h (certificate-is (certificateRead R text) Weak r-pasts w p) ∙ lists.R-inside (certificateRead R text .views))
+    ∙ ap (λ (q : Place). checked q Weak (answerOf (some (fault12 3)))) at
 
 pub samples : Samples
-unfolding layout-split.find layout-split.onFirst layout-split.split layout-split.join layout-split.partStart layout-word.same layout-number.isDigit layout-number.allDigits layout-number.startsWell layout-number.isNumber layout-number.valueFrom layout-number.below layout-number.numberOf layout-number.spellWithin layout-number.spellBefore layout-list.itemsOf layout-list.allNumbers layout-list.allBelow layout-list.judged layout-list.listOf layout-list.numbersOf layout-list.leading layout-list.listText history-record.pad history-record.answerOf history-record.historyOf history-kinds.kindWord history-kinds.opWord history-kinds.isKind history-kinds.kindOf history-kinds.isOp history-kinds.opOf history-faults.firstFault history-faults.isOptional history-faults.optional history-faults.objectLayout history-faults.objectLimits history-faults.objectFits history-faults.objectFault history-faults.objectThree history-faults.objectFields history-faults.objectLine history-faults.isLost history-faults.answerItems history-faults.answerSaid history-faults.eventLayout history-faults.eventLimits history-faults.eventFits history-faults.eventLong history-faults.eventFault history-faults.eventSaid history-faults.eventSix history-faults.eventFields history-faults.eventLine history-reader-readhistory.eventsFrom history-reader-readhistory.objectsFrom history-reader-readhistory.linesFrom history-reader-readhistory.readHistory history-reader-readhistory.faultyLine certificate-record.eventListOf certificate-record.rowOf certificate-record.certificateOf certificate-record.rowsOf certificate-record.beginnings certificate-criteria.wordOf certificate-criteria.isCriterion certificate-criteria.criterionOf certificate-criteria.countFrom certificate-criteria.hasEvents certificate-criteria.processesFrom certificate-criteria.viewNumbers certificate-faults.rising certificate-faults.criterionLine certificate-faults.listLayout certificate-faults.listLimits certificate-faults.pairFault certificate-faults.listFault certificate-faults.listSaid certificate-reader-readcertificate.endFrom certificate-reader-readcertificate.headingFrom certificate-reader-readcertificate.listsFrom certificate-reader-readcertificate.viewsFrom certificate-reader-readcertificate.pastsFrom certificate-reader-readcertificate.bodyFrom certificate-reader-readcertificate.linesFrom certificate-reader-readcertificate.readLines certificate-reader-readcertificate.readCertificate certificate-reader-readcertificate.rowsRead certificate-reader-readcertificate.faultyLine criteria-history.programOrder criteria-certificate.processes criteria-check.lacksOwn criteria-check.lacksPast criteria-check.notItsSet criteria-check.against criteria-check.right criteria-check.check criteria-records.eventOf criteria-records.historyOf criteria-records.certificateOf checker-checktext.historyRead checker-checktext.certificateRead checker-checktext.checkText
+unfolding layout-split.find layout-split.onFirst layout-split.split layout-split.join layout-split.partStart layout-word.same layout-number.isDigit layout-number.allDigits layout-number.startsWell layout-number.isNumber layout-number.valueFrom layout-number.below layout-number.numberOf layout-number.spellWithin layout-number.spellBefore layout-list.itemsOf layout-list.allNumbers layout-list.allBelow layout-list.judged layout-list.listOf layout-list.numbersOf layout-list.leading layout-list.listText history-record.pad history-record.answerOf history-record.historyOf history-kinds.kindWord history-kinds.opWord history-kinds.isKind history-kinds.kindOf history-kinds.isOp history-kinds.opOf history-faults.firstFault history-faults.isOptional history-faults.optional history-faults.objectLayout history-faults.objectLimits history-faults.objectFits history-faults.objectFault history-faults.objectThree history-faults.objectFields history-faults.objectLine history-faults.isLost history-faults.answerItems history-faults.answerSaid history-faults.eventLayout history-faults.eventLimits history-faults.eventFits history-faults.eventLong history-faults.eventFault history-faults.eventSaid history-faults.eventSix history-faults.eventFields history-faults.eventLine history-reader-readhistory.eventsFrom history-reader-readhistory.objectsFrom history-reader-readhistory.linesFrom history-reader-readhistory.readHistory history-reader-readhistory.faultyLine certificate-record.eventListOf certificate-record.rowOf certificate-record.certificateOf certificate-record.rowsOf certificate-record.beginnings certificate-criteria.wordOf certificate-criteria.isCriterion certificate-criteria.criterionOf certificate-criteria.countFrom certificate-criteria.hasEvents certificate-criteria.processesFrom certificate-criteria.viewNumbers certificate-faults.rising certificate-faults.criterionLine certificate-faults.listLayout certificate-faults.listLimits certificate-faults.pairFault certificate-faults.listFault certificate-faults.listSaid certificate-reader-readcertificate.endFrom certificate-reader-readcertificate.headingFrom certificate-reader-readcertificate.listsFrom certificate-reader-readcertificate.viewsFrom certificate-reader-readcertificate.pastsFrom certificate-reader-readcertificate.bodyFrom certificate-reader-readcertificate.linesFrom certificate-reader-readcertificate.readLines certificate-reader-readcertificate.readCertificate certificate-reader-readcertificate.rowsRead criteria-history.programOrder criteria-certificate.processes criteria-check.lacksOwn criteria-check.lacksPast criteria-check.notItsSet criteria-check.against criteria-check.right criteria-check.check criteria-records.eventOf criteria-records.historyOf criteria-records.certificateOf checker-checktext.historyRead checker-checktext.certificateRead checker-checktext.checkText checker-checktext.carriedLine
 samples =
     record {
       q-sequential = refl;
       q-turned = refl;
+      q-turned-line = refl;
       q-short = refl;
       q-pram = refl;
       w-causal = refl;
       w-past = refl;
       c-converge = refl;
-      r-inside = r-any refl;
+      r-inside = r-any refl refl;
       r-inside-one = refl;
       r-inside-pasts = refl;
       nothing-sequential = refl;

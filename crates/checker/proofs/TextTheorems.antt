@@ -9,6 +9,7 @@ use mathlib.Core.Option.{Option, none, some}
 use lib.ListN.{replicate}
 use borrow.Author.Tests.{eq-eqb, ne-eqb}
 use Rattle.layout.proofs.Cases.{by-eq}
+use Rattle.history_reader.specs.Place.{nowhere}
 use Rattle.history_reader.specs.ReadHistory.{readHistory}
 use Rattle.history_theorems.proofs.Guarantees as history-guarantees
 use Rattle.certificate.specs.declared.record.Criterion.{Criterion}
@@ -17,7 +18,6 @@ use Rattle.certificate.specs.Record as text-record
 use Rattle.certificate.specs.Criteria as text
 use Rattle.certificate.specs.CertificateText.{certificateText}
 use Rattle.certificate.specs.Readable.{fits}
-use Rattle.certificate_reader.specs.declared.read.Text.the-variants.{Neither}
 use Rattle.certificate_reader.specs.declared.read.CertificateRead.{CertificateRead}
 use Rattle.certificate_reader.specs.ReadCertificate.{readCertificate}
 use Rattle.certificate_theorems.proofs.Theorems.{eventsOf, few-events, no-fault-history, written-read, written-rows}
@@ -29,7 +29,7 @@ use Rattle.criteria.specs.Records.{certificateOf}
 use Rattle.criteria.proofs.Meeting.{sound, complete}
 use Rattle.criteria.proofs.RecordLaws.{few-processes, readable}
 use Rattle.checker.proofs.ListTexts.{lists-fit, pasts-back, views-back}
-use Rattle.checker.specs.CheckText.{Verdict, refused, checked, historyRead, rowsOf, certificateRead, checkText, Accepted, Names}
+use Rattle.checker.specs.CheckText.{Verdict, refused, foundIn, historyRead, rowsOf, certificateRead, checkText, Accepted, Names}
 
 -- ---- 0 is acceptance, and only then
 none-of : (x : Option Fault) → answerOf x .number ≡ 0 → x ≡ none
@@ -44,7 +44,9 @@ none-of (some (fault16 v e)) n = absurd (omega arith)
 module _ (history text : List ℕ) where
   -- both texts are read
   pub checked-as : readCertificate history text .fault ≡ 0
-      → checkText history text ≡ checked (certificateRead history text .criterion) (answerOf (check (historyRead history) (certificateRead history text)))
+      → checkText history text
+      ≡ foundIn history (readHistory history .history .declared) (certificateRead history text .criterion)
+      (check (historyRead history) (certificateRead history text))
   unfolding checkText
   checked-as z = rw (eq-eqb (readCertificate history text .fault) 0 z)
 
@@ -103,10 +105,7 @@ module _ (history : List ℕ) (z : readHistory history .fault ≡ 0) (c : Certif
   text-read : readCertificate history text-of
       ≡ record {
         fault = 0;
-        text = Neither;
-        line = 0;
-        start = 0;
-        end = 0;
+        place = nowhere;
         history = readHistory history .history;
         certificate = text-record.certificateOf (c .criterion) (c .pasts) (c .views);
       }

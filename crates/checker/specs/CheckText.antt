@@ -6,56 +6,45 @@ use mathlib.Core.List.{List}
 use mathlib.Core.Option.{Option, none, some}
 use lib.ListN.{replicate}
 use lib.Dec.{eqb}
+use Rattle.history_reader.specs.declared.place.Place.{Place}
+use Rattle.history_reader.specs.Place.{nowhere, eventPlace, bytesAt, textNamed}
 use Rattle.history_reader.specs.ReadHistory.{readHistory}
 use Rattle.certificate.specs.declared.record.Criterion.{Criterion}
 use Rattle.certificate.specs.Record.{noRow}
-use Rattle.certificate_reader.specs.declared.read.Text.{Text}
-use Rattle.certificate_reader.specs.declared.read.Text.the-variants.{Neither}
 use Rattle.certificate_reader.specs.declared.read.CertificateRead.{CertificateRead}
 use Rattle.certificate_reader.specs.ReadCertificate.{readCertificate, rowsRead}
 use Rattle.criteria.specs.History.{History}
 use Rattle.criteria.specs.Certificate.{Certificate}
-use Rattle.criteria.specs.Check.{Answer, answerOf, check}
+use Rattle.criteria.specs.Check.{Fault, Answer, answerOf, check}
 use Rattle.criteria.specs.Records.{historyOf, certificateOf}
 
 -- An answer with all that it carries. "A reading refusal carries the text, the line number from 1, and the faulty line as part of
--- whichever text it is in": the bytes from `start` to `end`. "11 to 13 carry the event, 14 and 15 the view, 16 both, with no line."
--- The criterion is the one that the certificate names; a reading refusal has none.
+-- whichever text it is in": a place. "11 to 13 carry the event, 14 and 15 the view, 16 both." Document 02: "16 carries the line of its
+-- event, as part of the history text, and 11 to 13 carry theirs". The criterion is the one that the certificate names; a reading refusal
+-- has none.
 pub record Verdict : Type 0 where
   pub number : ℕ
   pub criterion : Option Criterion
-  pub text : Text
-  pub line : Option ℕ
-  pub start : ℕ
-  pub end : ℕ
+  pub place : Place
   pub view : Option ℕ
   pub event : Option ℕ
 
 abbrev pub refused : CertificateRead → Verdict
 refused r =
-    record {
-      number = r .fault;
-      criterion = none;
-      text = r .text;
-      line = some (r .line);
-      start = r .start;
-      end = r .end;
-      view = none;
-      event = none;
-    }
+    record { number = r .fault; criterion = none; place = r .place; view = none; event = none }
 
-abbrev pub checked : Criterion → Answer → Verdict
-checked c a =
-    record {
-      number = a .number;
-      criterion = some c;
-      text = Neither;
-      line = none;
-      start = 0;
-      end = 0;
-      view = a .view;
-      event = a .event;
-    }
+abbrev pub checked : Place → Criterion → Answer → Verdict
+checked p c a =
+    record { number = a .number; criterion = some c; place = p; view = a .view; event = a .event }
+
+-- The line of the event that an answer carries, in a history text with so many objects; none where it carries no event.
+abbrev pub placeOf : List ℕ → ℕ → Option ℕ → Place
+placeOf history declared none = nowhere
+placeOf history declared (some e) = eventPlace history declared e
+
+-- What was found of texts that were read, with that line.
+abbrev pub foundIn : List ℕ → ℕ → Criterion → Option Fault → Verdict
+foundIn history declared c x = checked (placeOf history declared (answerOf x .event)) c (answerOf x)
 
 -- The lists of the history and of the certificate that two texts are read as.
 unfoldable pub historyRead : List ℕ → History
@@ -72,8 +61,13 @@ certificateRead history text =
 unfoldable pub checkText : List ℕ → List ℕ → Verdict
 checkText history text =
     cond (eqb (readCertificate history text .fault) 0)
-    (checked (certificateRead history text .criterion) (answerOf (check (historyRead history) (certificateRead history text))))
+    (foundIn history (readHistory history .history .declared) (certificateRead history text .criterion)
+    (check (historyRead history) (certificateRead history text)))
     (refused (readCertificate history text))
+
+-- The line that the answer carries, as part of whichever text it is in; empty where it carries none.
+unfoldable pub carriedLine : List ℕ → List ℕ → List ℕ
+carriedLine history text = bytesAt (checkText history text .place) (textNamed (checkText history text .place .text) history text)
 
 -- "A certificate text is accepted for a history text when the check of the two answers 0."
 unfoldable pub Accepted : List ℕ → List ℕ → Type 0

@@ -9,6 +9,7 @@ use lib.Dec.{eqb, leb}
 use Rattle.layout.specs.Fill.{fill}
 use Rattle.history.specs.declared.record.Event.{Event}
 use Rattle.history.specs.Record.{eventsIn}
+use Rattle.history_reader.specs.Place.{nowhere}
 use Rattle.history_reader.specs.ReadHistory.{readHistory}
 use Rattle.certificate.specs.declared.record.Criterion.{Criterion}
 use Rattle.certificate.specs.declared.record.Criterion.the-variants.{Pram, Weak, Causal, Converge, Sequential}
@@ -48,7 +49,7 @@ weakenedWanted history text (some w) = weakenedText history text w
 
 -- An answer that carries no place: "every other number carries no text, line, view or event".
 abbrev pub plain : Criterion → ℕ → Verdict
-plain c number = checked c record { number = number; view = none; event = none }
+plain c number = checked nowhere c record { number = number; view = none; event = none }
 
 -- Both texts are read: v is their check, c the criterion named, and t the weakened text, if the two criteria are a pair. "17: not a
 -- pair below; 11 to 16; 18."

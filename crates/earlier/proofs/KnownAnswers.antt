@@ -211,7 +211,7 @@ unfolding check checkBefore
 check-as-before h known c = rw (find16-as-before (c .criterion) h known (order h c) (c .views))
 
 -- ---- the verdict
-check-text-is : (history text : List ℕ) → checkText history text ≡ verdictFrom check (readHistory history) text
+check-text-is : (history text : List ℕ) → checkText history text ≡ verdictFrom check history (readHistory history) text
 unfolding checkText historyRead certificateRead readCertificate rowsRead verdictFrom
 check-text-is history text = refl
 
@@ -223,17 +223,18 @@ text-kept : (text : List ℕ) → Kept (eventsIn (readHistoryBefore text .histor
 unfolding readHistoryBefore
 text-kept text = by-bool (leb (length text) 16384) (λ l. rw l (lines-kept (split 10 text))) (λ l. rw l tt)
 
-verdict-from : (r : HistoryRead) → Kept (eventsIn (r .history)) → (text : List ℕ) → verdictFrom check r text ≡ verdictFrom checkBefore r text
+verdict-from : (history : List ℕ) (r : HistoryRead) → Kept (eventsIn (r .history)) → (text : List ℕ)
+    → verdictFrom check history r text ≡ verdictFrom checkBefore history r text
 unfolding verdictFrom
-verdict-from r k text = rw (check-as-before (historyOf (r .history)) (history-known r k) (certificateFrom r text))
+verdict-from history r k text = rw (check-as-before (historyOf (r .history)) (history-known r k) (certificateFrom r text))
 
 -- "This change alters no verdict on texts without such an answer."
 pub verdict-as-before : (history text : List ℕ) → NoLost history → checkText history text ≡ checkTextBefore history text
 unfolding checkTextBefore
 verdict-as-before history text known =
     check-text-is history text
-    ∙ ap (λ (r : HistoryRead). verdictFrom check r text) (reads-as-before history known)
-    ∙ verdict-from (readHistoryBefore history) (text-kept history) text
+    ∙ ap (λ (r : HistoryRead). verdictFrom check history r text) (reads-as-before history known)
+    ∙ verdict-from history (readHistoryBefore history) (text-kept history) text
 
 -- document 01's sample Q is such a text
 pub q-known : NoLost Q

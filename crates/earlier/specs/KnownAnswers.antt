@@ -1,6 +1,7 @@
 -- The check before answers could be lost: what T-01 of document 02 changed, as it stood. Each definition is then the one of its name
 -- without `Before`, word for word but for three things: the bound of values, 65536 there, is named; the recorded answer is an
--- `Option`, of which `listIn` takes the list; and the check of two texts is by `verdictFrom`. What T-01 left alone is cited as it is.
+-- `Option`, of which `listIn` takes the list; and the check of two texts is by `verdictFrom`. What T-01 left alone is cited as it is
+-- now, the line that a verdict carries (T-05) too.
 use Prim.Native.Nat.{ℕ, _+_}
 use mathlib.Core.Path.{_≡_}
 use mathlib.Core.Bool.{Bool, false, cond, not, _&&_, _||_}
@@ -123,7 +124,7 @@ checkBefore h c =
 
 -- ---- the check of two texts
 unfoldable pub checkTextBefore : List ℕ → List ℕ → Verdict
-checkTextBefore history text = verdictFrom checkBefore (readHistoryBefore history) text
+checkTextBefore history text = verdictFrom checkBefore history (readHistoryBefore history) text
 
 -- ---- "texts without such an answer"
 -- A line of six fields has `?` for the last, the answer of an event.

@@ -1,5 +1,5 @@
--- The verdict on two texts, by a check of lists and by what the history text was read as. `checkText` is the one by `check` and
--- `readHistory`: `check-text-is` (KnownAnswers).
+-- The verdict on two texts, by a check of lists and by what the history text was read as; the history text itself has the line that the
+-- verdict carries. `checkText` is the one by `check` and `readHistory`: `check-text-is` (KnownAnswers).
 use Prim.Native.Nat.{ℕ}
 use mathlib.Core.Bool.{cond}
 use mathlib.Core.List.{List}
@@ -13,9 +13,9 @@ use Rattle.certificate_reader.specs.declared.read.CertificateRead.{CertificateR
 use Rattle.certificate_reader.specs.ReadCertificate.{readLines, historyRefused, certificateRead, rowsAfter}
 use Rattle.criteria.specs.History.{History}
 use Rattle.criteria.specs.Certificate.{Certificate}
-use Rattle.criteria.specs.Check.{Fault, answerOf}
+use Rattle.criteria.specs.Check.{Fault}
 use Rattle.criteria.specs.Records.{historyOf, certificateOf}
-use Rattle.checker.specs.CheckText.{Verdict, refused, checked}
+use Rattle.checker.specs.CheckText.{Verdict, refused, foundIn}
 
 -- What the certificate text was read as, and its lists.
 abbrev pub readFrom : HistoryRead → List ℕ → CertificateRead
@@ -28,8 +28,8 @@ rowsFrom r text rows = cond (eqb (r .fault) 0) (rowsAfter (readLines (eventsIn (
 abbrev pub certificateFrom : HistoryRead → List ℕ → Certificate
 certificateFrom r text = certificateOf (r .history) (readFrom r text .certificate) (rowsFrom r text (replicate 64 noRow))
 
-unfoldable pub verdictFrom : (History → Certificate → Option Fault) → HistoryRead → List ℕ → Verdict
-verdictFrom check r text =
+unfoldable pub verdictFrom : (History → Certificate → Option Fault) → List ℕ → HistoryRead → List ℕ → Verdict
+verdictFrom check history r text =
     cond (eqb (readFrom r text .fault) 0)
-    (checked (certificateFrom r text .criterion) (answerOf (check (historyOf (r .history)) (certificateFrom r text))))
+    (foundIn history (r .history .declared) (certificateFrom r text .criterion) (check (historyOf (r .history)) (certificateFrom r text)))
     (refused (readFrom r text))

@@ -1,3 +1,4 @@
+pub mod FindingLaws
 pub mod FoundLaws
 pub mod OrderLaws
 pub mod ViewedLaws

@@ -1,7 +1,7 @@
 // What the check of a history and a certificate that were read finds.
 ghost use mathlib.Core.Path.{_≡_};
 ghost use Rattle.criteria.specs.Check.{answerOf};
-ghost use Rattle.faults.specs.Finding.{findingOf, isFound, orNone};
+ghost use Rattle.faults.specs.Finding.{findingOf, isFound, numberIn};
 use history::record::EventNo;
 
 // Nothing, or one of the faults 11 to 16 in their order, with the event, the view's number, or both.
@@ -47,7 +47,7 @@ pub fn number_of(f: Finding) -> u32
 
 // The number of the view that the answer carries, or 4,294,967,295 where it carries none.
 pub fn view_of(f: Finding) -> u32
-    ensures { λ r. ⌜ r ≡ orNone (answerOf (findingOf f) .view) ⌝ }
+    ensures { λ r. ⌜ numberIn r ≡ answerOf (findingOf f) .view ⌝ }
 {
     match f {
         Finding::Nothing => 4294967295,
@@ -62,7 +62,7 @@ pub fn view_of(f: Finding) -> u32
 
 // The number of the event that the answer carries, or 4,294,967,295 where it carries none.
 pub fn event_of(f: Finding) -> u32
-    ensures { λ r. ⌜ r ≡ orNone (answerOf (findingOf f) .event) ⌝ }
+    ensures { λ r. ⌜ numberIn r ≡ answerOf (findingOf f) .event ⌝ }
 {
     match f {
         Finding::Nothing => 4294967295,

@@ -1,6 +1,6 @@
 // Reads histories, good and damaged, and writes a line for each: what was read, and whether it is written back as the same
-// bytes; or the refusal with its line. Then shows events, and writes a record into buffers of several lengths, and records that no
-// readable text stands for.
+// bytes; or the refusal with its line. Then writes a record into buffers of several lengths, and records that no readable text
+// stands for.
 ghost use Prim.Native.Nat.{_<_};
 use history::record::Answer;
 use history::record::Event;
@@ -12,7 +12,6 @@ use history::record::ProcessNo;
 use history::record::Value;
 use history_reader::read::faulty_line;
 use history_reader::read::read_history;
-use history_reader::show::show;
 use history_writer::write::write_history;
 use layout::word::is_word;
 use libc::STDOUT_FILENO;
@@ -69,26 +68,11 @@ fn case(name: &[u8], text: &[u8]) {
         say(b"refused ");
         say_number(fault as u64);
         say(b", line ");
-        say_number(r.line as u64);
+        say_number(r.place.line as u64);
         say(b": [");
         say(faulty_line(text));
         say(b"]\n");
     }
-}
-
-fn say_shown(text: &[u8], e: u32) {
-    let mut number = 0u8;
-    let mut line: usize = 0;
-    let part = show(text, e, &mut number, &mut line);
-    say(b"show ");
-    say_number(e as u64);
-    say(b": ");
-    say_number(number as u64);
-    say(b", line ");
-    say_number(line as u64);
-    say(b": [");
-    say(part);
-    say(b"]\n");
 }
 
 // Writes the record of a text into the first n bytes of a buffer of 64, and shows the whole buffer.
@@ -240,7 +224,6 @@ fn long_texts() {
     case(b"16384 bytes", &longest);
     let longer = [10u8; 16385];
     case(b"16385 bytes", &longer);
-    say_shown(&longer, 0);
 }
 
 // As many objects as a history may have, and one more.
@@ -468,9 +451,8 @@ fn of_answers_and_layout() {
     case(b"empty text", b"");
 }
 
-// Events shown, one that there is not, and one of a text that is refused.
-fn of_showing() {
-    say_shown(b"object kind width\n0 queue 2\n", 0);
+// One record into buffers of several lengths.
+fn of_writing() {
     say_written(
         b"object kind width\nevent process object op value answer\n",
         54,
@@ -479,10 +461,6 @@ fn of_showing() {
         b"object kind width\nevent process object op value answer\n",
         55,
     );
-}
-
-// One record into buffers of several lengths.
-fn of_writing() {
     say_written(
         b"object kind width\nevent process object op value answer\n",
         64,
@@ -498,19 +476,6 @@ fn main() {
     objects_to_the_limit();
     events_to_the_limit();
     long_texts();
-    say_shown(
-        b"object kind width\n0 queue -\nevent process object op value answer\n0 0 0 push 7 -\n1 1 0 pop - 7\n",
-        0,
-    );
-    say_shown(
-        b"object kind width\n0 queue -\nevent process object op value answer\n0 0 0 push 7 -\n1 1 0 pop - 7\n",
-        1,
-    );
-    say_shown(
-        b"object kind width\n0 queue -\nevent process object op value answer\n0 0 0 push 7 -\n1 1 0 pop - 7\n",
-        2,
-    );
-    of_showing();
     of_writing();
     records();
     records_with_lost_answers();

@@ -1,3 +1,3 @@
 pub mod ReadLaws
 pub mod PlaceLaws
-pub mod ShowLaws
+pub mod EventPlaceLaws

@@ -1,8 +1,8 @@
 -- Reading a history text: its record, or the first faulty line and the first fault on it.
-use Prim.Native.Nat.{ℕ, _+_, _-_}
+use Prim.Native.Nat.{ℕ, _+_}
 use mathlib.Core.Bool.{cond}
 use mathlib.Core.List.{List, [], _∷_, _++_}
-use lib.ListN.{length, take, drop}
+use lib.ListN.{length}
 use lib.Dec.{eqb, leb}
 use Rattle.layout.specs.Split.{split}
 use Rattle.layout.specs.Word.{same, objectHeading, eventHeading}
@@ -10,17 +10,18 @@ use Rattle.history.specs.Record.{noHistory, historyOf}
 use Rattle.history.specs.Faults.{objectLine, eventLine}
 use Rattle.history.specs.declared.record.Object.{Object}
 use Rattle.history.specs.declared.record.Event.{Event}
+use Rattle.history_reader.specs.declared.place.Text.the-variants.{HistoryText}
 use Rattle.history_reader.specs.declared.read.HistoryRead.{HistoryRead}
+use Rattle.history_reader.specs.Place.{nowhere, faultyPlace, bytesAt}
 
--- A refusal: its number, the number of its line from 1, and the faulty line as the bytes from `start` to `end`; an empty part
--- starts at 0. The line begins at the place `at` and has `size` bytes without its line feed.
+-- A refusal: its number, and the place of the faulty line, which begins at the place `at` and has `size` bytes without its line feed.
 abbrev pub refusal : ℕ → ℕ → ℕ → ℕ → HistoryRead
 refusal fault line at size =
-    record { fault = fault; line = line; start = cond (eqb size 0) 0 at; end = cond (eqb size 0) 0 (at + size); history = noHistory }
+    record { fault = fault; place = faultyPlace HistoryText line at size; history = noHistory }
 
 -- A text without a fault: the record of its objects and events.
 abbrev pub readAs : List Object → List Event → HistoryRead
-readAs os es = record { fault = 0; line = 0; start = 0; end = 0; history = historyOf os es }
+readAs os es = record { fault = 0; place = nowhere; history = historyOf os es }
 
 -- The parts of a text between its line feeds are its lines and, last, what follows the last line feed. So a last part that is
 -- not empty is a line without its line feed, and an empty one is where a missing line would stand.
@@ -58,4 +59,4 @@ readHistory text = cond (leb (length text) 16384) (linesFrom (split 10 text)) (r
 
 -- The faulty line of a text, without its line feed; empty where there is none.
 unfoldable pub faultyLine : List ℕ → List ℕ
-faultyLine text = take (readHistory text .end - readHistory text .start) (drop (readHistory text .start) text)
+faultyLine text = bytesAt (readHistory text .place) text

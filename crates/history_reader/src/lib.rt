@@ -1,3 +1,3 @@
-// Reading a history text, and showing the line of an event.
+// Reading a history text, and places in the texts.
+pub mod place;
 pub mod read;
-pub mod show;

@@ -6,6 +6,10 @@ ghost use lib.ListN.{length, take, drop, replicate};
 ghost use Rattle.layout.specs.Split.{split};
 ghost use Rattle.history.specs.Record.{pad, noObject, noEvent};
 ghost use Rattle.history_reader.specs.ReadHistory.{refusal, eventsFrom, objectsFrom, linesFrom, readHistory, faultyLine};
+use crate::place::Place;
+use crate::place::Text;
+use crate::place::faulty_place;
+use crate::place::nowhere;
 use event_reader::next::next_event;
 use history::answer::no_answer;
 use history::object::read_object;
@@ -18,12 +22,10 @@ use history::record::ProcessNo;
 use layout::split::find_from;
 use layout::word::is_word;
 
-// The record and fault 0; or the first fault, the number of its line from 1, and that line from `start` to `end`.
+// The record and fault 0; or the first fault and the place of its line.
 pub struct HistoryRead {
     pub fault: u8,
-    pub line: usize,
-    pub start: usize,
-    pub end: usize,
+    pub place: Place,
     pub history: History,
 }
 
@@ -63,20 +65,10 @@ fn refuse(fault: u8, line: usize, start: usize, end: usize) -> HistoryRead
         events,
         count: 0,
     };
-    if start == end {
-        return HistoryRead {
-            fault,
-            line,
-            start: 0,
-            end: 0,
-            history,
-        };
-    }
+    let place = faulty_place(Text::HistoryText, line, start, end);
     HistoryRead {
         fault,
-        line,
-        start,
-        end,
+        place,
         history,
     }
 }
@@ -115,11 +107,10 @@ fn read_events(
         events,
         count,
     };
+    let place = nowhere();
     HistoryRead {
         fault: 0,
-        line: 0,
-        start: 0,
-        end: 0,
+        place,
         history,
     }
 }
@@ -183,7 +174,7 @@ pub fn faulty_line(text: &[u8]) -> &[u8]
     ensures { λ r. ⌜ now r ≡ faultyLine (now (text .entry)) ⌝ }
 {
     let r = read_history(text);
-    let start = r.start;
-    let end = r.end;
+    let start = r.place.start;
+    let end = r.place.end;
     &text[start..end]
 }

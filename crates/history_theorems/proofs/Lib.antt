@@ -2,6 +2,6 @@ pub mod ObjectRound
 pub mod TextRound
 pub mod TextLength
 pub mod Theorems
-pub mod ShowTheorem
+pub mod EventLineTheorem
 pub mod Guarantees
 pub mod WriteTheorems

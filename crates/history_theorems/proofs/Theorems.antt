@@ -12,6 +12,7 @@ use Rattle.layout.proofs.Cases.{by-bool}
 use Rattle.history.specs.declared.record.History.{History}
 use Rattle.history_reader.specs.declared.read.HistoryRead.{HistoryRead}
 use Rattle.history.specs.Record.{historyOf, objectsIn, eventsIn}
+use Rattle.history_reader.specs.Place.{nowhere}
 use Rattle.history_reader.specs.ReadHistory.{linesFrom, readHistory}
 use Rattle.history.specs.HistoryText.{textOf, historyText}
 use Rattle.history.specs.Readable.{within, Readable}
@@ -58,14 +59,14 @@ within-short h w =
 
 -- written and read back: the same record
 pub written-read : (h : History) → within h ≡ true
-    → readHistory (historyText h) ≡ record { fault = 0; line = 0; start = 0; end = 0; history = h }
+    → readHistory (historyText h) ≡ record { fault = 0; place = nowhere; history = h }
 unfolding historyText
 written-read h w =
     let l = within-limits h w in
     short-lines (historyText h) (within-short h w)
     ∙ text-read (objectsIn h) (eventsIn h) (omega (arith, l .few, l .declared)) (omega (arith, l .all, l .count))
     (l .objects) (l .events)
-    ∙ ap {B = HistoryRead} (λ (x : History). record { fault = 0; line = 0; start = 0; end = 0; history = x }) (sym (l .blank))
+    ∙ ap {B = HistoryRead} (λ (x : History). record { fault = 0; place = nowhere; history = x }) (sym (l .blank))
 
 -- read and written back: the same bytes
 pub read-written : (text : List ℕ) → readHistory text .fault ≡ 0 → historyText (readHistory text .history) ≡ text

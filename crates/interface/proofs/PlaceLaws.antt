@@ -10,8 +10,10 @@ use lib.Seq.{take-suc, take-all, set-append-seam, length-take-le, drop-cons}
 use borrow.Author.Tests.{eq-eqb, ne-eqb}
 use Rattle.certificate.specs.declared.record.Criterion.{Criterion}
 use Rattle.certificate.specs.declared.record.Criterion.the-variants.{Pram, Weak, Causal, Converge, Sequential}
+use Rattle.history_reader.specs.Place.{lineOf}
 use Rattle.criteria.specs.Check.{answerOf}
-use Rattle.faults.specs.Finding.{findingOf, orNone}
+use Rattle.faults.specs.Finding.{findingOf, numberIn}
+use Rattle.faults.proofs.FindingLaws.{number-out}
 use Rattle.checker.specs.declared.check.Checked.{Checked}
 use Rattle.checker.specs.Verdict.{verdictOf}
 use Rattle.checker.specs.WeakenText.{wantedOf}
@@ -50,21 +52,17 @@ module _ (v : Checked) where
   pub answer-checked : v .fault ≡ 0 → answerOf (findingOf (v .finding)) .number ≡ verdictOf v .number
   answer-checked z = rw (eq-eqb (v .fault) 0 z) refl
 
-  pub places-refused : (v .fault ≡ 0 → ⊥)
-      → 4294967295 ∷ textNumber (v .text) ∷ v .line ∷ 4294967295 ∷ 4294967295 ∷ v .start ∷ (v .end - v .start) ∷ [] ≡ placesOf (verdictOf v)
-  places-refused n = rw (ne-eqb (v .fault) 0 n) refl
+  pub places-refused : (v .fault ≡ 0 → ⊥) → (text line : ℕ) → text ≡ textNumber (v .place .text) → numberIn line ≡ lineOf (v .place)
+      → 4294967295 ∷ text ∷ line ∷ 4294967295 ∷ 4294967295 ∷ v .place .start ∷ (v .place .end - v .place .start) ∷ [] ≡ placesOf (verdictOf v)
+  places-refused n text line t l = rw (ne-eqb (v .fault) 0 n, t, number-out line (lineOf (v .place)) l) refl
 
-  pub places-checked : v .fault ≡ 0
-      → criterionNumber (v .criterion) ∷ 0 ∷ 4294967295 ∷ orNone (answerOf (findingOf (v .finding)) .view)
-      ∷ orNone (answerOf (findingOf (v .finding)) .event) ∷ 0 ∷ 0 ∷ []
-      ≡ placesOf (verdictOf v)
-  places-checked z = rw (eq-eqb (v .fault) 0 z) refl
-
-  -- a refusal's places are small where its verdict's are
-  pub refusal-fits : (v .fault ≡ 0 → ⊥)
-      → (orNone (verdictOf v .line) < 4294967296) × (verdictOf v .start ≤ verdictOf v .end) × (verdictOf v .end ≤ 32768)
-      → (v .line < 4294967296) × (v .start ≤ v .end) × (v .end ≤ 32768)
-  refusal-fits n p = rw (ne-eqb (v .fault) 0 n) at p
+  pub places-checked : v .fault ≡ 0 → (criterion text line view event : ℕ) → criterion ≡ criterionNumber (v .criterion)
+      → text ≡ textNumber (v .place .text) → numberIn line ≡ lineOf (v .place) → numberIn view ≡ answerOf (findingOf (v .finding)) .view
+      → numberIn event ≡ answerOf (findingOf (v .finding)) .event
+      → criterion ∷ text ∷ line ∷ view ∷ event ∷ v .place .start ∷ (v .place .end - v .place .start) ∷ [] ≡ placesOf (verdictOf v)
+  places-checked z criterion text line view event c t l w e =
+      let a = answerOf (findingOf (v .finding)) in
+      rw (eq-eqb (v .fault) 0 z, c, t, number-out line (lineOf (v .place)) l, number-out view (a .view) w, number-out event (a .event) e) refl
 
 -- the number of a criterion is the one by which it is wanted
 pub number-wanted : (c : Criterion) → wantedOf (criterionNumber c) ≡ some c

@@ -1,13 +1,14 @@
--- The places of a verdict as numbers: criterion, text, line, view, event, and the faulty line as its start and its length within that
--- text. 4,294,967,295 stands for none.
+-- The places of a verdict as numbers: criterion, text, line, view, event, and the line as its start and its length within that text.
+-- 4,294,967,295 stands for none.
 use Prim.Native.Nat.{ℕ, _-_}
 use mathlib.Core.List.{List, [], _∷_, _++_}
 use mathlib.Core.Option.{Option, none, some}
 use lib.ListN.{length, take, drop}
 use Rattle.certificate.specs.declared.record.Criterion.{Criterion}
 use Rattle.certificate.specs.declared.record.Criterion.the-variants.{Pram, Weak, Causal, Converge, Sequential}
-use Rattle.certificate_reader.specs.declared.read.Text.{Text}
-use Rattle.certificate_reader.specs.declared.read.Text.the-variants.{Neither, HistoryText, CertificateText}
+use Rattle.history_reader.specs.declared.place.Text.{Text}
+use Rattle.history_reader.specs.declared.place.Text.the-variants.{Neither, HistoryText, CertificateText}
+use Rattle.history_reader.specs.Place.{lineOf}
 use Rattle.faults.specs.Finding.{orNone}
 use Rattle.checker.specs.CheckText.{Verdict}
 
@@ -30,8 +31,8 @@ textNumber CertificateText = 2
 
 abbrev pub placesOf : Verdict → List ℕ
 placesOf v =
-    orNone (criterionPlace (v .criterion)) ∷ textNumber (v .text) ∷ orNone (v .line) ∷ orNone (v .view) ∷ orNone (v .event) ∷ v .start
-    ∷ (v .end - v .start) ∷ []
+    orNone (criterionPlace (v .criterion)) ∷ textNumber (v .place .text) ∷ orNone (lineOf (v .place)) ∷ orNone (v .view) ∷ orNone (v .event)
+    ∷ v .place .start ∷ (v .place .end - v .place .start) ∷ []
 
 -- A slice afterwards: filled as far as it goes, in that order, and left alone past it.
 unfoldable pub placed : List ℕ → List ℕ → List ℕ

@@ -1,18 +1,18 @@
 // Checking a certificate text for a history text.
 ghost use mathlib.Core.Path.{_≡_};
-ghost use Prim.Native.Nat.{_≤_, _<_};
+ghost use Prim.Native.Nat.{_≤_};
 ghost use lib.ListN.{length};
-ghost use Rattle.faults.specs.Finding.{orNone};
 ghost use Rattle.checker.specs.CheckText.{checkText};
 ghost use Rattle.checker.specs.Verdict.{verdictOf};
 ghost use Rattle.interface.specs.Places.{criterionNumber, textNumber, placesOf, placed};
 use certificate::record::Criterion;
-use certificate_reader::read::Text;
 use checker::check::Checked;
 use checker::check::check;
+use checker::place::line_of;
 use faults::finding::event_of;
 use faults::finding::number_of;
 use faults::finding::view_of;
+use history_reader::place::Text;
 
 // The number of a criterion, as in the criterion wanted of a weakening.
 fn criterion_number(c: Criterion) -> u32
@@ -50,18 +50,19 @@ pub(crate) fn answer_number(v: Checked) -> u32
     number_of(finding)
 }
 
-// The places of the answer: criterion, text, line, view, event, and the start and the length of the faulty line.
+// The places of the answer: criterion, text, line, view, event, and the start and the length of the line.
 fn places_of(v: Checked) -> [u32; 7]
-    requires { ⌜ (orNone (verdictOf v .line) < 4294967296) × (verdictOf v .start ≤ verdictOf v .end) × (verdictOf v .end ≤ 32768) ⌝ }
+    requires { ⌜ (v .place .line ≤ 4294967294) × (v .place .start ≤ v .place .end) × (v .place .end ≤ 32768) ⌝ }
     ensures { λ r. ⌜ r ≡ placesOf (verdictOf v) ⌝ }
 {
+    let place = v.place;
+    let which = place.text;
+    let text = text_number(which);
+    let line = line_of(place);
+    let start = place.start as u32;
+    let length = (place.end - place.start) as u32;
     let fault = v.fault;
     if fault != 0 {
-        let which = v.text;
-        let text = text_number(which);
-        let line = v.line as u32;
-        let start = v.start as u32;
-        let length = (v.end - v.start) as u32;
         return [
             4294967295,
             text,
@@ -77,7 +78,7 @@ fn places_of(v: Checked) -> [u32; 7]
     let finding = v.finding;
     let view = view_of(finding);
     let event = event_of(finding);
-    [criterion, 0, 4294967295, view, event, 0, 0]
+    [criterion, text, line, view, event, start, length]
 }
 
 // Puts the places into a lent slice as far as it goes, and leaves alone what is past them.

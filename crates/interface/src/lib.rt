@@ -1,5 +1,4 @@
 // The C interface: functions that a C program calls by name. include/walnutgleam.h declares them.
 pub mod check;
 pub mod rewrite;
-pub mod show;
 pub mod weaken;

@@ -14,10 +14,11 @@ use Rattle.history.specs.Record.{pad}
 use Rattle.certificate.specs.declared.record.Criterion.{Criterion}
 use Rattle.certificate.specs.declared.record.Criterion.the-variants.{Pram, Weak, Causal, Converge, Sequential}
 use Rattle.certificate.specs.Criteria.{wordOf}
-use Rattle.certificate_reader.specs.declared.read.Text.{Text}
-use Rattle.certificate_reader.specs.declared.read.Text.the-variants.{Neither, HistoryText, CertificateText}
+use Rattle.history_reader.specs.declared.place.Text.{Text}
+use Rattle.history_reader.specs.declared.place.Text.the-variants.{Neither, HistoryText, CertificateText}
+use Rattle.history_reader.specs.Place.{lineOf}
 use Rattle.criteria.specs.Check.{answerOf}
-use Rattle.faults.specs.Finding.{findingOf, orNone}
+use Rattle.faults.specs.Finding.{findingOf}
 use Rattle.checker.specs.declared.check.Checked.{Checked}
 use Rattle.checker.specs.CheckText.{Verdict}
 use Rattle.checker.specs.Verdict.{verdictOf}
@@ -92,8 +93,8 @@ six-are a b c d e f =
 pub fields-are : (v : Verdict) → piecesText (map fieldText (fieldsOf v)) ≡ values v
 unfolding fieldsOf values
 fields-are v =
-    rw (criterion-is (v .criterion), number-is (v .line), number-is (v .view), number-is (v .event))
-    (six-are (spell (v .number)) (criterionWord (v .criterion)) (textWord (v .text)) (numberWord (v .line)) (numberWord (v .view))
+    rw (criterion-is (v .criterion), number-is (lineOf (v .place)), number-is (v .view), number-is (v .event))
+    (six-are (spell (v .number)) (criterionWord (v .criterion)) (textWord (v .place .text)) (numberWord (lineOf (v .place))) (numberWord (v .view))
     (numberWord (v .event)))
 
 pub printed-is : (v : Verdict) (fields : List Field) → fields ≡ fieldsOf v → printed v ≡ names ++ piecesText (map fieldText fields)
@@ -101,32 +102,28 @@ unfolding printed
 printed-is v fields e = ap (λ (l : List ℕ). names ++ l) (sym (ap (λ (l : List Field). piecesText (map fieldText l)) e ∙ fields-are v))
 
 -- ---- the fields that the code makes are those of the verdict, and they are short
-module _ (v : Checked) where
+module _ (v : Checked) (line : Field) (el : line ≡ numberField (lineOf (v .place))) (ll : length (fieldText line) ≤ 11) where
   pub found-fields : v .fault ≡ 0 → (n : ℕ) → n ≡ answerOf (findingOf (v .finding)) .number → n < 4294967296
       → (view : Field) → view ≡ numberField (answerOf (findingOf (v .finding)) .view) → length (fieldText view) ≤ 11
       → (event : Field) → event ≡ numberField (answerOf (findingOf (v .finding)) .event) → length (fieldText event) ≤ 11
-      → (Number n ∷ CriterionWord (v .criterion) ∷ TextWord Neither ∷ Dash ∷ view ∷ event ∷ [] ≡ fieldsOf (verdictOf v))
-      × (length (piecesText (map fieldText (Number n ∷ CriterionWord (v .criterion) ∷ TextWord Neither ∷ Dash ∷ view ∷ event ∷ []))) ≤ 90)
+      → (Number n ∷ CriterionWord (v .criterion) ∷ TextWord (v .place .text) ∷ line ∷ view ∷ event ∷ [] ≡ fieldsOf (verdictOf v))
+      × (length (piecesText (map fieldText (Number n ∷ CriterionWord (v .criterion) ∷ TextWord (v .place .text) ∷ line ∷ view ∷ event ∷ []))) ≤ 90)
   unfolding fieldsOf
   found-fields z n en ln view ev lv event ee le = (
-    rw (eq-eqb (v .fault) 0 z, en, ev, ee),
-    six-long (spell n) (wordOf (v .criterion)) (textWord Neither) (fieldText Dash) (fieldText view) (fieldText event)
-        (number-short n ln) (criterion-short (v .criterion)) (text-short Neither) (omega arith) lv le,
+    rw (eq-eqb (v .fault) 0 z, en, ev, ee, el),
+    six-long (spell n) (wordOf (v .criterion)) (textWord (v .place .text)) (fieldText line) (fieldText view) (fieldText event)
+        (number-short n ln) (criterion-short (v .criterion)) (text-short (v .place .text)) ll lv le,
   )
 
-  module _ (z : v .fault ≡ 0 → ⊥) (few : orNone (verdictOf v .line) < 4294967296) where
-    pub line-fits : v .line < 4294967296
-    line-fits = rw (ne-eqb (v .fault) 0 z) at few
-
-    pub refused-fields : v .fault < 4294967296
-        → (Number (v .fault) ∷ Dash ∷ TextWord (v .text) ∷ Number (v .line) ∷ Dash ∷ Dash ∷ [] ≡ fieldsOf (verdictOf v))
-        × (length (piecesText (map fieldText (Number (v .fault) ∷ Dash ∷ TextWord (v .text) ∷ Number (v .line) ∷ Dash ∷ Dash ∷ []))) ≤ 90)
-    unfolding fieldsOf
-    refused-fields small = (
-      rw (ne-eqb (v .fault) 0 z),
-      six-long (spell (v .fault)) (fieldText Dash) (textWord (v .text)) (spell (v .line)) (fieldText Dash) (fieldText Dash)
-          (number-short (v .fault) small) (omega arith) (text-short (v .text)) (number-short (v .line) line-fits) (omega arith) (omega arith),
-    )
+  pub refused-fields : (v .fault ≡ 0 → ⊥) → v .fault < 4294967296
+      → (Number (v .fault) ∷ Dash ∷ TextWord (v .place .text) ∷ line ∷ Dash ∷ Dash ∷ [] ≡ fieldsOf (verdictOf v))
+      × (length (piecesText (map fieldText (Number (v .fault) ∷ Dash ∷ TextWord (v .place .text) ∷ line ∷ Dash ∷ Dash ∷ []))) ≤ 90)
+  unfolding fieldsOf
+  refused-fields z small = (
+    rw (ne-eqb (v .fault) 0 z, el),
+    six-long (spell (v .fault)) (fieldText Dash) (textWord (v .place .text)) (fieldText line) (fieldText Dash) (fieldText Dash)
+        (number-short (v .fault) small) (omega arith) (text-short (v .place .text)) ll (omega arith) (omega arith),
+  )
 
 -- ---- the lines in an array of zeros
 drop-zeros : (n k : ℕ) → drop {A = ℕ} n (replicate k 0) ≡ replicate (k - n) 0

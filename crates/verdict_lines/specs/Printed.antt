@@ -9,8 +9,9 @@ use Rattle.layout.specs.Number.{spell}
 use Rattle.history.specs.Record.{pad}
 use Rattle.certificate.specs.declared.record.Criterion.{Criterion}
 use Rattle.certificate.specs.Criteria.{wordOf}
-use Rattle.certificate_reader.specs.declared.read.Text.{Text}
-use Rattle.certificate_reader.specs.declared.read.Text.the-variants.{Neither, HistoryText, CertificateText}
+use Rattle.history_reader.specs.declared.place.Text.{Text}
+use Rattle.history_reader.specs.declared.place.Text.the-variants.{Neither, HistoryText, CertificateText}
+use Rattle.history_reader.specs.Place.{lineOf}
 use Rattle.checker.specs.CheckText.{Verdict}
 use Rattle.verdict_lines.specs.declared.print.Printed.{Printed}
 
@@ -36,7 +37,7 @@ numberWord (some n) = spell n
 
 unfoldable pub values : Verdict → List ℕ
 values v =
-    spell (v .number) ++ 32 ∷ criterionWord (v .criterion) ++ 32 ∷ textWord (v .text) ++ 32 ∷ numberWord (v .line) ++ 32
+    spell (v .number) ++ 32 ∷ criterionWord (v .criterion) ++ 32 ∷ textWord (v .place .text) ++ 32 ∷ numberWord (lineOf (v .place)) ++ 32
     ∷ numberWord (v .view) ++ 32 ∷ numberWord (v .event) ++ 10 ∷ []
 
 unfoldable pub printed : Verdict → List ℕ

@@ -6,6 +6,7 @@ use Rattle.layout.specs.Word.{dash}
 use Rattle.layout.specs.Number.{spell}
 use Rattle.certificate.specs.declared.record.Criterion.{Criterion}
 use Rattle.certificate.specs.Criteria.{wordOf}
+use Rattle.history_reader.specs.Place.{lineOf}
 use Rattle.checker.specs.CheckText.{Verdict}
 use Rattle.verdict_lines.specs.declared.line.Field.{Field}
 use Rattle.verdict_lines.specs.declared.line.Field.the-variants.{Dash, Number, CriterionWord, TextWord}
@@ -29,4 +30,4 @@ criterionField (some c) = CriterionWord c
 -- The six fields of a verdict.
 unfoldable pub fieldsOf : Verdict → List Field
 fieldsOf v =
-    Number (v .number) ∷ criterionField (v .criterion) ∷ TextWord (v .text) ∷ numberField (v .line) ∷ numberField (v .view) ∷ numberField (v .event) ∷ []
+    Number (v .number) ∷ criterionField (v .criterion) ∷ TextWord (v .place .text) ∷ numberField (lineOf (v .place)) ∷ numberField (v .view) ∷ numberField (v .event) ∷ []

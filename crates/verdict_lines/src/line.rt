@@ -1,21 +1,22 @@
 // Writing the two lines of a verdict.
 ghost use mathlib.Core.Path.{_≡_};
-ghost use Prim.Native.Nat.{_≤_, _<_};
+ghost use Prim.Native.Nat.{_≤_};
 ghost use mathlib.Core.List.{[], _∷_, _++_, map};
 ghost use lib.ListN.{length};
 ghost use Rattle.layout.specs.Fill.{fill};
-ghost use Rattle.criteria.specs.Check.{answerOf};
-ghost use Rattle.faults.specs.Finding.{findingOf, orNone};
+ghost use Rattle.faults.specs.Finding.{numberIn};
 ghost use Rattle.certificate.specs.Criteria.{wordOf};
 ghost use Rattle.checker.specs.Verdict.{verdictOf};
 ghost use Rattle.verdict_lines.specs.Printed.{textWord, printed};
 ghost use Rattle.layout.specs.Steps.Line.{piecesText};
 ghost use Rattle.verdict_lines.specs.Steps.{fieldText, numberField, fieldsOf};
 use certificate::record::Criterion;
-use certificate_reader::read::Text;
 use checker::check::Checked;
-use faults::finding::Finding;
+use checker::place::line_of;
+use faults::finding::event_of;
 use faults::finding::number_of;
+use faults::finding::view_of;
+use history_reader::place::Text;
 use layout::fill::put_bytes;
 use layout::line::byte_behind;
 use layout::number::put_number;
@@ -92,64 +93,45 @@ fn put_values(part: &mut [u8], fields: [Field; 6]) -> usize
     at
 }
 
-// The view that an answer carries, or a dash.
-fn view_field(finding: Finding) -> Field
-    ensures { λ r. ⌜ (r ≡ numberField (answerOf (findingOf finding) .view)) × (length (fieldText r) ≤ 11) ⌝ }
+// A number, or a dash where it is missing.
+fn number_or_dash(n: u32) -> Field
+    ensures { λ r. ⌜ (r ≡ numberField (numberIn n)) × (length (fieldText r) ≤ 11) ⌝ }
 {
-    match finding {
-        Finding::Nothing => Field::Dash,
-        Finding::LacksOwn(_) => Field::Dash,
-        Finding::InOwnPast(_) => Field::Dash,
-        Finding::LacksPast(_) => Field::Dash,
-        Finding::NotItsSet(v) => Field::Number(v as u32),
-        Finding::Against(v) => Field::Number(v as u32),
-        Finding::Wrong(v, _) => Field::Number(v as u32),
+    if n == 4294967295 {
+        return Field::Dash;
     }
-}
-
-// The event that an answer carries, or a dash.
-fn event_field(finding: Finding) -> Field
-    ensures { λ r. ⌜ (r ≡ numberField (answerOf (findingOf finding) .event)) × (length (fieldText r) ≤ 11) ⌝ }
-{
-    match finding {
-        Finding::Nothing => Field::Dash,
-        Finding::LacksOwn(e) => Field::Number(e.0 as u32),
-        Finding::InOwnPast(e) => Field::Number(e.0 as u32),
-        Finding::LacksPast(e) => Field::Number(e.0 as u32),
-        Finding::NotItsSet(_) => Field::Dash,
-        Finding::Against(_) => Field::Dash,
-        Finding::Wrong(_, e) => Field::Number(e.0 as u32),
-    }
+    Field::Number(n)
 }
 
 // The six fields of a verdict.
 fn fields_of(v: Checked) -> [Field; 6]
-    requires { ⌜ orNone (verdictOf v .line) < 4294967296 ⌝ }
+    requires { ⌜ v .place .line ≤ 4294967294 ⌝ }
     ensures { λ r. ⌜ (r ≡ fieldsOf (verdictOf v)) × (length (piecesText (map fieldText r)) ≤ 90) ⌝ }
 {
+    let place = v.place;
+    let text = place.text;
+    let line = number_or_dash(line_of(place));
     let fault = v.fault;
     if fault == 0 {
         let criterion = v.criterion;
         let finding = v.finding;
         let number = number_of(finding);
-        let view = view_field(finding);
-        let event = event_field(finding);
+        let view = number_or_dash(view_of(finding));
+        let event = number_or_dash(event_of(finding));
         return [
             Field::Number(number),
             Field::CriterionWord(criterion),
-            Field::TextWord(Text::Neither),
-            Field::Dash,
+            Field::TextWord(text),
+            line,
             view,
             event,
         ];
     }
-    let text = v.text;
-    let line = v.line;
     [
         Field::Number(fault as u32),
         Field::Dash,
         Field::TextWord(text),
-        Field::Number(line as u32),
+        line,
         Field::Dash,
         Field::Dash,
     ]
@@ -157,7 +139,7 @@ fn fields_of(v: Checked) -> [Field; 6]
 
 // Writes the line of names and the line of values.
 pub(crate) fn put_verdict(buf: &mut [u8], v: Checked) -> usize
-    requires { ⌜ (128 ≤ length (now buf)) × (orNone (verdictOf v .line) < 4294967296) ⌝ }
+    requires { ⌜ (128 ≤ length (now buf)) × (v .place .line ≤ 4294967294) ⌝ }
     ensures { λ r. ⌜ (r ≡ length (printed (verdictOf v))) × (now (buf .exit) ≡ fill (printed (verdictOf v)) (now (buf .entry))) × (r ≤ 128) ⌝ }
 {
     let fields = fields_of(v);

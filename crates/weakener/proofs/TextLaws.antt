@@ -10,22 +10,22 @@ use borrow.Author.Tests.{eq-eqb, ne-eqb}
 use Rattle.layout.proofs.Cases.{by-eq}
 use Rattle.history.specs.declared.record.History.{History}
 use Rattle.history.specs.Record.{eventsIn}
+use Rattle.history_reader.specs.ReadHistory.{readHistory}
 use Rattle.certificate.specs.declared.record.Criterion.{Criterion}
 use Rattle.certificate.specs.declared.record.Certificate.{Certificate}
 use Rattle.certificate.specs.Record.{noRow}
 use Rattle.certificate_reader.specs.declared.read.CertificateRead.{CertificateRead}
 use Rattle.certificate_reader.specs.ReadCertificate.{readCertificate, rowsRead}
-use Rattle.criteria.specs.Check.{Fault, fault11, fault12, fault13, fault14, fault15, fault16, answerOf, check}
+use Rattle.criteria.specs.Check.{Fault, check}
 use Rattle.criteria.specs.Weaken.{weakened}
 use Rattle.criteria.specs.Records.{historyOf, certificateOf}
-use Rattle.faults.specs.declared.finding.Finding.the-variants.{Nothing}
-use Rattle.checker.specs.CheckText.{Verdict, refused, checked, historyRead, certificateRead, checkText}
+use Rattle.checker.specs.CheckText.{Verdict, refused, foundIn, historyRead, certificateRead, checkText}
 use Rattle.checker.specs.WeakenText.{textIfSome, weakenedText, wantedOf, weakenedWanted, plain, pairAnswer, weakenAnswer, weakenLength, weakenBytes}
 use Rattle.checker.proofs.TextTheorems.{checked-as}
-use Rattle.checker.proofs.VerdictLaws.{refusal, refused-back, no-fault, of-texts, checked-read}
+use Rattle.checker.proofs.VerdictLaws.{refusal, checked-back, refused-back, no-fault, of-texts, checked-read}
 use Rattle.weakener.specs.declared.weaken.Weakened.{Weakened}
 use Rattle.weakener.specs.Weakening.{weakeningOf, weakenedOf, IsPair}
-use Rattle.weakener.proofs.WeakenLaws.{answered, pair-refused}
+use Rattle.weakener.proofs.WeakenLaws.{answered, no-refusal, pair-refused}
 
 -- an answer and the buffer are those of the texts
 abbrev pub Weakens : List ℕ → List ℕ → ℕ → List ℕ → Weakened → List ℕ → Type 0
@@ -68,18 +68,19 @@ module _ (history text : List ℕ) (wanted : ℕ) (buffer : List ℕ) (r : Certi
         (λ (h : History) (c : Certificate) (l : List (List ℕ)). textIfSome (eventsIn h) (weakened w (historyOf h) (certificateOf h c l)))
 
     -- a number that is no criterion's
-    pub weakening-none : none ≡ wantedOf wanted → (k : Weakened) → k ≡ answered (r .certificate .criterion) Nothing 17 0
+    pub weakening-none : none ≡ wantedOf wanted → (k : Weakened) → k ≡ answered (r .certificate .criterion) 17 0
         → Weakens history text wanted buffer k buffer
     weakening-none q k e =
         weakening-read k buffer
         (subst (λ (o : Option Criterion). IsPair (checkText history text) (certificateRead history text .criterion) (weakenedWanted history text o) buffer k buffer) q
         (subst (λ (x : Weakened). IsPair (checkText history text) (certificateRead history text .criterion) none buffer x buffer)
-        (sym (e ∙ ap (λ (c : Criterion). answered c Nothing 17 0) criterion-read))
+        (sym (e ∙ ap (λ (c : Criterion). answered c 17 0) criterion-read))
         (pair-refused (checkText history text) (certificateRead history text .criterion) none buffer refl)))
 
     -- a criterion
     pub weakening-named : (w : Criterion) → some w ≡ wantedOf wanted → (k : Weakened) (then : List ℕ)
-        → IsPair (checked (r .certificate .criterion) (answerOf (check (historyOf (r .history)) (certificateOf (r .history) (r .certificate) rows))))
+        → IsPair (foundIn history (r .history .declared) (r .certificate .criterion)
+        (check (historyOf (r .history)) (certificateOf (r .history) (r .certificate) rows)))
         (r .certificate .criterion)
         (textIfSome (eventsIn (r .history)) (weakened w (historyOf (r .history)) (certificateOf (r .history) (r .certificate) rows))) buffer k then
         → Weakens history text wanted buffer k then
@@ -98,14 +99,8 @@ module _ (history text : List ℕ) (long : ℕ) where
   abbrev Back : Verdict → Type 0
   Back v = weakeningOf (weakenedOf v long) ≡ v
 
-  check-back : (c : Criterion) (x : Option Fault) → Back (checked c (answerOf x))
-  check-back c none = refl
-  check-back c (some (fault11 e)) = refl
-  check-back c (some (fault12 e)) = refl
-  check-back c (some (fault13 e)) = refl
-  check-back c (some (fault14 v)) = refl
-  check-back c (some (fault15 v)) = refl
-  check-back c (some (fault16 v e)) = refl
+  check-back : (declared : ℕ) (c : Criterion) (x : Option Fault) → Back (foundIn history declared c x)
+  check-back declared c x = rw (no-refusal c x) (checked-back history declared c x)
 
   test-back : (t : Bool) (v w : Verdict) → Back v → Back w → Back (cond t v w)
   test-back true v w p q = p
@@ -124,6 +119,6 @@ module _ (history text : List ℕ) (long : ℕ) where
       (λ z. rw (eq-eqb (readCertificate history text .fault) 0 z)
       (pair-back (checkText history text)
       (subst Back (sym (checked-as history text z))
-      (check-back (certificateRead history text .criterion) (check (historyRead history) (certificateRead history text))))
+      (check-back (readHistory history .history .declared) (certificateRead history text .criterion) (check (historyRead history) (certificateRead history text))))
       (certificateRead history text .criterion) (weakenedWanted history text (wantedOf wanted)) buffer))
       (λ n. rw (ne-eqb (readCertificate history text .fault) 0 n) (refused-back (readCertificate history text) n))

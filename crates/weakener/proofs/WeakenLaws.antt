@@ -13,6 +13,7 @@ use Rattle.history.specs.declared.record.History as written-history
 use Rattle.history.specs.declared.record.Event.{Event}
 use Rattle.history.specs.Record.{eventsIn}
 use Rattle.history.specs.Readable.{within}
+use Rattle.history_reader.specs.Place.{nowhere}
 use Rattle.certificate.specs.declared.record.Criterion.{Criterion}
 use Rattle.certificate.specs.declared.record.Certificate as written-certificate
 use Rattle.certificate.specs.Record as text-record
@@ -27,16 +28,16 @@ use Rattle.criteria.specs.Records.{historyOf, certificateOf}
 use Rattle.criteria.proofs.RecordLaws.{readable}
 use Rattle.criteria.proofs.Weaken.{isSome, weaken-accepted, pair-weakened}
 use Rattle.faults.specs.declared.finding.Finding.{Finding}
-use Rattle.faults.specs.declared.finding.Finding.the-variants.{Nothing, LacksOwn, InOwnPast, LacksPast, NotItsSet, Against, Wrong}
+use Rattle.faults.specs.declared.finding.Finding.the-variants.{Nothing}
 use Rattle.faults.specs.Finding.{findingOf, isFound}
-use Rattle.checker.specs.CheckText.{Verdict, checked}
+use Rattle.checker.specs.CheckText.{Verdict, checked, foundIn}
+use Rattle.checker.specs.Verdict.{checkedOf}
 use Rattle.checker.specs.WeakenText.{textOfLists, textIfSome, wantedOf}
 use Rattle.checker.proofs.ListTexts.{lists-fit, text-lists}
-use Rattle.checker.proofs.VerdictLaws.{found}
 use Rattle.weakener.proofs.PassedLaws.{few-events, readable-passed}
 use Rattle.weakener.specs.declared.weaken.Weakened.{Weakened}
 use Rattle.weakener.specs.Steps.{Passed, IsRecordOf}
-use Rattle.weakener.specs.Weakening.{weakenedOf, IsPair}
+use Rattle.weakener.specs.Weakening.{refusalBy, weakenedOf, IsPair}
 
 -- ---- the criterion wanted
 pub wanted-none : (n : ℕ) → (n ≡ 0 → ⊥) → (n ≡ 1 → ⊥) → (n ≡ 2 → ⊥) → (n ≡ 3 → ⊥) → (n ≡ 4 → ⊥) → none ≡ wantedOf n
@@ -48,20 +49,30 @@ wanted-none (suc (suc (suc (suc zero)))) a b c d e = absurd (e refl)
 wanted-none (suc (suc (suc (suc (suc n))))) a b c d e = refl
 
 -- ---- the answers
--- what the code answers of texts that were read
-abbrev pub answered : Criterion → Finding → ℕ → ℕ → Weakened
-answered c f refusal long =
-    record { checked = found c f; refusal = refusal; length = long }
+-- what the code answers of texts that were read: with 17, 18 or 0, and with what was found
+abbrev pub answered : Criterion → ℕ → ℕ → Weakened
+answered c refusal long =
+    record { checked = record { fault = 0; place = nowhere; criterion = c; finding = Nothing }; refusal = refusal; length = long }
 
--- the verdict of a finding tells the answer back
-answered-back : (c : Criterion) (f : Finding) → answered c f 0 0 ≡ weakenedOf (checked c (answerOf (findingOf f))) 0
-answered-back c Nothing = refl
-answered-back c (LacksOwn e) = refl
-answered-back c (InOwnPast e) = refl
-answered-back c (LacksPast e) = refl
-answered-back c (NotItsSet v) = refl
-answered-back c (Against v) = refl
-answered-back c (Wrong v e) = refl
+abbrev pub faulty : List ℕ → ℕ → Criterion → Finding → Weakened
+faulty history declared c f =
+    record { checked = checkedOf (foundIn history declared c (findingOf f)); refusal = 0; length = 0 }
+
+-- 17 and 18 are no faults of the check
+pub no-refusal : (c : Criterion) (x : Option Fault) → refusalBy (some c) (answerOf x .number) ≡ 0
+no-refusal c none = refl
+no-refusal c (some (fault11 e)) = refl
+no-refusal c (some (fault12 e)) = refl
+no-refusal c (some (fault13 e)) = refl
+no-refusal c (some (fault14 v)) = refl
+no-refusal c (some (fault15 v)) = refl
+no-refusal c (some (fault16 v e)) = refl
+
+-- what was found, as an answer of the code
+faulty-back : (history : List ℕ) (declared : ℕ) (c : Criterion) (f : Finding)
+    → faulty history declared c f ≡ weakenedOf (foundIn history declared c (findingOf f)) 0
+faulty-back history declared c f =
+    ap (λ (n : ℕ). record { checked = checkedOf (foundIn history declared c (findingOf f)); refusal = n; length = 0 }) (sym (no-refusal c (findingOf f)))
 
 -- a fault is no acceptance
 found-number : (x : Option Fault) → isFound x ≡ true → answerOf x .number ≡ 0 → ⊥
@@ -75,30 +86,30 @@ found-number (some (fault16 v e)) q z = omega arith
 
 module _ (v : Verdict) (c : Criterion) (o : Option (List ℕ)) (buffer : List ℕ) where
   -- 17
-  pub pair-refused : o ≡ none → IsPair v c o buffer (answered c Nothing 17 0) buffer
+  pub pair-refused : o ≡ none → IsPair v c o buffer (answered c 17 0) buffer
   pair-refused q = record {
     whole = rw q refl;
     bytes = rw q refl;
   }
 
   -- 11 to 16
-  pub pair-found : (t : List ℕ) (f : Finding) → o ≡ some t → v ≡ checked c (answerOf (findingOf f)) → isFound (findingOf f) ≡ true
-      → IsPair v c o buffer (answered c f 0 0) buffer
-  pair-found t f q e found =
+  pub pair-found : (history : List ℕ) (declared : ℕ) (t : List ℕ) (f : Finding) → o ≡ some t → v ≡ foundIn history declared c (findingOf f)
+      → isFound (findingOf f) ≡ true → IsPair v c o buffer (faulty history declared c f) buffer
+  pair-found history declared t f q e found =
       let n = ne-eqb (answerOf (findingOf f) .number) 0 (found-number (findingOf f) found) in
       record {
-        whole = rw (q, e, n, n) (answered-back c f);
+        whole = rw (q, e, n, n) (faulty-back history declared c f);
         bytes = rw (q, e, n, n) refl;
       }
 
   -- 18, or the text
-  pub pair-written : (t : List ℕ) (w : CertificateWritten) (then : List ℕ) → o ≡ some t → v ≡ checked c (answerOf none)
+  pub pair-written : (t : List ℕ) (w : CertificateWritten) (then : List ℕ) → o ≡ some t → v ≡ checked nowhere c (answerOf none)
       → w ≡ cond (leb (length t) (length buffer)) record { number = 0; length = length t } record { number = 18; length = 0 }
-      → then ≡ after t buffer → IsPair v c o buffer (answered c Nothing (w .number) (w .length)) then
+      → then ≡ after t buffer → IsPair v c o buffer (answered c (w .number) (w .length)) then
   unfolding after
   pair-written t w then q e p b = go (leb (length t) (length buffer)) refl
     where
-      go : (room : Bool) → leb (length t) (length buffer) ≡ room → IsPair v c o buffer (answered c Nothing (w .number) (w .length)) then
+      go : (room : Bool) → leb (length t) (length buffer) ≡ room → IsPair v c o buffer (answered c (w .number) (w .length)) then
       go true r = record {
         whole = rw (p, q, e, r) refl;
         bytes = b ∙ rw (q, e, r) refl;
@@ -122,18 +133,18 @@ some-pair : (es : List Event) (o : Option Certificate) → isSome o ≡ true →
 some-pair es none e = absurd (false≢true e)
 some-pair es (some d) e = (textOfLists es d, refl)
 
-module _ (h : written-history.History) (c : written-certificate.Certificate) (rows : List (List ℕ)) (w : Criterion) where
+module _ (history : List ℕ) (h : written-history.History) (c : written-certificate.Certificate) (rows : List (List ℕ)) (w : Criterion) where
   -- a fault of the check comes before 18
   pub pair-faulty : isPair (c .criterion) w ≡ true → (f : Finding) → findingOf f ≡ check (historyOf h) (certificateOf h c rows)
       → isFound (findingOf f) ≡ true → (buffer : List ℕ)
-      → IsPair (checked (c .criterion) (answerOf (check (historyOf h) (certificateOf h c rows)))) (c .criterion)
-      (textIfSome (eventsIn h) (weakened w (historyOf h) (certificateOf h c rows))) buffer (answered (c .criterion) f 0 0) buffer
+      → IsPair (foundIn history (h .declared) (c .criterion) (check (historyOf h) (certificateOf h c rows))) (c .criterion)
+      (textIfSome (eventsIn h) (weakened w (historyOf h) (certificateOf h c rows))) buffer (faulty history (h .declared) (c .criterion) f) buffer
   unfolding certificateOf
   pair-faulty pair f q found buffer =
       let t = some-pair (eventsIn h) (weakened w (historyOf h) (certificateOf h c rows)) (pair-weakened w (historyOf h) (certificateOf h c rows) ∙ pair) in
-      pair-found (checked (c .criterion) (answerOf (check (historyOf h) (certificateOf h c rows)))) (c .criterion)
-      (textIfSome (eventsIn h) (weakened w (historyOf h) (certificateOf h c rows))) buffer (t .0) f (t .1)
-      (ap (λ (x : Option Fault). checked (c .criterion) (answerOf x)) (sym q)) found
+      pair-found (foundIn history (h .declared) (c .criterion) (check (historyOf h) (certificateOf h c rows))) (c .criterion)
+      (textIfSome (eventsIn h) (weakened w (historyOf h) (certificateOf h c rows))) buffer history (h .declared) (t .0) f (t .1)
+      (ap (foundIn history (h .declared) (c .criterion)) (sym q)) found
 
 -- what the writer answers of a record within its limits
 module _ (h : written-history.History) (c : written-certificate.Certificate) (rows : List (List ℕ)) (w : within h ≡ true) (f : fits (eventsIn h) c rows ≡ true)
@@ -147,30 +158,30 @@ module _ (h : written-history.History) (c : written-certificate.Certificate) (ro
   unfolding certificateAfter
   after-text = rw (w, f, says) refl
 
-module _ (h : written-history.History) (c : written-certificate.Certificate) (rows : List (List ℕ)) (w : Criterion) (p : Passed h c rows) where
+module _ (history : List ℕ) (h : written-history.History) (c : written-certificate.Certificate) (rows : List (List ℕ)) (w : Criterion) (p : Passed h c rows) where
   -- the record of the weakened lists, written
   pub pair-weakens : isPair (c .criterion) w ≡ true → (r : written-certificate.Certificate) (made : List (List ℕ))
       → IsRecordOf (weakened w (historyOf h) (certificateOf h c rows)) r made
       → (buffer : List ℕ) (wr : CertificateWritten) (then : List ℕ) → wr ≡ certificateWritten h r made buffer → then ≡ certificateAfter h r made buffer
-      → IsPair (checked (c .criterion) (answerOf (check (historyOf h) (certificateOf h c rows)))) (c .criterion)
+      → IsPair (foundIn history (h .declared) (c .criterion) (check (historyOf h) (certificateOf h c rows))) (c .criterion)
       (textIfSome (eventsIn h) (weakened w (historyOf h) (certificateOf h c rows))) buffer
-      (answered (c .criterion) Nothing (wr .number) (wr .length)) then
+      (answered (c .criterion) (wr .number) (wr .length)) then
   unfolding certificateOf
   pair-weakens pair r made is buffer wr then q b = go (weakened w (historyOf h) (certificateOf h c rows)) refl
     where
       go : (o : Option Certificate) → weakened w (historyOf h) (certificateOf h c rows) ≡ o
-          → IsPair (checked (c .criterion) (answerOf (check (historyOf h) (certificateOf h c rows)))) (c .criterion)
+          → IsPair (foundIn history (h .declared) (c .criterion) (check (historyOf h) (certificateOf h c rows))) (c .criterion)
           (textIfSome (eventsIn h) (weakened w (historyOf h) (certificateOf h c rows))) buffer
-          (answered (c .criterion) Nothing (wr .number) (wr .length)) then
+          (answered (c .criterion) (wr .number) (wr .length)) then
       go none e = absurd (false≢true (sym (ap isSome e) ∙ pair-weakened w (historyOf h) (certificateOf h c rows) ∙ pair))
       go (some d) e =
           let a = weaken-accepted (historyOf h) w (certificateOf h c rows) d (readable-passed h c rows p) (p .passes) e in
           let fit = lists-fit h (few-events h c rows p) d (a .readable) in
           let says = text-lists h (few-events h c rows p) d (a .readable) in
           let same = subst (λ (o : Option Certificate). IsRecordOf o r made) e is in
-          pair-written (checked (c .criterion) (answerOf (check (historyOf h) (certificateOf h c rows)))) (c .criterion)
+          pair-written (foundIn history (h .declared) (c .criterion) (check (historyOf h) (certificateOf h c rows))) (c .criterion)
           (textIfSome (eventsIn h) (weakened w (historyOf h) (certificateOf h c rows))) buffer (textOfLists (eventsIn h) d) wr then
-          (ap (textIfSome (eventsIn h)) e) (ap (λ (x : Option Fault). checked (c .criterion) (answerOf x)) (p .passes))
+          (ap (textIfSome (eventsIn h)) e) (ap (foundIn history (h .declared) (c .criterion)) (p .passes))
           (q ∙ ap₂ (λ (x : written-certificate.Certificate) (l : List (List ℕ)). certificateWritten h x l buffer) (same .0) (same .1)
           ∙ written-text h _ _ (p .history) fit (textOfLists (eventsIn h) d) says buffer)
           (b ∙ ap₂ (λ (x : written-certificate.Certificate) (l : List (List ℕ)). certificateAfter h x l buffer) (same .0) (same .1)

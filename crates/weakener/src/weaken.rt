@@ -5,24 +5,26 @@ ghost use Rattle.history.specs.Record.{eventsIn};
 ghost use Rattle.history.specs.Readable.{within};
 ghost use Rattle.certificate.specs.declared.record.Criterion.the-variants.{Pram, Weak, Causal, Converge};
 ghost use Rattle.certificate.specs.Readable.{fits};
-ghost use Rattle.certificate_reader.specs.declared.read.Text.the-variants.{Neither};
-ghost use Rattle.criteria.specs.Check.{answerOf, check};
+ghost use Rattle.criteria.specs.Check.{check};
 ghost use Rattle.criteria.specs.Weaken.{isPair, weakened};
 ghost use Rattle.criteria.specs.Records.{historyOf, certificateOf};
-ghost use Rattle.checker.specs.CheckText.{checked};
+ghost use Rattle.faults.specs.declared.finding.Finding.the-variants.{Nothing};
+ghost use Rattle.history_reader.specs.Place as places;
+ghost use Rattle.checker.specs.CheckText.{foundIn};
 ghost use Rattle.checker.specs.WeakenText.{textIfSome, wantedOf, weakenAnswer, weakenLength, weakenBytes};
 ghost use Rattle.weakener.specs.Weakening.{criterionOf, weakenedOf, IsPair};
 use crate::records::weakened_record;
 use certificate::record::Certificate;
 use certificate::record::Criterion;
-use certificate_reader::read::Text;
 use certificate_reader::read::read_certificate;
 use certificate_writer::write::write_certificate;
 use checker::check::Checked;
+use checker::check::found;
 use faults::check::check_records;
 use faults::finding::Finding;
 use faults::finding::is_found;
 use history::record::History;
+use history_reader::place::nowhere;
 
 // What a weakening answers. `refusal` is 17 or 18, or it is 0, and then the answer is that of the check. `length` is that of the text. Beside
 // 17 and 18 `checked` carries nothing but the criterion.
@@ -121,18 +123,16 @@ fn is_pair(named: Criterion, wanted: Criterion) -> bool
     }
 }
 
-// The answer of texts that were read: what was found, or 17 or 18.
-fn answer(criterion: Criterion, finding: Finding, refusal: u8, length: usize) -> Weakened
-    ensures { λ r. ⌜ r ≡ record { checked = record { fault = 0; text = Neither; line = 0; start = 0; end = 0; criterion = criterion; finding = finding }; refusal = refusal; length = length } ⌝ }
+// The answer of texts that were read, where nothing was found: 17, 18, or 0 and the length.
+fn answer(criterion: Criterion, refusal: u8, length: usize) -> Weakened
+    ensures { λ r. ⌜ r ≡ record { checked = record { fault = 0; place = places.nowhere; criterion = criterion; finding = Nothing }; refusal = refusal; length = length } ⌝ }
 {
+    let place = nowhere();
     let checked = Checked {
         fault: 0,
-        text: Text::Neither,
-        line: 0,
-        start: 0,
-        end: 0,
+        place,
         criterion,
-        finding,
+        finding: Finding::Nothing,
     };
     Weakened {
         checked,
@@ -141,31 +141,37 @@ fn answer(criterion: Criterion, finding: Finding, refusal: u8, length: usize) ->
     }
 }
 
-// Weakens a certificate that was read.
+// Weakens a certificate that was read; h is the record of the history text.
 fn weaken_record(
     h: History,
     c: Certificate,
     views: [[u8; 64]; 64],
     wanted: Criterion,
     buffer: &mut [u8],
+    history: &[u8],
 ) -> Weakened
     requires { ⌜ (within h ≡ true) × (fits (eventsIn h) c views ≡ true) ⌝ }
-    ensures { λ r. ⌜ IsPair (checked (c .criterion) (answerOf (check (historyOf h) (certificateOf h c views)))) (c .criterion) (textIfSome (eventsIn h) (weakened wanted (historyOf h) (certificateOf h c views))) (now (buffer .entry)) r (now (buffer .exit)) ⌝ }
+    ensures { λ r. ⌜ IsPair (foundIn (now (history .entry)) (h .declared) (c .criterion) (check (historyOf h) (certificateOf h c views))) (c .criterion) (textIfSome (eventsIn h) (weakened wanted (historyOf h) (certificateOf h c views))) (now (buffer .entry)) r (now (buffer .exit)) ⌝ }
 {
     let criterion = c.criterion;
     if !is_pair(criterion, wanted) {
-        return answer(criterion, Finding::Nothing, 17, 0);
+        return answer(criterion, 17, 0);
     }
     let finding = check_records(h, c, &views);
     if is_found(finding) {
-        return answer(criterion, finding, 0, 0);
+        let checked = found(history, h.declared, criterion, finding);
+        return Weakened {
+            checked,
+            refusal: 0,
+            length: 0,
+        };
     }
     let mut rows = [[0u8; 64]; 64];
     let d = weakened_record(h, c, views, wanted, &mut rows);
     let written = write_certificate(buffer, h, d, &rows);
     let number = written.number;
     let length = written.length;
-    answer(criterion, Finding::Nothing, number, length)
+    answer(criterion, number, length)
 }
 
 // Weakens a certificate text for a history text to the criterion wanted, into a lent buffer.
@@ -176,13 +182,10 @@ pub fn weaken(history: &[u8], text: &[u8], wanted: u32, buffer: &mut [u8]) -> We
     let read = read_certificate(history, text, &mut rows);
     let fault = read.fault;
     if fault != 0 {
-        let which = read.text;
+        let place = read.place;
         let checked = Checked {
             fault,
-            text: which,
-            line: read.line,
-            start: read.start,
-            end: read.end,
+            place,
             criterion: Criterion::Pram,
             finding: Finding::Nothing,
         };
@@ -197,7 +200,7 @@ pub fn weaken(history: &[u8], text: &[u8], wanted: u32, buffer: &mut [u8]) -> We
     let criterion = c.criterion;
     let target = wanted_of(wanted);
     match target {
-        Wanted::Nothing => answer(criterion, Finding::Nothing, 17, 0),
-        Wanted::Named(w) => weaken_record(h, c, rows, w, buffer),
+        Wanted::Nothing => answer(criterion, 17, 0),
+        Wanted::Named(w) => weaken_record(h, c, rows, w, buffer, history),
     }
 }

@@ -10,7 +10,7 @@ use Rattle.certificate_reader.specs.ReadCertificate.{Lines, accepted, en
 
 abbrev pub linesRead : Lines → LinesRead
 linesRead r =
-    record { fault = r .fault; line = r .line; start = r .start; end = r .end; certificate = certificateOf (r .criterion) (r .pasts) (r .views) }
+    record { fault = r .fault; place = r .place; certificate = certificateOf (r .criterion) (r .pasts) (r .views) }
 
 -- What follows the lists of the views.
 abbrev pub afterViews : Criterion → List (List ℕ) → List (List ℕ) → ℕ → ℕ → List (List ℕ) → Lines

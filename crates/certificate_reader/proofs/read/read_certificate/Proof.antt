@@ -1,8 +1,8 @@
 -- `read_certificate` meets its contract: the history's refusals come first. Assumes nothing.
 use Prim.Native.Nat.{_≤_}
 use mathlib.Core.Path.{_≡_, _∙_}
-use Rattle.history_reader.proofs.ShowLaws.{few-counted}
-use Rattle.certificate_reader.proofs.TwoTextLaws.{history-answer, history-rows, lines-rows, bad-answer, good-answer}
+use Rattle.history_reader.proofs.EventPlaceLaws.{few-counted}
+use Rattle.certificate_reader.proofs.TwoTextLaws.{history-answer, history-rows, lines-rows, lines-answer}
 use borrow.Author.Needs.{needs}
 use Rattle.certificate_reader.proofs.read.read_certificate.Statement.{statement}
 use Rattle.certificate_reader.proofs.read.read_certificate.Tie as tie
@@ -20,9 +20,9 @@ no-certificate-requires c κs = search needs
 
 returns : tie.Need-returns
 returns c =
-    let h = c .before .before .before in
+    let h = c .before .before .before .before in
     let a = h .before .before .before .args in
-    let n = c .before .if1 .taken in (
+    let n = c .before .before .if1 .taken in (
       history-answer (a .history .now) (a .text .now) (a .rows .now) (h .read-history .result) (h .read-history .ensures) n (c .no-certificate .result) (c .no-certificate .ensures),
       history-rows (a .history .now) (a .text .now) (a .rows .now) (h .read-history .result) (h .read-history .ensures) n,
     )
@@ -36,18 +36,7 @@ returns-2 c =
     let h = t .before .before .before .before .before in
     let a = h .before .before .before .args in
     let z : h .read-history .result .fault ≡ 0 = search needs in (
-      bad-answer (a .history .now) (a .text .now) (a .rows .now) (h .read-history .result) (h .read-history .ensures) z (t .read-text .result) (t .read-text .ensures .0) (c .before .if2 .taken),
-      t .read-text .ensures .1
-          ∙ lines-rows (a .history .now) (a .text .now) (a .rows .now) (h .read-history .result) (h .read-history .ensures) z (t .read-text .result) (t .read-text .ensures .0),
-    )
-
-returns-3 : tie.Need-returns-3
-returns-3 c =
-    let t = c .before .before in
-    let h = t .before .before .before .before .before in
-    let a = h .before .before .before .args in
-    let z : h .read-history .result .fault ≡ 0 = search needs in (
-      good-answer (a .history .now) (a .text .now) (a .rows .now) (h .read-history .result) (h .read-history .ensures) z (t .read-text .result) (t .read-text .ensures .0) (search needs),
+      lines-answer (a .history .now) (a .text .now) (a .rows .now) (h .read-history .result) (h .read-history .ensures) z (t .read-text .result) (t .read-text .ensures .0),
       t .read-text .ensures .1
           ∙ lines-rows (a .history .now) (a .text .now) (a .rows .now) (h .read-history .result) (h .read-history .ensures) z (t .read-text .result) (t .read-text .ensures .0),
     )
@@ -60,5 +49,4 @@ read-certificate-spec =
     no-certificate-requires
     returns
     read-text-requires
-    returns-2
-    returns-3)
+    returns-2)

@@ -164,19 +164,23 @@ find-from-requires c κs = search needs
 put-rows-requires : tie.Need-put-rows-requires Inv-loop μ-loop
 put-rows-requires c κs = search needs
 
+nowhere-requires : tie.Need-nowhere-requires Inv-loop μ-loop
+nowhere-requires c κs = search needs
+
 returns-2 : tie.Need-returns-2 Inv-loop μ-loop
 returns-2 c =
-    let t = c .before .before .before in
+    let put = c .before in
+    let t = put .before .before .before in
     let f = t .before in
     let l = f .before .before .loop in
     let z = f .before .before .before .before .before in
     let a = z .args in
     let v = l .inv .6 in
     let w = all-views f ∙ end-done (l .line) (a .text .now) (l .at) (f .find-from .result) (f .find-from .ensures .0) (l .inv .0) (f .find-from .ensures .2)
-    (accepted (a .criterion) (map entriesIn (take (a .kept) (a .pasts))) (v .views)) (search needs) (c .before .before .if3 .taken) in
-    let p = all-read _ (a .criterion) (a .pasts) (l .lengths) (l .read) (a .rows .now) (map entriesIn (take (a .kept) (a .pasts))) (v .views)
+    (accepted (a .criterion) (map entriesIn (take (a .kept) (a .pasts))) (v .views)) (search needs) (put .before .before .if3 .taken) in
+    let p = all-read _ (c .nowhere .result) (c .nowhere .ensures) (a .criterion) (a .pasts) (l .lengths) (l .read) (a .rows .now) (map entriesIn (take (a .kept) (a .pasts))) (v .views)
     w (z .pre .4) (v .lengths-are) (v .rows-are) in
-    (p .0, c .put-rows .ensures ∙ p .1)
+    (p .0, put .put-rows .ensures ∙ p .1)
 
 refuse-requires-2 : tie.Need-refuse-requires-2 Inv-loop μ-loop
 refuse-requires-2 c κs = search needs
@@ -229,6 +233,7 @@ read-views-spec =
     loop-again
     find-from-requires
     put-rows-requires
+    nowhere-requires
     returns-2
     refuse-requires-2
     returns-3

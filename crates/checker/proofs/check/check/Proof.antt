@@ -2,12 +2,8 @@
 use borrow.Author.Needs.{needs}
 use Rattle.checker.proofs.check.check.Statement.{statement}
 use Rattle.checker.proofs.check.check.Tie as tie
-use Rattle.checker.proofs.check.check.Reads as reads
-use Rattle.checker.proofs.check.check.Lts as lts
-use Rattle.certificate_reader.proofs.read.read_certificate.Reads as read-certificate-reads
-use Rattle.faults.proofs.check.check_records.Reads as check-records-reads
-use mathlib.Core.Path.{_≡_}
-use Rattle.checker.proofs.VerdictLaws.{refused-answer, within-read, fits-read, found-answer}
+use mathlib.Core.Path.{_≡_, _∙_}
+use Rattle.checker.proofs.VerdictLaws.{refused-answer, within-read, fits-read, few-objects, found-answer}
 
 no-fault : (c : tie.Else1) → c .before .read-certificate .result .fault ≡ 0
 no-fault c = search needs
@@ -17,8 +13,8 @@ read-certificate-requires c κs = search needs
 
 returns : tie.Need-returns
 returns c =
-    let r = c .before .read-certificate in
-    let s = c .before .before .before .before .before in
+    let r = c .before .before .read-certificate in
+    let s = c .before .before .before .before .before .before in
     refused-answer (s .args .history .now) (s .args .text .now) (r .result) (r .ensures .0) (search needs)
 
 check-records-requires : tie.Need-check-records-requires
@@ -30,13 +26,21 @@ check-records-requires c κs =
       fits-read (s .args .history .now) (s .args .text .now) (r .result) (r .ensures .0) z _ (r .ensures .1),
     )
 
-returns-2 : tie.Need-returns-2
-returns-2 c =
+found-requires : tie.Need-found-requires
+found-requires c κs =
     let r = c .before .before .before .before .before .read-certificate in
     let s = c .before .before .before .before .before .before .before .before .before in
-    let z : r .result .fault ≡ 0 = no-fault (c .before .before .before .before) in
-    found-answer (s .args .history .now) (s .args .text .now) (r .result) (r .ensures .0) z _ (r .ensures .1) (c .check-records .result) (c .check-records .ensures)
+    few-objects (s .args .history .now) (s .args .text .now) (r .result) (r .ensures .0) (no-fault (c .before .before .before .before)) _ (r .ensures .1)
+
+returns-2 : tie.Need-returns-2
+returns-2 c =
+    let k = c .before in
+    let r = k .before .before .before .before .before .read-certificate in
+    let s = k .before .before .before .before .before .before .before .before .before in
+    let z : r .result .fault ≡ 0 = no-fault (k .before .before .before .before) in
+    c .found .ensures
+    ∙ found-answer (s .args .history .now) (s .args .text .now) (r .result) (r .ensures .0) z _ (r .ensures .1) (k .check-records .result) (k .check-records .ensures)
 
 pub check-spec : {M : Type 1} → statement M
 check-spec =
-    tie.close (tie.spec read-certificate-requires returns check-records-requires returns-2)
+    tie.close (tie.spec read-certificate-requires returns check-records-requires found-requires returns-2)

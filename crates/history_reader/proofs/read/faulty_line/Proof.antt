@@ -1,8 +1,8 @@
 -- `faulty_line` meets its contract: the place that a refusal names lies within the text. Assumes nothing.
-use Prim.Native.Nat.{_-_}
 use mathlib.Core.Path.{ap}
-use lib.ListN.{length, take, drop}
+use lib.ListN.{length}
 use Rattle.history_reader.specs.declared.read.HistoryRead.{HistoryRead}
+use Rattle.history_reader.specs.Place.{bytesAt}
 use Rattle.history_reader.specs.ReadHistory.{faultyLine}
 use Rattle.history_reader.proofs.PlaceLaws.{Placed, placed-history}
 use borrow.Author.Needs.{needs}
@@ -29,7 +29,7 @@ unfolding faultyLine
 returns c =
     let r = c .before in
     let s = r .before .before .args .text .now in
-    ap (λ (h : HistoryRead). take (h .end - h .start) (drop (h .start) s)) (r .read-history .ensures)
+    ap (λ (h : HistoryRead). bytesAt (h .place) s) (r .read-history .ensures)
 
 pub faulty-line-spec : {M : Type 1} → statement M
 faulty-line-spec =

@@ -2,7 +2,7 @@
 use native.Mathlib.Omega.{arith}
 use borrow.Author.Needs.{needs}
 use Prim.Native.Nat.{_≤_, _<_, _-_, _+_}
-use mathlib.Core.Path.{_≡_, refl, sym, ap, _∙_}
+use mathlib.Core.Path.{_≡_, refl, sym, ap, ap₂, _∙_}
 use mathlib.Core.List.{List, []}
 use lib.ListN.{length, take, drop}
 use lib.Seq.{length-take-le}
@@ -10,6 +10,7 @@ use Rattle.layout.specs.Split.{split}
 use Rattle.history.specs.declared.record.Event.{Event}
 use Rattle.history.specs.declared.record.History.{History}
 use Rattle.history.specs.Record.{noEvent}
+use Rattle.history_reader.specs.declared.place.Place.{Place}
 use Rattle.history_reader.specs.ReadHistory.{eventsFrom}
 use Rattle.history.proofs.PadLaws.{Filled, filled-none, filled-count, filled-take, filled-more}
 use Rattle.history_reader.proofs.ReadLaws.{events-done, events-more, events-bad, event-short, event-few, history-made}
@@ -102,12 +103,15 @@ loop-again c =
           (sym (filled-take (l .inv .2) v h)),
     )
 
+nowhere-requires : tie.Need-nowhere-requires Inv-loop μ-loop
+nowhere-requires c κs = search needs
+
 returns-2 : tie.Need-returns-2 Inv-loop μ-loop
 returns-2 c =
-    let l = c .before .loop in
-    let z = c .before .before .before .before in
+    let l = c .before .before .loop in
+    let z = c .before .before .before .before .before in
     let a = z .args in
-    ap (λ (h : History). record { fault = 0; line = 0; start = 0; end = 0; history = h })
+    ap₂ (λ (p : Place) (h : History). record { fault = 0; place = p; history = h }) (c .nowhere .ensures)
     (history-made (a .objects) (a .declared) (l .events) (l .count) (z .pre .3) (declared-long z) (l .inv .2))
     ∙ sym (l .inv .3 ∙ events-done _ _ (l .line) (a .text .now) (l .at) (search needs))
 
@@ -130,4 +134,5 @@ read-events-spec =
     add-at
     loop-less
     loop-again
+    nowhere-requires
     returns-2)

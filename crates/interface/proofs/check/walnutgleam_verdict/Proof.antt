@@ -2,13 +2,13 @@
 use borrow.Author.Needs.{needs}
 use Rattle.interface.proofs.check.walnutgleam_verdict.Statement.{statement}
 use Rattle.interface.proofs.check.walnutgleam_verdict.Tie as tie
-use Prim.Native.Nat.{ℕ, _≤_, _<_}
-use mathlib.Core.Path.{_≡_, sym, ap, _∙_, subst}
+use Prim.Native.Nat.{ℕ}
+use native.Mathlib.Omega.{arith}
+use mathlib.Core.Path.{_≡_, ap, _∙_}
 use mathlib.Core.List.{List}
 use Rattle.checker.specs.CheckText.{Verdict, checkText}
 use Rattle.checker.specs.Verdict.{verdictOf}
-use Rattle.checker.proofs.VerdictLaws.{verdict-is, line-fits, places-fit}
-use Rattle.faults.specs.Finding.{orNone}
+use Rattle.checker.proofs.VerdictLaws.{verdict-is, answer-placed, answer-small}
 use Rattle.interface.specs.Places.{placesOf, placed}
 
 -- the answer is that of the two texts
@@ -22,9 +22,9 @@ check-requires c κs = search needs
 places-of-requires : tie.Need-places-of-requires
 places-of-requires c κs =
     let a = c .before .before .before .before .args in
-    let q = places-fit (a .history .now) (a .certificate .now) in
-    subst (λ (v : Verdict). (orNone (v .line) < 4294967296) × (v .start ≤ v .end) × (v .end ≤ 32768)) (sym (checked c))
-    (line-fits (a .history .now) (a .certificate .now), q .0, q .1)
+    let s = answer-small (a .history .now) (a .certificate .now) (c .check .result) (c .check .ensures) in
+    let p = answer-placed (a .history .now) (a .certificate .now) (c .check .result) (c .check .ensures) in
+    (omega (arith, s .line), p .from, s .end)
 
 put-places-requires : tie.Need-put-places-requires
 put-places-requires c κs = search needs

@@ -2,12 +2,11 @@
 use borrow.Author.Needs.{needs}
 use Rattle.verdict_lines.proofs.print.print_check.Statement.{statement}
 use Rattle.verdict_lines.proofs.print.print_check.Tie as tie
-use Prim.Native.Nat.{_<_}
-use mathlib.Core.Path.{_≡_, sym, ap, _∙_, subst}
-use Rattle.faults.specs.Finding.{orNone}
-use Rattle.checker.specs.CheckText.{Verdict, checkText}
+use native.Mathlib.Omega.{arith}
+use mathlib.Core.Path.{_≡_, ap, _∙_}
+use Rattle.checker.specs.CheckText.{checkText}
 use Rattle.checker.specs.Verdict.{verdictOf}
-use Rattle.checker.proofs.VerdictLaws.{verdict-is, line-fits}
+use Rattle.checker.proofs.VerdictLaws.{verdict-is, answer-small}
 use Rattle.verdict_lines.specs.Printed.{printedIn}
 use Rattle.verdict_lines.proofs.PieceLaws.{printed-whole}
 
@@ -24,8 +23,8 @@ slice-aggregate-put-verdict c = search needs
 put-verdict-requires : tie.Need-put-verdict-requires
 put-verdict-requires c κs =
     let k = c .before in
-    let s = k .before .before .before in
-    (search needs, subst (λ (v : Verdict). orNone (v .line) < 4294967296) (sym (checked k)) (line-fits (s .args .history .now) (s .args .text .now)))
+    let a = k .before .before .before .args in
+    (search needs, omega (arith, answer-small (a .history .now) (a .text .now) (k .check .result) (k .check .ensures) .line))
 
 returns : tie.Need-returns
 returns c =

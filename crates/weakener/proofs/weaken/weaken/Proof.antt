@@ -21,8 +21,8 @@ read-certificate-requires c κs = search needs
 
 returns : tie.Need-returns
 returns c =
-    let r = c .before .read-certificate in
-    let s = c .before .before .before .before .before .before in
+    let r = c .before .before .read-certificate in
+    let s = c .before .before .before .before .before .before .before in
     weakening-refused (s .args .history .now) (s .args .text .now) (s .args .wanted) (s .args .buffer .now) (r .result) (r .ensures .0) (search needs)
 
 wanted-of-requires : tie.Need-wanted-of-requires

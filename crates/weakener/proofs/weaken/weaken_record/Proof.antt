@@ -10,20 +10,22 @@ use Rattle.faults.proofs.finding.is_found.Reads as is-found-reads
 use Rattle.weakener.proofs.records.weakened_record.Reads as weakened-record-reads
 use Rattle.weakener.proofs.weaken.answer.Reads as answer-reads
 use Rattle.weakener.proofs.weaken.is_pair.Reads as is-pair-reads
-use mathlib.Core.Path.{_≡_, sym, _∙_}
+use mathlib.Core.Path.{_≡_, sym, ap, _∙_}
 use mathlib.Core.Bool.{true, false}
 use borrow.Author.Tests.{not-true, not-false}
+use Rattle.history.proofs.WithinLaws.{within-limits}
 use Rattle.criteria.specs.Weaken.{isPair}
 use Rattle.faults.specs.Finding.{findingOf, isFound}
+use Rattle.checker.specs.declared.check.Checked.{Checked}
 use Rattle.weakener.specs.Steps.{Passed}
 use Rattle.weakener.proofs.WeakenLaws.{pair-refused, no-pair, pair-faulty, pair-weakens, not-found, same-answer}
 
-is-pair : (c : tie.Else1) → isPair (c .before .before .before .args .c .criterion) (c .before .before .before .args .wanted) ≡ true
+is-pair : (c : tie.Else1) → isPair (c .before .before .before .before .args .c .criterion) (c .before .before .before .before .args .wanted) ≡ true
 is-pair c = sym (c .before .is-pair .ensures) ∙ not-false (c .before .is-pair .result) (c .if1 .left)
 
-passed : (c : tie.Else2) → let s = c .before .before .before .before .before .before .before in Passed (s .args .h) (s .args .c) (s .args .t3)
+passed : (c : tie.Else2) → let s = c .before .before .before .before .before .before .before .before in Passed (s .args .h) (s .args .c) (s .args .t3)
 passed c =
-    let s = c .before .before .before .before .before .before .before in
+    let s = c .before .before .before .before .before .before .before .before in
     record {
       history = s .pre .0;
       certificate = s .pre .1;
@@ -38,7 +40,7 @@ answer-requires c κs = search needs
 
 returns : tie.Need-returns
 returns c =
-    let s = c .before .before .before .before in
+    let s = c .before .before .before .before .before in
     let e : isPair (s .args .c .criterion) (s .args .wanted) ≡ false =
     sym (c .before .before .is-pair .ensures) ∙ not-true (c .before .before .is-pair .result) (c .before .if1 .taken) in
     same-answer (c .answer .ensures)
@@ -50,16 +52,19 @@ check-records-requires c κs = search needs
 is-found-requires : tie.Need-is-found-requires
 is-found-requires c κs = search needs
 
-answer-requires-2 : tie.Need-answer-requires-2
-answer-requires-2 c κs = search needs
+found-requires : tie.Need-found-requires
+found-requires c κs =
+    let s = c .before .before .before .before .before .before .before .before in
+    search (needs, within-limits (s .args .h) (s .pre .0) .declared)
 
 returns-2 : tie.Need-returns-2
 returns-2 c =
     let k = c .before .before .before in
-    let s = k .before .before .before .before .before in
-    let e : isFound (findingOf (k .check-records .result)) ≡ true = search needs in
-    same-answer (c .answer2 .ensures)
-    (pair-faulty (s .args .h) (s .args .c) (s .args .t3) (s .args .wanted) (is-pair (k .before .before)) (k .check-records .result) (k .check-records .ensures) e (s .args .buffer .now))
+    let s = k .before .before .before .before .before .before in
+    let e : isFound (findingOf (k .check-records .result)) ≡ true = sym (c .before .before .is-found .ensures) ∙ c .before .if2 .taken in
+    same-answer (ap (λ (x : Checked). record { checked = x; refusal = 0; length = 0 }) (c .found .ensures))
+    (pair-faulty (s .args .history .now) (s .args .h) (s .args .c) (s .args .t3) (s .args .wanted) (is-pair (k .before .before)) (k .check-records .result)
+    (k .check-records .ensures) e (s .args .buffer .now))
 
 weakened-record-requires : tie.Need-weakened-record-requires
 weakened-record-requires c κs = passed (c .before)
@@ -67,8 +72,8 @@ weakened-record-requires c κs = passed (c .before)
 write-certificate-requires : tie.Need-write-certificate-requires
 write-certificate-requires c κs = search needs
 
-answer-requires-3 : tie.Need-answer-requires-3
-answer-requires-3 c κs = search needs
+answer-requires-2 : tie.Need-answer-requires-2
+answer-requires-2 c κs = search needs
 
 same-length : tie.Need-same-length
 same-length c = search needs
@@ -78,9 +83,9 @@ returns-3 c =
     let wr = c .before .before .before in
     let m = wr .before .before .before in
     let e = m .before .before in
-    let s = e .before .before .before .before .before .before .before in
-    same-answer (c .answer3 .ensures)
-    (pair-weakens (s .args .h) (s .args .c) (s .args .t3) (s .args .wanted) (passed e) (is-pair (e .before .before .before .before))
+    let s = e .before .before .before .before .before .before .before .before in
+    same-answer (c .answer2 .ensures)
+    (pair-weakens (s .args .history .now) (s .args .h) (s .args .c) (s .args .t3) (s .args .wanted) (passed e) (is-pair (e .before .before .before .before))
     (m .weakened-record .result) _ (m .weakened-record .ensures) (s .args .buffer .now) (wr .write-certificate .result) _
     (wr .write-certificate .ensures .0) (wr .write-certificate .ensures .1))
 
@@ -93,10 +98,10 @@ weaken-record-spec =
     returns
     check-records-requires
     is-found-requires
-    answer-requires-2
+    found-requires
     returns-2
     weakened-record-requires
     write-certificate-requires
-    answer-requires-3
+    answer-requires-2
     same-length
     returns-3)
