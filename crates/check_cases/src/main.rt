@@ -8,13 +8,18 @@ fn say(bytes: &[u8]) {
     io::write_all(STDOUT_FILENO, bytes);
 }
 
-fn case<'a>(name: &[u8], history: &'a [u8], certificate: &'a [u8]) {
-    say(name);
-    say(b"\n");
+// The two lines of the verdict.
+fn say_verdict(history: &[u8], certificate: &[u8]) {
     let lines = print_check(history, certificate);
     let k = lines.length;
     let bytes = lines.bytes;
     say(&bytes[..k]);
+}
+
+fn case<'a>(name: &[u8], history: &'a [u8], certificate: &'a [u8]) {
+    say(name);
+    say(b"\n");
+    say_verdict(history, certificate);
     say(b"[");
     say(carried_line(history, certificate));
     say(b"]\n");
