@@ -59,17 +59,10 @@ static void say_part(const text *t, uint64_t start, uint64_t length) {
     if (start <= t->length && length <= t->length - start) printf(": %.*s", (int)length, (const char *)t->bytes + start);
 }
 
-/* The line of an event, as part of the history. */
-static void say_event(const text *history, uint32_t event) {
-    uint64_t start = 0;
-    uint64_t length = 0;
-    if (walnutgleam_show(history->bytes, history->length, event, &start, &length) == 0) say_part(history, start, length);
-}
-
 static void say_verdict(const text *history, const text *certificate, uint32_t answer, const uint32_t *places) {
     if (answer == 0) {
         printf("Accepted: %s holds for %s.", certificate->name, history->name);
-    } else if (places[WHICH] != 0) {
+    } else if (places[CRITERION] == WALNUTGLEAM_NONE) { /* a reading refusal */
         const text *t = places[WHICH] == 1 ? history : certificate;
         printf("Refused with %" PRIu32 ", %s, line %" PRIu32 ": %s", answer, t->name, places[LINE], meaning(answer));
         say_part(t, places[START], places[LENGTH]);
@@ -78,7 +71,7 @@ static void say_verdict(const text *history, const text *certificate, uint32_t a
         if (places[VIEW] != WALNUTGLEAM_NONE) printf(", view %" PRIu32, places[VIEW]);
         if (places[EVENT] != WALNUTGLEAM_NONE) printf(", event %" PRIu32, places[EVENT]);
         printf(": %s", meaning(answer));
-        if (places[EVENT] != WALNUTGLEAM_NONE) say_event(history, places[EVENT]);
+        if (places[WHICH] == 1) say_part(history, places[START], places[LENGTH]);
     }
     printf("\n");
 }

@@ -191,7 +191,7 @@ pub trait Rules: HistoryRules + CertificateRules + CheckRules {
     /// objects plus 3.
     fn line_of_fault(&self, text: &[u8], history: &History, fault: Fault) -> Option<Carried> {
         let (11..=13 | 16, _, Some(event)) = fault else { return None };
-        let line = line_of_event(text, event);
+        let line = line_of_event(text, event)?;
         let number = event + history.objects.len() + 3;
         Some(Carried { text: Text::History, line: number, start: line.start, length: line.length })
     }

@@ -67,12 +67,11 @@ impl History {
     }
 }
 
-/// The line of an event in a readable history text: the lines of the events follow their heading, in the order of their
-/// numbers.
-pub fn line_of_event(text: &[u8], event: usize) -> Line {
-    let lines = lines_of(text);
-    let heading = lines.iter().position(|line| line.of(text) == EVENT_HEADING.as_bytes()).expect("it has the heading");
-    lines[heading + 1 + event]
+/// The line of an event in a readable history text, if there is such an event: the lines of the events follow their heading,
+/// in the order of their numbers.
+pub fn line_of_event(text: &[u8], event: usize) -> Option<Line> {
+    let is_heading = |line: &Line| line.of(text) == EVENT_HEADING.as_bytes();
+    lines_of(text).into_iter().skip_while(|line| !is_heading(line)).skip(1).nth(event)
 }
 
 /// An object line whose layout is right.

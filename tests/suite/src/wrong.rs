@@ -875,7 +875,7 @@ macro_rules! wrong_line_number {
 
 /// An event's line with its number, if there is such an event.
 fn line_of(text: &[u8], history: &History, event: usize) -> Option<Carried> {
-    Document01.line_of_fault(text, history, (16, None, Some(event).filter(|event| *event < history.events.len())))
+    Document01.line_of_fault(text, history, (16, None, Some(event)))
 }
 
 wrong_line!(NoLineOnSixteen, |_, _, fault, right| right.filter(|_| fault.0 != 16));
@@ -888,6 +888,18 @@ wrong_line!(LineOnFourteen, |text, history, fault, right| if fault.0 == 14 { lin
 wrong_line!(LineOnFifteen, |text, history, fault, right| if fault.0 == 15 { line_of(text, history, fault.1?) } else { right });
 wrong_line!(LineOfTheNextEvent, |text, history, fault, right| line_of(text, history, fault.2? + 1).or(right));
 wrong_line!(LineOfTheEventBefore, |text, history, fault, right| line_of(text, history, fault.2?.wrapping_sub(1)).or(right));
+wrong_line!(LineOfTheObject, |text, history, fault, right| {
+    let right = right?;
+    // The object with the event's number, if there is one: its line begins with the same number.
+    let object = fault.2.filter(|number| *number < history.objects.len());
+    let line = object.map(|number| lines_of(text)[number + 1]);
+    Some(line.map_or(right, |line| Carried { text: Text::History, line: line.number, start: line.start, length: line.length }))
+});
+wrong_line!(LineWithTheNext, |text, history, fault, right| {
+    let right = right?;
+    let next = line_of(text, history, fault.2? + 1);
+    Some(Carried { length: next.map_or(right.length, |next| next.start + next.length - right.start), ..right })
+});
 wrong_line!(LineOfTheView, |text, history, fault, right| match (fault.1, right) {
     (Some(view), Some(_)) => line_of(text, history, view).or(right),
     _ => right,
@@ -906,7 +918,7 @@ wrong_line_number!(LineWithoutItsLastByte, |_, _, line| line.length -= 1);
 wrong_line_number!(EndForLength, |_, _, line| line.length += line.start);
 wrong_line_number!(EndForStart, |_, _, line| line.start += line.length);
 wrong_line_number!(StartAsByte, |_, _, line| line.start %= 256);
-wrong_line_number!(StartBehindHeading, |text, _, line| line.start -= line_of_event(text, 0).start);
+wrong_line_number!(StartBehindHeading, |text, _, line| line.start -= line_of_event(text, 0).map_or(0, |first| first.start));
 wrong_line_number!(PartWithoutObjects, |text, history, line| {
     let other = lines_of(text)[line.line - history.objects.len() - 1];
     (line.start, line.length) = (other.start, other.length);
@@ -1314,6 +1326,8 @@ pub fn wrong_checkers() -> Vec<(&'static str, Box<dyn Checker>)> {
         model("15 carries the line of the event with the view's number", LineOnFifteen),
         model("a fault carries the line of the next event", LineOfTheNextEvent),
         model("a fault carries the line of the event before", LineOfTheEventBefore),
+        model("a fault carries the line of the event and the next one", LineWithTheNext),
+        model("a fault carries the line of the object with the event's number", LineOfTheObject),
         model("16 carries the line of the event with the view's number", LineOfTheView),
         model("the number of the event's line is one too high", LineNumberTooHigh),
         model("the number of the event's line is one too low", LineNumberTooLow),
