@@ -66,7 +66,7 @@ pub fn neighbours(comparer: &mut Comparer, random: &mut Random, rounds: usize) {
     for _ in 0..rounds.div_ceil(8) {
         let (history, mut certificate) = pair(random);
         let damage = random.under(5);
-        // 11 to 16 besides the reading refusals: the line of an event lies between other lines of its text.
+        // 11 to 16 too: the line of an event is part of the text that has neighbours.
         if damage == 4 {
             damage_certificate(random, &history, &mut certificate);
         }

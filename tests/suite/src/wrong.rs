@@ -861,8 +861,8 @@ macro_rules! wrong_line {
     };
 }
 
-/// A checker in which faults carry a line with one of its numbers changed, by the text and the record.
-macro_rules! wrong_line_number {
+/// A checker in which faults carry their line with something of it changed, by the text and its record.
+macro_rules! changed_line {
     ($name:ident, $change:expr) => {
         wrong_line!($name, |text, history, _, right| {
             let change: fn(&[u8], &History, &mut Carried) = $change;
@@ -905,21 +905,21 @@ wrong_line!(LineOfTheView, |text, history, fault, right| match (fault.1, right) 
     _ => right,
 });
 
-wrong_line_number!(LineNumberTooHigh, |_, _, line| line.line += 1);
-wrong_line_number!(LineNumberTooLow, |_, _, line| line.line -= 1);
-wrong_line_number!(LineNumberWithoutObjects, |_, history, line| line.line -= history.objects.len());
-wrong_line_number!(LineNumberOfOneObject, |_, history, line| line.line = line.line - history.objects.len() + 1);
-wrong_line_number!(LineNumberOfFifteenObjects, |_, history, line| line.line -= history.objects.len() / 16);
-wrong_line_number!(LineNumberAmongEvents, |_, history, line| line.line -= history.objects.len() + 2);
-wrong_line_number!(LineInTheCertificate, |_, _, line| line.text = Text::Certificate);
-wrong_line_number!(LineWithLineFeed, |_, _, line| line.length += 1);
-wrong_line_number!(LineWithLineFeedBefore, |_, _, line| line.start -= 1);
-wrong_line_number!(LineWithoutItsLastByte, |_, _, line| line.length -= 1);
-wrong_line_number!(EndForLength, |_, _, line| line.length += line.start);
-wrong_line_number!(EndForStart, |_, _, line| line.start += line.length);
-wrong_line_number!(StartAsByte, |_, _, line| line.start %= 256);
-wrong_line_number!(StartBehindHeading, |text, _, line| line.start -= line_of_event(text, 0).map_or(0, |first| first.start));
-wrong_line_number!(PartWithoutObjects, |text, history, line| {
+changed_line!(LineNumberTooHigh, |_, _, line| line.line += 1);
+changed_line!(LineNumberTooLow, |_, _, line| line.line -= 1);
+changed_line!(LineNumberWithoutObjects, |_, history, line| line.line -= history.objects.len());
+changed_line!(LineNumberOfOneObject, |_, history, line| line.line = line.line - history.objects.len() + 1);
+changed_line!(LineNumberOfFifteenObjects, |_, history, line| line.line -= history.objects.len() / 16);
+changed_line!(LineNumberAmongEvents, |_, history, line| line.line -= history.objects.len() + 2);
+changed_line!(LineInTheCertificate, |_, _, line| line.text = Text::Certificate);
+changed_line!(LineWithLineFeed, |_, _, line| line.length += 1);
+changed_line!(LineWithLineFeedBefore, |_, _, line| line.start -= 1);
+changed_line!(LineWithoutItsLastByte, |_, _, line| line.length -= 1);
+changed_line!(EndForLength, |_, _, line| line.length += line.start);
+changed_line!(EndForStart, |_, _, line| line.start += line.length);
+changed_line!(StartAsByte, |_, _, line| line.start %= 256);
+changed_line!(StartBehindHeading, |text, _, line| line.start -= line_of_event(text, 0).map_or(0, |first| first.start));
+changed_line!(PartWithoutObjects, |text, history, line| {
     let other = lines_of(text)[line.line - history.objects.len() - 1];
     (line.start, line.length) = (other.start, other.length);
 });
