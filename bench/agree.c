@@ -1,6 +1,6 @@
 /* Compares the two checks: on the sample folders that are named as arguments, on pairs of many seeds, as they are and
- * with some answers lost, and on damaged variants of all of them. Both must give the same number. Prints how often each
- * number came.
+ * with some answers lost, and on damaged variants of all of them. Both must give the same number, and the verdict of the
+ * archive must carry the line that goes with it. Prints how often each number came.
  *
  * agree ROUNDS FOLDER...: so many damaged variants of each pair. */
 #include <stdbool.h>
@@ -21,6 +21,37 @@ static uint64_t seed = 2;
 
 static unsigned draw(unsigned bound) { return below(&seed, bound); }
 
+/* Where the heading of the events starts, or the end of a text without one. */
+static size_t events_of(const struct text *t) {
+    static const char heading[] = "event process object op value answer\n";
+    const size_t n = sizeof heading - 1;
+    size_t a = 0;
+    while (a + n <= t->length && memcmp(t->bytes + a, heading, n) != 0) a++;
+    return a + n <= t->length ? a : t->length;
+}
+
+/* Where the line of a place ends: at its line feed, or at the end of the text. */
+static size_t end_of_line(const struct text *t, size_t a) {
+    while (a < t->length && t->bytes[a] != '\n') a++;
+    return a;
+}
+
+/* Whether an answer carries the line that it should: with 11 to 13 and 16 that of its event, which is found here by going down from
+ * the heading of the events, and none with 0, 14 and 15. Reading refusals are not judged here. */
+static bool carries_its_line(const struct text *t, uint32_t answer, const uint32_t places[7]) {
+    if (answer == 0 || answer == 14 || answer == 15)
+        return places[1] == 0 && places[2] == WALNUTGLEAM_NONE && places[5] == 0 && places[6] == 0;
+    if (answer < 11) return true;
+    size_t a = events_of(t);
+    uint32_t line = 1;
+    for (size_t i = 0; i < a; i++) line += t->bytes[i] == '\n';
+    for (uint32_t down = 0; down <= places[4] && a < t->length; down++) {
+        a = end_of_line(t, a) + 1;
+        line++;
+    }
+    return a < t->length && places[1] == 1 && places[2] == line && places[5] == a && places[6] == end_of_line(t, a) - a;
+}
+
 static uint32_t compare(const struct pair *p) {
     /* Copies of exactly the texts' lengths, so that a tool that watches memory sees a read past an end. */
     uint8_t *h = malloc(p->history.length == 0 ? 1 : p->history.length);
@@ -30,13 +61,17 @@ static uint32_t compare(const struct pair *p) {
     memcpy(c, p->certificate.bytes, p->certificate.length);
     const uint32_t a = walnutgleam_check(h, p->history.length, c, p->certificate.length);
     const uint32_t b = plain_check(h, p->history.length, c, p->certificate.length);
+    uint32_t places[7];
+    const uint32_t verdict = walnutgleam_verdict(h, p->history.length, c, p->certificate.length, places, 7);
     free(h);
     free(c);
     counts[a < NUMBERS ? a : NUMBERS - 1]++;
-    if (a != b) {
+    const bool its_line = carries_its_line(&p->history, verdict, places);
+    if (a != b || verdict != a || !its_line) {
         differences++;
         if (differences <= 3)
-            printf("walnutgleam %u, plain %u on\n%.*s%.*s", (unsigned)a, (unsigned)b, (int)p->history.length,
+            printf("walnutgleam %u, its verdict %u%s, plain %u on\n%.*s%.*s", (unsigned)a, (unsigned)verdict,
+                   its_line ? "" : " with another line", (unsigned)b, (int)p->history.length,
                    (const char *)p->history.bytes, (int)p->certificate.length, (const char *)p->certificate.bytes);
     }
     return a;
@@ -94,15 +129,6 @@ static const char *const words[] = {
     "converge", "sequential", "-", "0", "7", "8", "9", "15", "16", "63", "64", "65", "65535", "65536",
     "99999999999999999999", "00", "1,2,3,4,5,6,7,8,9", "?", "?,7", "??",
 };
-
-/* Where the heading of the events starts, or the end of a text without one. */
-static size_t events_of(const struct text *t) {
-    static const char heading[] = "event process object op value answer\n";
-    const size_t n = sizeof heading - 1;
-    size_t a = 0;
-    while (a + n <= t->length && memcmp(t->bytes + a, heading, n) != 0) a++;
-    return a + n <= t->length ? a : t->length;
-}
 
 /* Another width for some object, often at a limit or past it: the last field of a line above the heading of the events. */
 static void other_width(struct text *t) {

@@ -114,7 +114,7 @@ static size_t stack_of(check_function *check, const struct pair *p) {
 /* The other functions of the header on a pair, each as a check is called. Weakening goes to each criterion. */
 static uint32_t places[7];
 static uint8_t buffer[32768];
-static uint64_t start, length;
+static uint64_t length;
 
 static uint32_t verdict(const uint8_t *history, size_t n, const uint8_t *certificate, size_t m) {
     return walnutgleam_verdict(history, n, certificate, m, places, 7);
@@ -125,12 +125,6 @@ static uint32_t weaken(const uint8_t *history, size_t n, const uint8_t *certific
     for (uint32_t wanted = 0; wanted < 5; wanted++)
         answers += walnutgleam_weaken(history, n, certificate, m, wanted, buffer, sizeof buffer, &length);
     return answers;
-}
-
-static uint32_t show(const uint8_t *history, size_t n, const uint8_t *certificate, size_t m) {
-    (void)certificate;
-    (void)m;
-    return walnutgleam_show(history, n, 63, &start, &length);
 }
 
 static uint32_t rewrite_history(const uint8_t *history, size_t n, const uint8_t *certificate, size_t m) {
@@ -170,7 +164,6 @@ static void print_stacks(void) {
         {"walnutgleam_check", walnutgleam_check},
         {"walnutgleam_verdict", verdict},
         {"walnutgleam_weaken", weaken},
-        {"walnutgleam_show", show},
         {"walnutgleam_rewrite_history", rewrite_history},
         {"walnutgleam_rewrite_certificate", rewrite_certificate},
         {"plain_check", plain_check},

@@ -62,7 +62,7 @@ static void say_part(const text *t, uint64_t start, uint64_t length) {
 static void say_verdict(const text *history, const text *certificate, uint32_t answer, const uint32_t *places) {
     if (answer == 0) {
         printf("Accepted: %s holds for %s.", certificate->name, history->name);
-    } else if (places[CRITERION] == WALNUTGLEAM_NONE) {
+    } else if (places[CRITERION] == WALNUTGLEAM_NONE) { /* a reading refusal */
         const text *t = places[WHICH] == 1 ? history : certificate;
         printf("Refused with %" PRIu32 ", %s, line %" PRIu32 ": %s", answer, t->name, places[LINE], meaning(answer));
         say_part(t, places[START], places[LENGTH]);

@@ -7,10 +7,10 @@
  * is proved (docs/PROOFS.md), and the proof assumes of the caller:
  *
  * - Each pointer is valid for the length given beside it, and aligned for its type. It is NULL only where that length is 0. The
- *   pointers without a length (length, start) point to one number each and are not NULL.
+ *   pointer named length has none beside it: it points to one number and is not NULL.
  * - A buffer, slice or number that is lent to be written overlaps nothing else that is lent in the same call. The two texts may
  *   overlap each other.
- * - There is stack for the call: 72,000 bytes for check, verdict and rewrite_certificate, 106,000 for weaken, 10,000 for show and
+ * - There is stack for the call: 72,000 bytes for check, verdict and rewrite_certificate, 106,000 for weaken, 10,000 for
  *   rewrite_history. `make bench` measures it on x86-64, with accepted and damaged texts; it is not proved. */
 #ifndef WALNUTGLEAM_H
 #define WALNUTGLEAM_H
@@ -31,11 +31,12 @@ uint32_t walnutgleam_check(const uint8_t *history, size_t history_length,
 
 /* The same answer. places gets, in this order:
  *   0  the criterion that the certificate names (pram 0, weak 1, causal 2, converge 3, sequential 4)
- *   1  the text of a reading refusal (0 none, 1 history, 2 certificate)
- *   2  its line, from 1; 0 for a text that is too long
+ *   1  the text of the line that the answer carries (0 none, 1 history, 2 certificate): a reading refusal carries the faulty
+ *      line, in either text; 11 to 13 and 16 carry the line of their event, in the history; 0, 14 and 15 carry none
+ *   2  the number of that line, from 1; 0 for a text that is too long
  *   3  the view
  *   4  the event
- *   5  where the faulty line starts within that text, and 6 its length; 0 and 0 where there is none or it is empty
+ *   5  where that line starts within its text, and 6 its length without its line feed; 0 and 0 where there is none or it is empty
  * Places 0, 2, 3 and 4 are WALNUTGLEAM_NONE where the answer does not carry them. A slice of another length than 7 is filled as
  * far as it goes and left alone past that. */
 uint32_t walnutgleam_verdict(const uint8_t *history, size_t history_length,
@@ -45,15 +46,11 @@ uint32_t walnutgleam_verdict(const uint8_t *history, size_t history_length,
 /* Weakens an accepted certificate text to the criterion wanted (numbers as above): the weakened text goes into the buffer's first
  * bytes, the rest stays as it was, and length gets their number. Refusals, in this order: the reading refusals of the check; 17 if
  * the two criteria are not a pair of docs/FORMAT.md's list; 11 to 16 of the check; 18 if the buffer has fewer bytes than the text.
- * walnutgleam_verdict gives the places of 1 to 6 and of 11 to 16. On a refusal no byte changes and length gets 0. */
+ * It gives the number only; walnutgleam_verdict on the same texts gives the places of 1 to 6 and of 11 to 16. On a refusal no byte
+ * changes and length gets 0. */
 uint32_t walnutgleam_weaken(const uint8_t *history, size_t history_length,
                             const uint8_t *certificate, size_t certificate_length,
                             uint32_t wanted, uint8_t *buffer, size_t buffer_length, uint64_t *length);
-
-/* Shows an event of a history text: its line, without its line feed, as start and length within that text. 19 if there is no such
- * event, with 0 and 0; a reading refusal gives the faulty line. */
-uint32_t walnutgleam_show(const uint8_t *history, size_t history_length, uint32_t event,
-                          uint64_t *start, uint64_t *length);
 
 /* Reads a text and writes it back from its record, the bytes that were read, into the buffer's first bytes; the rest stays as it
  * was, and length gets their number. 18 if the buffer has fewer bytes than the text. A reading refusal is that of the check, and

@@ -1,4 +1,4 @@
-/* Calls the archive as the fleet console does, on the sample dispenser Q: the check, its places, an event's line, both
+/* Calls the archive as the fleet console does, on the sample dispenser Q: the check, its places with the event's line, both
  * texts read and written back, and a certificate weakened; and some of these with an answer lost, and on a channel that
  * gets full. Then gives each function NULL with length 0 for each of its slices. Prints a line each; make test compares
  * them with tests/call_from_c.out. */
@@ -39,7 +39,32 @@ static const char accepted[] =
     "view order\n"
     "0 0,1\n";
 
+/* event 1 in its own past */
+static const char itself[] =
+    "criterion converge\n"
+    "event past\n"
+    "0 -\n"
+    "1 1\n"
+    "view order\n"
+    "0 0,1\n";
+
+/* event 1 not in the view */
+static const char without[] =
+    "criterion sequential\n"
+    "view order\n"
+    "0 0\n";
+
 static const uint8_t *bytes(const char *text) { return (const uint8_t *)text; }
+
+/* The verdict on a history and a certificate with its places, and the line that it carries of the history. */
+static void verdict(const char *name, const char *text, const char *order, const char *given) {
+    uint32_t places[7];
+    const uint32_t answer = walnutgleam_verdict(bytes(text), strlen(text), bytes(given), strlen(given), places, 7);
+    printf("verdict, %s, %s: %" PRIu32 ", places", name, order, answer);
+    for (size_t i = 0; i < 7; i++) printf(" %" PRIu32, places[i]);
+    if (places[1] == 1) printf(", line %" PRIu32 ": %.*s", places[2], (int)places[6], text + places[5]);
+    printf("\n");
+}
 
 /* Weakens a certificate into the first `room` bytes of a buffer of 128. Prints the answer, the length, how many of the buffer's last
  * bytes are as they were, and the text. */
@@ -55,7 +80,7 @@ static void weaken(const char *given, uint32_t wanted, size_t room) {
     printf("%.*s", (int)length, (const char *)buffer);
 }
 
-/* A history in both orders of its two events, its event 1 shown, and the text read and written back. */
+/* A history in both orders of its two events and with event 1 in its own past, and the text read and written back. */
 static void both_orders(const char *name, const char *text) {
     const size_t n = strlen(text);
     uint32_t answer = walnutgleam_check(bytes(text), n, bytes(accepted), strlen(accepted));
@@ -63,12 +88,11 @@ static void both_orders(const char *name, const char *text) {
     answer = walnutgleam_check(bytes(text), n, bytes(certificate), strlen(certificate));
     printf("check, %s, 1,0: %" PRIu32 "\n", name, answer);
 
-    uint64_t start = 99;
-    uint64_t length = 99;
-    answer = walnutgleam_show(bytes(text), n, 1, &start, &length);
-    printf("show, %s: %" PRIu32 ": %.*s\n", name, answer, (int)length, text + start);
+    verdict(name, text, "1,0", certificate);
+    verdict(name, text, "1 in its own past", itself);
 
     uint8_t buffer[128];
+    uint64_t length = 99;
     memset(buffer, '.', sizeof buffer);
     answer = walnutgleam_rewrite_history(bytes(text), n, buffer, n, &length);
     const char *const kept = memcmp(buffer, text, n) == 0 && buffer[n] == '.' ? "same" : "other";
@@ -101,7 +125,6 @@ static void give_null(void) {
     const size_t an = strlen(accepted);
     const size_t rn = strlen(certificate);
     uint8_t buffer[128];
-    uint64_t start = 99;
 
     printf("check, NULL history: %" PRIu32 "\n", walnutgleam_check(NULL, 0, a, an));
     printf("check, NULL certificate: %" PRIu32 "\n", walnutgleam_check(h, hn, NULL, 0));
@@ -118,9 +141,6 @@ static void give_null(void) {
     say_length("weaken to 5, NULL buffer", walnutgleam_weaken(h, hn, a, an, 5, NULL, 0, &given_length));
     say_length("weaken what is refused, NULL buffer", walnutgleam_weaken(h, hn, r, rn, 2, NULL, 0, &given_length));
     say_length("weaken, all NULL", walnutgleam_weaken(NULL, 0, NULL, 0, 2, NULL, 0, &given_length));
-
-    say_length("show, NULL history", walnutgleam_show(NULL, 0, 0, &start, &given_length));
-    printf("its start: %" PRIu64 "\n", start);
 
     say_length("history, NULL history", walnutgleam_rewrite_history(NULL, 0, buffer, sizeof buffer, &given_length));
     say_length("history, NULL buffer", walnutgleam_rewrite_history(h, hn, NULL, 0, &given_length));
@@ -144,14 +164,25 @@ int main(void) {
     for (size_t i = 0; i < 9; i++) printf(" %" PRIu32, places[i]);
     printf("\nline %" PRIu32 ": %.*s\n", places[2], (int)places[6], history + places[5]);
 
+    /* the same with only the first three asked for */
+    for (size_t i = 0; i < 9; i++) places[i] = 99;
+    printf("verdict %" PRIu32 ":", walnutgleam_verdict(bytes(history), h, bytes(certificate), c, places, 3));
+    for (size_t i = 0; i < 9; i++) printf(" %" PRIu32, places[i]);
+    printf("\n");
+
     /* a damaged certificate: the places name its line, and only the first three are asked for */
     for (size_t i = 0; i < 9; i++) places[i] = 99;
     printf("verdict %" PRIu32 ":", walnutgleam_verdict(bytes(history), h, bytes("criterion sequential\nview ordre\n"), 32, places, 3));
     for (size_t i = 0; i < 9; i++) printf(" %" PRIu32, places[i]);
     printf("\n");
 
-    uint64_t length = 0;
+    /* an event's line comes with 12, and none with 14 and with 0 */
+    verdict("Q", history, "1 in its own past", itself);
+    verdict("Q", history, "0 alone", without);
+    verdict("Q", history, "0,1", accepted);
+
     uint8_t buffer[128];
+    uint64_t length = 0;
     memset(buffer, '.', sizeof buffer);
     uint32_t answer = walnutgleam_rewrite_history(bytes(history), h, buffer, sizeof buffer, &length);
     printf("history %" PRIu32 " %" PRIu64 " %s\n", answer, length, memcmp(buffer, history, h) == 0 && buffer[h] == '.' ? "same" : "other");

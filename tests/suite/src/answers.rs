@@ -6,13 +6,19 @@ use crate::checker::Lent;
 use crate::compare::Comparer;
 use crate::history::History;
 
+/// The number that the checker answers, and its seven places.
+pub fn given(comparer: &Comparer, history: &[u8], certificate: &[u8]) -> (u32, [u32; 7]) {
+    let mut places = Lent::new(7, |_| 0);
+    let answer = comparer.checker.verdict(history, certificate, &mut places);
+    (answer, places.part().try_into().expect("there are seven"))
+}
+
 /// The number, the view and the event that the checker answers; the model is compared on the way.
 fn said(comparer: &mut Comparer, history: &History, certificate: &[u8]) -> (u32, u32, u32) {
     let text = history.text();
     comparer.check(&text, certificate);
-    let mut places = Lent::new(7, |_| 0);
-    let answer = comparer.checker.verdict(&text, certificate, &mut places);
-    (answer, places.part()[3], places.part()[4])
+    let (answer, places) = given(comparer, &text, certificate);
+    (answer, places[3], places[4])
 }
 
 /// Holds the checker to a number, with its view and event, that is stated here by hand.

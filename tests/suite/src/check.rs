@@ -1,9 +1,9 @@
 //! The check of a certificate of a history, and what it answers.
 
 use crate::certificate::{Certificate, CertificateRules, Criterion, View};
-use crate::history::{Event, History, HistoryRules};
+use crate::history::{line_of_event, Event, History, HistoryRules};
 use crate::objects::{ObjectRules, State};
-use crate::texts::{Refusal, Text};
+use crate::texts::{Carried, Refusal, Text};
 
 /// A number for none in the places of a verdict.
 pub const NONE: u32 = 0xFFFF_FFFF;
@@ -13,20 +13,21 @@ pub const NONE: u32 = 0xFFFF_FFFF;
 pub struct Verdict {
     pub answer: u32,
     pub criterion: Option<Criterion>,
-    pub refusal: Option<Refusal>,
+    /// The faulty line of a reading refusal, or the line of the event.
+    pub carried: Option<Carried>,
     pub view: Option<usize>,
     pub event: Option<usize>,
 }
 
 impl Verdict {
     pub fn refused(refusal: Refusal) -> Verdict {
-        Verdict { answer: refusal.answer, refusal: Some(refusal), ..Verdict::default() }
+        Verdict { answer: refusal.answer, carried: Some(refusal.carried), ..Verdict::default() }
     }
 
     /// The seven places in the order that the header gives.
     pub fn places(&self) -> [u32; 7] {
         let number = |place: Option<usize>| place.map_or(NONE, |number| number as u32);
-        let text = match self.refusal.map(|refusal| refusal.text) {
+        let text = match self.carried.map(|carried| carried.text) {
             None => 0,
             Some(Text::History) => 1,
             Some(Text::Certificate) => 2,
@@ -34,11 +35,11 @@ impl Verdict {
         [
             self.criterion.map_or(NONE, Criterion::number),
             text,
-            number(self.refusal.map(|refusal| refusal.line)),
+            number(self.carried.map(|carried| carried.line)),
             number(self.view),
             number(self.event),
-            self.refusal.map_or(0, |refusal| refusal.start as u32),
-            self.refusal.map_or(0, |refusal| refusal.length as u32),
+            self.carried.map_or(0, |carried| carried.start as u32),
+            self.carried.map_or(0, |carried| carried.length as u32),
         ]
     }
 }
@@ -171,10 +172,9 @@ pub trait CheckRules: ObjectRules {
             .or_else(|| self.wrong_answer(history, certificate))
     }
 
-    /// The verdict on two records.
-    fn verdict_of(&self, history: &History, certificate: &Certificate) -> Verdict {
-        let (answer, view, event) = self.fault(history, certificate).unwrap_or((0, None, None));
-        Verdict { answer, criterion: Some(certificate.criterion), refusal: None, view, event }
+    /// The answer's number for two records.
+    fn answer_to(&self, history: &History, certificate: &Certificate) -> u32 {
+        self.fault(history, certificate).map_or(0, |fault| fault.0)
     }
 }
 
@@ -182,20 +182,33 @@ pub trait CheckRules: ObjectRules {
 pub trait Rules: HistoryRules + CertificateRules + CheckRules {
     /// Reads both texts: the history's refusals, then the certificate's.
     fn read_both(&self, history: &[u8], certificate: &[u8]) -> Result<(History, Certificate), Refusal> {
-        let (history, _) = self.read_history(history)?;
+        let history = self.read_history(history)?;
         let certificate = self.read_certificate(&history, certificate)?;
         Ok((history, certificate))
     }
 
+    /// 16 carries the line of its event, and 11 to 13 carry theirs: its number is the event's number plus the count of
+    /// objects plus 3.
+    fn line_of_fault(&self, text: &[u8], history: &History, fault: Fault) -> Option<Carried> {
+        let (11..=13 | 16, _, Some(event)) = fault else { return None };
+        let line = line_of_event(text, event)?;
+        let number = event + history.objects.len() + 3;
+        Some(Carried { text: Text::History, line: number, start: line.start, length: line.length })
+    }
+
     fn check_texts(&self, history: &[u8], certificate: &[u8]) -> Verdict {
-        match self.read_both(history, certificate) {
-            Ok((history, certificate)) => self.verdict_of(&history, &certificate),
-            Err(refusal) => Verdict::refused(refusal),
-        }
+        let (record, certificate) = match self.read_both(history, certificate) {
+            Ok(both) => both,
+            Err(refusal) => return Verdict::refused(refusal),
+        };
+        let fault = self.fault(&record, &certificate).unwrap_or((0, None, None));
+        let carried = self.line_of_fault(history, &record, fault);
+        let (answer, view, event) = fault;
+        Verdict { answer, criterion: Some(certificate.criterion), carried, view, event }
     }
 }
 
-/// Document 01's rules with T-01 and T-02 of document 02, the lost answers and the channels: every default above.
+/// Document 01's rules with those that T-01 to T-05 of document 02 change: every default above.
 pub struct Document01;
 
 impl ObjectRules for Document01 {}

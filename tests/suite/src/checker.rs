@@ -24,17 +24,9 @@ impl<T: Copy> Lent<T> {
     }
 }
 
-/// Start and length of a shown line.
-#[derive(Clone, Copy, PartialEq, Eq, Debug)]
-pub struct Shown {
-    pub start: u64,
-    pub length: u64,
-}
-
 pub trait Checker {
     fn check(&self, history: &[u8], certificate: &[u8]) -> u32;
     fn verdict(&self, history: &[u8], certificate: &[u8], places: &mut Lent<u32>) -> u32;
-    fn show(&self, history: &[u8], event: u32, shown: &mut Shown) -> u32;
     fn rewrite_history(&self, history: &[u8], buffer: &mut Lent<u8>, length: &mut u64) -> u32;
     fn rewrite_certificate(&self, history: &[u8], certificate: &[u8], buffer: &mut Lent<u8>, length: &mut u64) -> u32;
     fn weaken(&self, history: &[u8], certificate: &[u8], wanted: u32, buffer: &mut Lent<u8>, length: &mut u64) -> u32;
@@ -50,7 +42,6 @@ extern "C" {
         places: *mut u32,
         places_length: usize,
     ) -> u32;
-    fn walnutgleam_show(history: *const u8, history_length: usize, event: u32, start: *mut u64, length: *mut u64) -> u32;
     fn walnutgleam_rewrite_history(
         history: *const u8,
         history_length: usize,
@@ -127,10 +118,6 @@ impl<P: Pointers> Checker for P {
         }
     }
 
-    fn show(&self, history: &[u8], event: u32, shown: &mut Shown) -> u32 {
-        unsafe { walnutgleam_show(P::of_text(history), history.len(), event, &mut shown.start, &mut shown.length) }
-    }
-
     fn rewrite_history(&self, history: &[u8], buffer: &mut Lent<u8>, length: &mut u64) -> u32 {
         unsafe { walnutgleam_rewrite_history(P::of_text(history), history.len(), P::of_lent(buffer), buffer.length, length) }
     }
@@ -196,20 +183,8 @@ impl<R: Rules> Checker for Model<R> {
         verdict.answer
     }
 
-    fn show(&self, history: &[u8], event: u32, shown: &mut Shown) -> u32 {
-        let (answer, start, length) = match self.0.read_history(history) {
-            Err(refusal) => (refusal.answer, refusal.start, refusal.length),
-            Ok((_, lines)) => match lines.get(event as usize) {
-                Some(line) => (0, line.start, line.length),
-                None => (19, 0, 0),
-            },
-        };
-        *shown = Shown { start: start as u64, length: length as u64 };
-        answer
-    }
-
     fn rewrite_history(&self, history: &[u8], buffer: &mut Lent<u8>, length: &mut u64) -> u32 {
-        let result = self.0.read_history(history).map(|(record, _)| record.text()).map_err(|refusal| refusal.answer);
+        let result = self.0.read_history(history).map(|record| record.text()).map_err(|refusal| refusal.answer);
         put(result, buffer, length)
     }
 

@@ -3,14 +3,13 @@
 use std::collections::{BTreeMap, BTreeSet};
 
 use crate::check::Document01;
-use crate::checker::{Checker, Lent, Model, Shown};
+use crate::checker::{Checker, Lent, Model};
 
-/// One of the functions with what it takes besides the texts: lengths of lent memory, an event, a wanted number.
+/// One of the functions with what it takes besides the texts: lengths of lent memory, a wanted number.
 #[derive(Clone, Copy, PartialEq, Eq, PartialOrd, Ord, Debug)]
 pub enum Call {
     Check,
     Verdict { places: usize },
-    Show { event: u32 },
     RewriteHistory { buffer: usize },
     RewriteCertificate { buffer: usize },
     Weaken { wanted: u32, buffer: usize },
@@ -21,7 +20,6 @@ impl Call {
         match self {
             Call::Check => "check",
             Call::Verdict { .. } => "verdict",
-            Call::Show { .. } => "show",
             Call::RewriteHistory { .. } => "rewrite_history",
             Call::RewriteCertificate { .. } => "rewrite_certificate",
             Call::Weaken { .. } => "weaken",
@@ -34,7 +32,6 @@ impl Call {
 pub struct Outcome {
     pub answer: u32,
     pub places: Lent<u32>,
-    pub shown: Shown,
     pub buffer: Lent<u8>,
     pub length: u64,
     pub inputs_kept: bool,
@@ -50,7 +47,6 @@ pub fn run(checker: &dyn Checker, call: Call, history: &[u8], certificate: &[u8]
     let mut outcome = Outcome {
         answer: 0,
         places: Lent::new(places, |place| 0xA5A5_0000 + place as u32),
-        shown: Shown { start: 0x5151_5151, length: 0x5252_5252 },
         buffer: Lent::new(buffer, |place| 0x80 + (place % 101) as u8),
         length: 0x5353_5353,
         inputs_kept: true,
@@ -59,7 +55,6 @@ pub fn run(checker: &dyn Checker, call: Call, history: &[u8], certificate: &[u8]
     outcome.answer = match call {
         Call::Check => checker.check(history, certificate),
         Call::Verdict { .. } => checker.verdict(history, certificate, &mut outcome.places),
-        Call::Show { event } => checker.show(history, event, &mut outcome.shown),
         Call::RewriteHistory { .. } => checker.rewrite_history(history, &mut outcome.buffer, &mut outcome.length),
         Call::RewriteCertificate { .. } => {
             checker.rewrite_certificate(history, certificate, &mut outcome.buffer, &mut outcome.length)
@@ -76,11 +71,9 @@ impl Outcome {
     fn say(&self) -> String {
         let places: Vec<String> = self.places.all.iter().map(u32::to_string).collect();
         format!(
-            "answer {}, places with guards [{}], shown {} {}, length {}, buffer with guards {:?}{}",
+            "answer {}, places with guards [{}], length {}, buffer with guards {:?}{}",
             self.answer,
             places.join(" "),
-            self.shown.start,
-            self.shown.length,
             self.length,
             crop(&self.buffer.all),
             if self.inputs_kept { "" } else { ", an input changed" }

@@ -48,7 +48,6 @@ pub fn limits(comparer: &mut Comparer, random: &mut Random, _: usize) {
             for more in 0..4 {
                 let h = padded(&history[..history.len() - 1], HISTORY_LIMIT - 1 + more, pad, last);
                 comparer.check(&h, certificate);
-                comparer.compare(Call::Show { event: 1 }, &h, certificate);
                 comparer.compare(Call::RewriteHistory { buffer: 20_000 }, &h, certificate);
                 let h = padded(b"", HISTORY_LIMIT - 1 + more, pad, last);
                 comparer.check(&h, certificate);

@@ -170,7 +170,7 @@ const LISTS: [&str; 45] = [
 /// Lines of certificates of a history with three events by processes 2 and 5, in each place where one stands.
 pub fn certificates(comparer: &mut Comparer, _: &mut Random, _: usize) {
     let history = format!("{HEAD}0 register -\n{EVENTS}0 2 0 write 3 -\n1 5 0 write 4 -\n2 5 0 read - 4\n");
-    let record = crate::history::HistoryRules::read_history(&crate::check::Document01, history.as_bytes()).expect("it reads").0;
+    let record = crate::history::HistoryRules::read_history(&crate::check::Document01, history.as_bytes()).expect("it reads");
     for criterion in CRITERIA {
         let pasts: [&[usize]; 3] = [&[], &[0], &[0, 1]];
         let views: &[&[usize]] = match criterion {

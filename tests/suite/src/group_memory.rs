@@ -1,37 +1,12 @@
-//! Lent memory of every size: the shown line, the buffers of writing, the slices of places; texts with neighbours in memory; and
-//! slices that are NULL.
+//! Lent memory of every size: the buffers of writing, the slices of places; texts with neighbours in memory; and slices that are
+//! NULL.
 
 use crate::checker::ArchiveGivenNull;
 use crate::compare::{Call, Comparer};
 use crate::damage::{damage_certificate, damage_either, damage_text};
 use crate::group_random::pair;
-use crate::make::register_history;
 use crate::random::Random;
 use crate::samples::q;
-
-/// Shows every event and beyond.
-pub fn show(comparer: &mut Comparer, random: &mut Random, rounds: usize) {
-    let beyond = [65, 127, 128, 255, 256, 257, 320, 65_535, 65_536, 65_537, 1 << 24, 0x7FFF_FFFF, 0x8000_0000, 0xFFFF_FFFE, 0xFFFF_FFFF];
-    for events in 0..=64 {
-        let text = register_history(events, 8).text();
-        for event in (0..=events as u32 + 1).chain(beyond) {
-            comparer.compare(Call::Show { event }, &text, b"");
-        }
-    }
-    for _ in 0..rounds.div_ceil(16) {
-        let (history, _) = pair(random);
-        let mut text = history.text();
-        if random.once_in(3) {
-            damage_text(random, &mut text);
-        }
-        for event in (0..=history.events.len() as u32 + 1).chain(beyond) {
-            comparer.compare(Call::Show { event }, &text, b"");
-        }
-        if comparer.done() {
-            return;
-        }
-    }
-}
 
 /// The lengths of buffers to try for a text: all of them for a short text, and those around its own for a long one.
 pub fn lengths_around(text: usize) -> Vec<usize> {
@@ -89,13 +64,19 @@ pub fn neighbours(comparer: &mut Comparer, random: &mut Random, rounds: usize) {
     let before: [&[u8]; 4] = [b"", b"object kind width\n", b"1", b"\n"];
     let behind: [&[u8]; 6] = [b"", b"\n", b"0\n", b"9", b",1\n", b"2 0 0 read - 0\n"];
     for _ in 0..rounds.div_ceil(8) {
-        let (history, certificate) = pair(random);
+        let (history, mut certificate) = pair(random);
+        let damage = random.under(5);
+        // 11 to 16 too: the line of an event is part of the text that has neighbours.
+        if damage == 4 {
+            damage_certificate(random, &history, &mut certificate);
+        }
         let (mut history, mut certificate) = (history.text(), certificate.text());
-        match random.under(4) {
+        match damage {
             0 => damage_text(random, &mut history),
             1 => damage_text(random, &mut certificate),
             2 => drop(history.pop()),
-            _ => drop(certificate.pop()),
+            3 => drop(certificate.pop()),
+            _ => {}
         }
         for behind in behind {
             let before = *random.pick(&before);
@@ -103,7 +84,6 @@ pub fn neighbours(comparer: &mut Comparer, random: &mut Random, rounds: usize) {
             let c = [before, &certificate, behind].concat();
             let (h, c) = (&h[before.len()..before.len() + history.len()], &c[before.len()..before.len() + certificate.len()]);
             comparer.check(h, c);
-            comparer.compare(Call::Show { event: random.under(66) as u32 }, h, c);
         }
         if comparer.done() {
             return;
@@ -137,9 +117,6 @@ pub fn nulls(comparer: &mut Comparer, random: &mut Random, rounds: usize) {
             comparer.compare(Call::Check, history, certificate);
             for places in [0, 7] {
                 comparer.compare(Call::Verdict { places }, history, certificate);
-            }
-            for event in [0, 64] {
-                comparer.compare(Call::Show { event }, history, certificate);
             }
             for buffer in [0, 1, 25_000] {
                 comparer.compare(Call::RewriteHistory { buffer }, history, certificate);

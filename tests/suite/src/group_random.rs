@@ -22,7 +22,6 @@ fn all_calls(comparer: &mut Comparer, random: &mut Random, history: &[u8], certi
     comparer.compare(Call::Check, history, certificate);
     comparer.compare(Call::Verdict { places: 7 }, history, certificate);
     comparer.compare(Call::Verdict { places: random.under(10) }, history, certificate);
-    comparer.compare(Call::Show { event: random.under(66) as u32 }, history, certificate);
     let near = |random: &mut Random, length: usize| (length + random.under(8)).saturating_sub(random.under(6));
     let buffer = near(random, history.len());
     comparer.compare(Call::RewriteHistory { buffer }, history, certificate);

@@ -1,6 +1,6 @@
 //! What document 01 states outright: the sample dispensers with their answers and places, and texts whose fault its
-//! words name; and the same of lost answers, of channels and of windows, by T-01, T-02 and T-04 of document 02. The
-//! numbers are written here by hand, so that the model is held to them as well.
+//! words name; and the same of lost answers, of channels, of windows and of the lines that faults carry, by T-01, T-02,
+//! T-04 and T-05 of document 02. The numbers are written here by hand, so that the model is held to them as well.
 
 use crate::certificate::Criterion;
 use crate::check::{Document01, Rules, NONE};
@@ -20,8 +20,6 @@ fn stated(comparer: &mut Comparer, name: &str, history: &[u8], certificate: &[u8
     comparer.note(given == answer, || format!("{name}: given {given}, stated {answer} for \"{}\"", crop(certificate)));
     // The other functions on the same texts.
     for call in [
-        Call::Show { event: 0 },
-        Call::Show { event: 2 },
         Call::RewriteHistory { buffer: history.len() },
         Call::RewriteCertificate { buffer: certificate.len() },
         Call::Weaken { wanted: 1, buffer: certificate.len() + 30 },
@@ -31,16 +29,26 @@ fn stated(comparer: &mut Comparer, name: &str, history: &[u8], certificate: &[u8
     }
 }
 
-fn carried(criterion: Criterion, view: Option<u32>, event: Option<u32>) -> [u32; 7] {
-    [criterion.number(), 0, NONE, view.unwrap_or(NONE), event.unwrap_or(NONE), 0, 0]
+/// The places of an answer that is no reading refusal. Where it has an event, it carries that event's line of the history,
+/// which is found here by the heading above it.
+fn carried(criterion: Criterion, history: &[u8], view: Option<u32>, event: Option<u32>) -> [u32; 7] {
+    let (criterion, view) = (criterion.number(), view.unwrap_or(NONE));
+    let Some(event) = event else { return [criterion, 0, NONE, view, NONE, 0, 0] };
+    let text = std::str::from_utf8(history).expect("it is ASCII");
+    let above = text.find(EVENTS).expect("it has the heading") + EVENTS.len();
+    let objects = text[..above].matches('\n').count() - 2;
+    let start = above + text[above..].split_inclusive('\n').take(event as usize).map(str::len).sum::<usize>();
+    let length = text[start..].find('\n').expect("its line ends");
+    [criterion, 1, event + objects as u32 + 3, view, event, start as u32, length as u32]
 }
 
 /// The sample dispensers and the edges.
 pub fn samples(comparer: &mut Comparer, _: &mut Random, _: usize) {
     use Criterion::{Causal, Converge, Pram, Sequential, Weak};
     let mut say = |name: &str, history: &History, certificate: crate::certificate::Certificate, answer, view, event| {
-        let places = carried(certificate.criterion, view, event);
-        stated(comparer, name, &history.text(), &certificate.text(), answer, places);
+        let text = history.text();
+        let places = carried(certificate.criterion, &text, view, event);
+        stated(comparer, name, &text, &certificate.text(), answer, places);
     };
     say("Q sequential 0,1", &q(), certificate(&q(), Sequential, &[], &[&[0, 1]]), 0, None, None);
     say("Q sequential 1,0", &q(), certificate(&q(), Sequential, &[], &[&[1, 0]]), 16, Some(0), Some(1));
@@ -106,7 +114,7 @@ pub fn samples(comparer: &mut Comparer, _: &mut Random, _: usize) {
 
     let empty: &[u8] = b"criterion sequential\nview order\n0 -\n";
     let one: &[u8] = b"criterion sequential\nview order\n0 0\n";
-    let accepted = carried(Sequential, None, None);
+    let accepted = carried(Sequential, b"", None, None);
     let width = |width: u32| format!("object kind width\n0 window {width}\nevent process object op value answer\n").into_bytes();
     stated(comparer, "width 8", &width(8), empty, 0, accepted);
     stated(comparer, "width 9", &width(9), empty, 3, [NONE, 1, 2, NONE, NONE, 18, 10]);
@@ -157,7 +165,7 @@ pub fn windows(comparer: &mut Comparer, _: &mut Random, _: usize) {
     use Criterion::{Causal, Converge, Pram, Sequential, Weak};
     let mut say = |name: &str, width: u32, lines: &str, order: &str, answer: u32, event: Option<u32>| {
         let history = format!("{HEAD}0 window {width}\n{EVENTS}{lines}");
-        let places = carried(Sequential, event.map(|_| 0), event);
+        let places = carried(Sequential, history.as_bytes(), event.map(|_| 0), event);
         let certificate = format!("criterion sequential\nview order\n0 {order}\n");
         stated(comparer, name, history.as_bytes(), certificate.as_bytes(), answer, places);
     };
@@ -204,7 +212,7 @@ pub fn windows(comparer: &mut Comparer, _: &mut Random, _: usize) {
         for length in 0..=width {
             let history = format!("{HEAD}0 window {width}\n{EVENTS}0 0 0 read - {}\n", list(length));
             let event = (length > 0).then_some(0);
-            let places = carried(Sequential, event, event);
+            let places = carried(Sequential, history.as_bytes(), event, event);
             let certificate = b"criterion sequential\nview order\n0 0\n";
             stated(comparer, "0 to k values", history.as_bytes(), certificate, if length == 0 { 0 } else { 16 }, places);
         }
@@ -222,7 +230,7 @@ pub fn windows(comparer: &mut Comparer, _: &mut Random, _: usize) {
     assert_eq!(c_with("9"), c().text());
     let mut say = |name: &str, history: &[u8], criterion: Criterion, lists: &str, answer: u32, at: Option<(u32, u32)>| {
         let text = format!("criterion {}\n{lists}", criterion.word());
-        let places = carried(criterion, at.map(|at| at.0), at.map(|at| at.1));
+        let places = carried(criterion, history, at.map(|at| at.0), at.map(|at| at.1));
         stated(comparer, name, history, text.as_bytes(), answer, places);
     };
     let pasts = "event past\n0 -\n1 -\n2 1\n3 0,1,2\nview order\n";
@@ -255,7 +263,7 @@ pub fn channels(comparer: &mut Comparer, _: &mut Random, _: usize) {
     let sequential = |order: &str| format!("criterion sequential\nview order\n0 {order}\n");
     let mut say = |name: &str, capacity: u32, lines: &str, order: &str, answer: u32, event: Option<u32>| {
         let history = format!("{HEAD}0 channel {capacity}\n{EVENTS}{lines}");
-        let places = carried(Sequential, event.map(|_| 0), event);
+        let places = carried(Sequential, history.as_bytes(), event.map(|_| 0), event);
         stated(comparer, name, history.as_bytes(), sequential(order).as_bytes(), answer, places);
     };
     let lines = "0 0 0 push 5 -\n1 1 0 push 6 6\n2 0 0 pop - 5\n";
@@ -303,7 +311,7 @@ pub fn channels(comparer: &mut Comparer, _: &mut Random, _: usize) {
     };
     let mut say = |name: &str, history: &[u8], criterion: Criterion, lists: &str, answer: u32, at: Option<(u32, u32)>| {
         let text = format!("criterion {}\n{lists}", criterion.word());
-        let places = carried(criterion, at.map(|at| at.0), at.map(|at| at.1));
+        let places = carried(criterion, history, at.map(|at| at.0), at.map(|at| at.1));
         stated(comparer, name, history, text.as_bytes(), answer, places);
     };
     let taken = two("-", "-");
@@ -355,6 +363,56 @@ pub fn channels(comparer: &mut Comparer, _: &mut Random, _: usize) {
     say("two channels and a queue", beside.as_bytes(), Sequential, whole, 0, None);
     let turned = beside.replace("0 channel 1\n1 channel 2\n", "0 channel 2\n1 channel 1\n");
     say("their capacities changed about", turned.as_bytes(), Sequential, whole, 16, Some((0, 3)));
+}
+
+/// The lines that T-05 makes faults carry, with their numbers and where they start, counted by hand.
+pub fn lines(comparer: &mut Comparer, _: &mut Random, _: usize) {
+    let mut say = |history: &str, certificate: &str, answer: u32, places: [u32; 7], part: &str| {
+        let [_, _, _, _, _, start, length] = places.map(|place| place as usize);
+        assert_eq!(&history[start..start + length], part);
+        stated(comparer, "the line of a fault", history.as_bytes(), certificate.as_bytes(), answer, places);
+    };
+    // Document 01's example.
+    let q = format!("{HEAD}0 queue -\n{EVENTS}0 0 0 push 7 -\n1 1 0 pop - 7\n");
+    let turned = "criterion sequential\nview order\n0 1,0\n";
+    say(&q, turned, 16, [4, 1, 5, 0, 1, 80, 13], "1 1 0 pop - 7");
+    say(&q, "criterion sequential\nview order\n0 0\n", 14, [4, 0, NONE, 0, NONE, 0, 0], "");
+    say(&q, "criterion sequential\nview order\n0 0,1\n", 0, [4, 0, NONE, NONE, NONE, 0, 0], "");
+    // The answer lost: only its pasts can be faulty.
+    let lost = q.replace("pop - 7", "pop - ?");
+    let itself = "criterion converge\nevent past\n0 -\n1 1\nview order\n0 1,0\n";
+    say(&lost, turned, 0, [4, 0, NONE, NONE, NONE, 0, 0], "");
+    say(&lost, itself, 12, [3, 1, 5, NONE, 1, 80, 13], "1 1 0 pop - ?");
+
+    // W: 11, 13, 15 and 16.
+    let w = format!("{HEAD}0 window 2\n{EVENTS}0 0 0 write 4 -\n1 0 0 read - 9,4\n2 1 0 write 9 -\n3 1 0 read - 4,9\n");
+    let causal = "criterion causal\nevent past\n0 -\n1 0,2\n2 -\n3 0,2\nview order\n0 0\n1 2,0,1\n2 2\n3 0,2,3\n";
+    say(&w, causal, 0, [2, 0, NONE, NONE, NONE, 0, 0], "");
+    say(&w, &causal.replace("1 0,2\n", "1 2\n"), 11, [2, 1, 5, NONE, 1, 82, 16], "1 0 0 read - 9,4");
+    let gap = causal.replace("1 0,2\n2 -\n", "1 0\n2 1\n");
+    say(&w, &gap, 13, [2, 1, 6, NONE, 2, 99, 15], "2 1 0 write 9 -");
+    say(&w, &causal.replace("3 0,2,3\n", "3 0,3,2\n"), 15, [2, 0, NONE, 3, NONE, 0, 0], "");
+    say(&w, &causal.replace("3 0,2,3\n", "3 2,0,3\n"), 16, [2, 1, 7, 3, 3, 115, 16], "3 1 0 read - 4,9");
+    // R: 12.
+    let writes = "0 0 0 write 3 -\n1 1 0 write 8 -\n";
+    let r = format!("{HEAD}0 register -\n{EVENTS}{writes}2 2 0 read - 3\n3 2 0 read - 8\n4 2 0 read - 3\n");
+    let pasts = "event past\n0 -\n1 -\n2 -\n3 0,1,2,3\n4 0,1,2,3\n";
+    let weak = format!("criterion weak\n{pasts}view order\n0 -\n1 -\n2 -\n3 -\n4 -\n");
+    say(&r, &weak, 12, [1, 1, 7, NONE, 3, 115, 14], "3 2 0 read - 8");
+    // M has two objects. Its last event's line is the last of the text.
+    let events = "0 0 0 write 5 -\n1 1 0 read - 5\n2 1 1 write 6 -\n3 2 1 read - 6\n4 2 0 read - 0\n";
+    let m = format!("{HEAD}0 register -\n1 register -\n{EVENTS}{events}");
+    let whole = "criterion sequential\nview order\n0 0,1,2,3,4\n";
+    say(&m, whole, 16, [4, 1, 9, 0, 4, 143, 14], "4 2 0 read - 0");
+    let pram = "criterion pram\nview order\n0 0,1,2,3,4\n1 1,0,2,3,4\n2 1,2,3,4,0\n";
+    say(&m, pram, 16, [0, 1, 6, 1, 1, 97, 14], "1 1 0 read - 5");
+    // As many objects and events as there can be.
+    let objects: String = (0..16).map(|number| format!("{number} register -\n")).collect();
+    let reads: String = (0..63).map(|e| format!("{e} {} 15 read - 0\n", e % 8)).collect();
+    let full = format!("{HEAD}{objects}{EVENTS}{reads}63 7 15 read - 65535\n");
+    let all = (0..64).map(|e| e.to_string()).collect::<Vec<_>>().join(",");
+    let sequential = format!("criterion sequential\nview order\n0 {all}\n");
+    say(&full, &sequential, 16, [4, 1, 82, 0, 63, 1_330, 20], "63 7 15 read - 65535");
 }
 
 const HEAD: &str = "object kind width\n";

@@ -16,7 +16,7 @@ use crate::weaken::{is_pair, weakened};
 pub fn accepted(comparer: &mut Comparer, random: &mut Random, rounds: usize) {
     for _ in 0..rounds.div_ceil(2) {
         let (history, certificate) = pair(random);
-        assert_eq!(Document01.verdict_of(&history, &certificate).answer, 0);
+        assert_eq!(Document01.answer_to(&history, &certificate), 0);
         for wanted in CRITERIA {
             let weaker = weakened(&history, &certificate, wanted);
             assert_eq!(weaker.is_some(), is_pair(certificate.criterion, wanted), "the pairs are listed twice in the model");

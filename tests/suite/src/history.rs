@@ -52,13 +52,26 @@ impl History {
             text += &format!("{number} {} {width}\n", object.kind.word());
         }
         text += &format!("{EVENT_HEADING}\n");
-        for (number, event) in self.events.iter().enumerate() {
-            let value = event.value.map_or("-".to_string(), |value| value.to_string());
-            let answer = event.answer.as_ref().map_or("?".to_string(), |answer| list_text(answer));
-            text += &format!("{number} {} {} {} {value} {answer}\n", event.process, event.object, event.op.word());
+        for number in 0..self.events.len() {
+            text += &format!("{}\n", self.event_text(number));
         }
         text.into_bytes()
     }
+
+    /// The text of an event's line, without its line feed.
+    pub fn event_text(&self, number: usize) -> String {
+        let event = &self.events[number];
+        let value = event.value.map_or("-".to_string(), |value| value.to_string());
+        let answer = event.answer.as_ref().map_or("?".to_string(), |answer| list_text(answer));
+        format!("{number} {} {} {} {value} {answer}", event.process, event.object, event.op.word())
+    }
+}
+
+/// The line of an event in a readable history text, if there is such an event: the lines of the events follow their heading,
+/// in the order of their numbers.
+pub fn line_of_event(text: &[u8], event: usize) -> Option<Line> {
+    let is_heading = |line: &Line| line.of(text) == EVENT_HEADING.as_bytes();
+    lines_of(text).into_iter().skip_while(|line| !is_heading(line)).skip(1).nth(event)
 }
 
 /// An object line whose layout is right.
@@ -197,14 +210,13 @@ pub trait HistoryRules: NumberRules {
         })
     }
 
-    /// Reads a history text: its record and the lines of its events, or the refusal.
-    fn read_history(&self, text: &[u8]) -> Result<(History, Vec<Line>), Refusal> {
+    /// Reads a history text: its record, or the refusal.
+    fn read_history(&self, text: &[u8]) -> Result<History, Refusal> {
         if self.too_long(text.len(), HISTORY_LIMIT) {
             return Err(Refusal::too_long(Text::History));
         }
         let lines = lines_of(text);
         let mut history = History::default();
-        let mut event_lines = Vec::new();
         let mut events = false;
         for line in &lines {
             let bytes = line.of(text);
@@ -227,7 +239,6 @@ pub trait HistoryRules: NumberRules {
                 match self.event_line(bytes, history.events.len() as u64, &history.objects) {
                     Ok(event) => {
                         history.events.push(event);
-                        event_lines.push(*line);
                         0
                     }
                     Err(fault) => fault,
@@ -240,6 +251,6 @@ pub trait HistoryRules: NumberRules {
         if !events {
             return Err(Refusal::missing(Text::History, &lines));
         }
-        Ok((history, event_lines))
+        Ok(history)
     }
 }

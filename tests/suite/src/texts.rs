@@ -6,31 +6,37 @@ pub enum Text {
     Certificate,
 }
 
-/// A reading refusal with all that it carries: the text, the line number from 1, and the faulty line as part of that text.
+/// The line that an answer carries: its text, its number from 1, and the line as part of that text.
 #[derive(Clone, Copy, PartialEq, Eq, Debug)]
-pub struct Refusal {
-    pub answer: u32,
+pub struct Carried {
     pub text: Text,
     pub line: usize,
     pub start: usize,
     pub length: usize,
 }
 
+/// A reading refusal: its number and the faulty line.
+#[derive(Clone, Copy, PartialEq, Eq, Debug)]
+pub struct Refusal {
+    pub answer: u32,
+    pub carried: Carried,
+}
+
 impl Refusal {
     /// 1, a text that is too long: the number is 0 and the part empty.
     pub fn too_long(text: Text) -> Refusal {
-        Refusal { answer: 1, text, line: 0, start: 0, length: 0 }
+        Refusal { answer: 1, carried: Carried { text, line: 0, start: 0, length: 0 } }
     }
 
     /// A missing line: the number is one past the last and the part empty.
     pub fn missing(text: Text, lines: &[Line]) -> Refusal {
-        Refusal { answer: 2, text, line: lines.len() + 1, start: 0, length: 0 }
+        Refusal { answer: 2, carried: Carried { text, line: lines.len() + 1, start: 0, length: 0 } }
     }
 
     /// A faulty line. An empty part starts at 0.
     pub fn faulty(answer: u32, text: Text, line: &Line) -> Refusal {
         let start = if line.length == 0 { 0 } else { line.start };
-        Refusal { answer, text, line: line.number, start, length: line.length }
+        Refusal { answer, carried: Carried { text, line: line.number, start, length: line.length } }
     }
 }
 

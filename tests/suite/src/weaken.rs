@@ -59,7 +59,7 @@ pub fn weaken_texts(rules: &dyn Rules, history: &[u8], certificate: &[u8], wante
     if !is_pair(certificate.criterion, wanted) {
         return Err(17);
     }
-    match rules.verdict_of(&history, &certificate).answer {
+    match rules.answer_to(&history, &certificate) {
         0 => Ok(weakened(&history, &certificate, wanted).expect("it is a pair").text()),
         answer => Err(answer),
     }

@@ -3,10 +3,10 @@
 
 use crate::certificate::{Certificate, CertificateRules, Criterion, View};
 use crate::check::{CheckRules, Document01, Fault, Rules, NONE};
-use crate::checker::{Archive, Checker, Lent, Model, Shown};
-use crate::history::{Event, EventFields, History, HistoryRules, ObjectFields, CAPACITY_LIMIT};
+use crate::checker::{Archive, Checker, Lent, Model};
+use crate::history::{line_of_event, Event, EventFields, History, HistoryRules, ObjectFields, CAPACITY_LIMIT};
 use crate::objects::{Kind, Object, ObjectRules, Op, State};
-use crate::texts::{Line, NumberRules, Refusal};
+use crate::texts::{lines_of, Carried, Line, NumberRules, Refusal, Text};
 
 /// A set of rules with some of one trait overridden.
 macro_rules! wrong_rules {
@@ -311,7 +311,7 @@ wrong_rules!(ViewsOfPramCounted CertificateRules {
 wrong_rules!(CertificateFirst Rules {
     fn read_both(&self, history: &[u8], certificate: &[u8]) -> Result<(History, Certificate), Refusal> {
         if certificate.len() > crate::certificate::CERTIFICATE_LIMIT {
-            return Err(Refusal::too_long(crate::texts::Text::Certificate));
+            return Err(Refusal::too_long(Text::Certificate));
         }
         Document01.read_both(history, certificate)
     }
@@ -847,6 +847,83 @@ wrong_read_length!(EightValuesAreRead, |object, length| (object.kind == Kind::Wi
 wrong_read_length!(FullReadIsFive, |object, length| (object.width == Some(8) && length == 8).then_some(true));
 wrong_read_length!(EmptyReadOfRegister, |object, length| (object.kind == Kind::Register && length == 0).then_some(false));
 
+// The lines that faults carry, wrongly.
+
+/// A checker in which faults carry another line: by the text, its record, the fault, and the line that it should carry.
+macro_rules! wrong_line {
+    ($name:ident, $line:expr) => {
+        wrong_rules!($name Rules {
+            fn line_of_fault(&self, text: &[u8], history: &History, fault: Fault) -> Option<Carried> {
+                let line: fn(&[u8], &History, Fault, Option<Carried>) -> Option<Carried> = $line;
+                line(text, history, fault, Document01.line_of_fault(text, history, fault))
+            }
+        });
+    };
+}
+
+/// A checker in which faults carry their line with something of it changed, by the text and its record.
+macro_rules! changed_line {
+    ($name:ident, $change:expr) => {
+        wrong_line!($name, |text, history, _, right| {
+            let change: fn(&[u8], &History, &mut Carried) = $change;
+            let mut line = right?;
+            change(text, history, &mut line);
+            Some(line)
+        });
+    };
+}
+
+/// An event's line with its number, if there is such an event.
+fn line_of(text: &[u8], history: &History, event: usize) -> Option<Carried> {
+    Document01.line_of_fault(text, history, (16, None, Some(event)))
+}
+
+wrong_line!(NoLineOnSixteen, |_, _, fault, right| right.filter(|_| fault.0 != 16));
+wrong_line!(NoLineOnEleven, |_, _, fault, right| right.filter(|_| fault.0 != 11));
+wrong_line!(NoLineOnTwelve, |_, _, fault, right| right.filter(|_| fault.0 != 12));
+wrong_line!(NoLineOnThirteen, |_, _, fault, right| right.filter(|_| fault.0 != 13));
+wrong_line!(NoLineAtTheLastEvent, |_, history, fault, right| right.filter(|_| fault.2 != history.events.len().checked_sub(1)));
+// 14 and 15 have a view and no event.
+wrong_line!(LineOnFourteen, |text, history, fault, right| if fault.0 == 14 { line_of(text, history, fault.1?) } else { right });
+wrong_line!(LineOnFifteen, |text, history, fault, right| if fault.0 == 15 { line_of(text, history, fault.1?) } else { right });
+wrong_line!(LineOfTheNextEvent, |text, history, fault, right| line_of(text, history, fault.2? + 1).or(right));
+wrong_line!(LineOfTheEventBefore, |text, history, fault, right| line_of(text, history, fault.2?.wrapping_sub(1)).or(right));
+wrong_line!(LineOfTheObject, |text, history, fault, right| {
+    let right = right?;
+    // The object with the event's number, if there is one: its line begins with the same number.
+    let object = fault.2.filter(|number| *number < history.objects.len());
+    let line = object.map(|number| lines_of(text)[number + 1]);
+    Some(line.map_or(right, |line| Carried { text: Text::History, line: line.number, start: line.start, length: line.length }))
+});
+wrong_line!(LineWithTheNext, |text, history, fault, right| {
+    let right = right?;
+    let next = line_of(text, history, fault.2? + 1);
+    Some(Carried { length: next.map_or(right.length, |next| next.start + next.length - right.start), ..right })
+});
+wrong_line!(LineOfTheView, |text, history, fault, right| match (fault.1, right) {
+    (Some(view), Some(_)) => line_of(text, history, view).or(right),
+    _ => right,
+});
+
+changed_line!(LineNumberTooHigh, |_, _, line| line.line += 1);
+changed_line!(LineNumberTooLow, |_, _, line| line.line -= 1);
+changed_line!(LineNumberWithoutObjects, |_, history, line| line.line -= history.objects.len());
+changed_line!(LineNumberOfOneObject, |_, history, line| line.line = line.line - history.objects.len() + 1);
+changed_line!(LineNumberOfFifteenObjects, |_, history, line| line.line -= history.objects.len() / 16);
+changed_line!(LineNumberAmongEvents, |_, history, line| line.line -= history.objects.len() + 2);
+changed_line!(LineInTheCertificate, |_, _, line| line.text = Text::Certificate);
+changed_line!(LineWithLineFeed, |_, _, line| line.length += 1);
+changed_line!(LineWithLineFeedBefore, |_, _, line| line.start -= 1);
+changed_line!(LineWithoutItsLastByte, |_, _, line| line.length -= 1);
+changed_line!(EndForLength, |_, _, line| line.length += line.start);
+changed_line!(EndForStart, |_, _, line| line.start += line.length);
+changed_line!(StartAsByte, |_, _, line| line.start %= 256);
+changed_line!(StartBehindHeading, |text, _, line| line.start -= line_of_event(text, 0).map_or(0, |first| first.start));
+changed_line!(PartWithoutObjects, |text, history, line| {
+    let other = lines_of(text)[line.line - history.objects.len() - 1];
+    (line.start, line.length) = (other.start, other.length);
+});
+
 /// What is spoilt of what the archive gives.
 #[derive(Clone, Copy, PartialEq, Eq, Debug)]
 enum Spoil {
@@ -868,10 +945,8 @@ enum Spoil {
     ByteBehindTheText,
     ByteBehindTheBuffer,
     RestCleared,
-    ShowWithLineFeed,
-    ShowOneFurther,
-    ShowPlacesKept,
-    NineteenAtTheLast,
+    LineInSevenPlacesOnly,
+    PartOfTheCertificate,
     WeakenCopies,
     WeakenWantedByte,
     WeakenEighteenAtExactLength,
@@ -954,41 +1029,36 @@ impl Checker for Spoilt {
         let lent = places.clone();
         let answer = Archive.verdict(history, certificate, places);
         if places.length < 7 {
-            if self.0 == Spoil::EightPlaces {
-                places.all[places.start + places.length] = 0;
+            match self.0 {
+                Spoil::EightPlaces => places.all[places.start + places.length] = 0,
+                Spoil::LineInSevenPlacesOnly if answer >= 11 => {
+                    places.part().iter_mut().skip(1).take(1).for_each(|text| *text = 0);
+                    places.part().iter_mut().skip(2).take(1).for_each(|line| *line = NONE);
+                }
+                _ => {}
             }
             return answer;
         }
+        let reading = answer < 11;
         let part = places.part();
         match self.0 {
             Spoil::EventOffByOne if part[4] != NONE => part[4] += 1,
             Spoil::ViewOffByOne if part[3] != NONE => part[3] += 1,
             Spoil::ViewAndEventSwapped if answer >= 11 => part.swap(3, 4),
-            Spoil::LineFromZero if part[2] != NONE && part[2] > 0 => part[2] -= 1,
-            Spoil::PartWithLineFeed if part[6] > 0 => part[6] += 1,
+            Spoil::LineFromZero if reading && part[2] != NONE && part[2] > 0 => part[2] -= 1,
+            Spoil::PartWithLineFeed if reading && part[6] > 0 => part[6] += 1,
             Spoil::EmptyPartWhereItIs if part[1] != 0 && part[6] == 0 => part[5] = history.len() as u32,
             Spoil::MissingAtTheLast if part[1] == 2 && part[6] == 0 && part[2] as usize > certificate.split(|byte| *byte == 10).count() - 1 => {
                 part[2] = part[2].saturating_sub(1);
             }
             Spoil::CriterionOnRefusal if part[1] == 2 && certificate.starts_with(b"criterion weak\n") => part[0] = 1,
+            Spoil::PartOfTheCertificate if !reading && part[1] == 1 => {
+                let line = faulty_list(certificate, part[3], part[4]);
+                (part[1], part[2]) = (2, line.number as u32);
+                (part[5], part[6]) = (line.start as u32, line.length as u32);
+            }
             Spoil::SixPlaces => part[6] = lent.all[lent.start + 6],
             Spoil::EightPlaces if places.length > 7 => places.part()[7] = 0,
-            _ => {}
-        }
-        answer
-    }
-
-    fn show(&self, history: &[u8], event: u32, shown: &mut Shown) -> u32 {
-        let lent = *shown;
-        let event = if self.0 == Spoil::ShowOneFurther && event < 64 { event + 1 } else { event };
-        let answer = Archive.show(history, event, shown);
-        match (self.0, answer) {
-            (Spoil::ShowWithLineFeed, 0) => shown.length += 1,
-            (Spoil::ShowPlacesKept, 19) => *shown = lent,
-            (Spoil::NineteenAtTheLast, 0) if (shown.start + shown.length + 1) as usize == history.len() => {
-                *shown = Shown { start: 0, length: 0 };
-                return 19;
-            }
             _ => {}
         }
         answer
@@ -1058,6 +1128,19 @@ impl Checker for Spoilt {
             (_, answer) => answer,
         }
     }
+}
+
+/// The line of a certificate that has the faulty list: the view's, or the event's past where there is no view.
+fn faulty_list(certificate: &[u8], view: u32, event: u32) -> Line {
+    let lines = lines_of(certificate);
+    let begins = |line: &&Line, own: u32| line.of(certificate).starts_with(format!("{own} ").as_bytes());
+    // The views come behind the pasts.
+    let found = if view == NONE {
+        lines.iter().find(|line| begins(line, event))
+    } else {
+        lines.iter().rev().find(|line| begins(line, view))
+    };
+    *found.expect("the certificate has that list")
 }
 
 /// A line in which a list of 64 numbers lacks its last one.
@@ -1148,10 +1231,6 @@ pub fn wrong_checkers() -> Vec<(&'static str, Box<dyn Checker>)> {
         spoilt("a byte is written behind the text", Spoil::ByteBehindTheText),
         spoilt("a byte is written behind the buffer", Spoil::ByteBehindTheBuffer),
         spoilt("the rest of the buffer is cleared", Spoil::RestCleared),
-        spoilt("a shown line has its line feed", Spoil::ShowWithLineFeed),
-        spoilt("the next event is shown", Spoil::ShowOneFurther),
-        spoilt("19 leaves start and length as they were", Spoil::ShowPlacesKept),
-        spoilt("19 for the last event", Spoil::NineteenAtTheLast),
         spoilt("weakening copies its input", Spoil::WeakenCopies),
         spoilt("weakening takes 256 for 0", Spoil::WeakenWantedByte),
         spoilt("weakening has 18 for a buffer of exactly the length", Spoil::WeakenEighteenAtExactLength),
@@ -1238,5 +1317,34 @@ pub fn wrong_checkers() -> Vec<(&'static str, Box<dyn Checker>)> {
         model("no 5 for a window's read of up to eight values", EightValuesAreRead),
         model("5 for a read of eight values", FullReadIsFive),
         model("no 5 for a register's read of no value", EmptyReadOfRegister),
+        model("16 carries no line", NoLineOnSixteen),
+        model("11 carries no line", NoLineOnEleven),
+        model("12 carries no line", NoLineOnTwelve),
+        model("13 carries no line", NoLineOnThirteen),
+        model("a fault at the last event carries no line", NoLineAtTheLastEvent),
+        model("14 carries the line of the event with the view's number", LineOnFourteen),
+        model("15 carries the line of the event with the view's number", LineOnFifteen),
+        model("a fault carries the line of the next event", LineOfTheNextEvent),
+        model("a fault carries the line of the event before", LineOfTheEventBefore),
+        model("a fault carries the line of the event and the next one", LineWithTheNext),
+        model("a fault carries the line of the object with the event's number", LineOfTheObject),
+        model("16 carries the line of the event with the view's number", LineOfTheView),
+        model("the number of the event's line is one too high", LineNumberTooHigh),
+        model("the number of the event's line is one too low", LineNumberTooLow),
+        model("the number of the event's line leaves the objects out", LineNumberWithoutObjects),
+        model("the number of the event's line counts one object always", LineNumberOfOneObject),
+        model("the number of the event's line counts 15 objects of 16", LineNumberOfFifteenObjects),
+        model("the number of the event's line counts the events alone", LineNumberAmongEvents),
+        model("the event's line is said to be in the certificate", LineInTheCertificate),
+        model("the event's line has its line feed", LineWithLineFeed),
+        model("the event's line starts at the line feed before it", LineWithLineFeedBefore),
+        model("the event's line lacks its last byte", LineWithoutItsLastByte),
+        model("the end of the event's line stands where its length belongs", EndForLength),
+        model("the end of the event's line stands where its start belongs", EndForStart),
+        model("where the event's line starts wraps at 256", StartAsByte),
+        model("where the event's line starts is counted from the first event", StartBehindHeading),
+        model("the part is counted without the lines of the objects", PartWithoutObjects),
+        spoilt("a fault carries its list of the certificate", Spoil::PartOfTheCertificate),
+        spoilt("the event's line is left out of a slice of fewer places", Spoil::LineInSevenPlacesOnly),
     ]
 }
