@@ -1,6 +1,6 @@
 /* Compares the two checks: on the sample folders that are named as arguments, on pairs of many seeds, as they are and
- * with some answers lost, and on damaged variants of all of them. Both must give the same number, and the verdict of the
- * archive must carry the line that goes with it. Prints how often each number came.
+ * with some answers lost, and on damaged variants of all of them. Both must give the same number, and where both texts
+ * are read the verdict of the archive must carry the line that goes with it. Prints how often each number came.
  *
  * agree ROUNDS FOLDER...: so many damaged variants of each pair. */
 #include <stdbool.h>
@@ -36,12 +36,12 @@ static size_t end_of_line(const struct text *t, size_t a) {
     return a;
 }
 
-/* Whether an answer carries the line that it should: with 11 to 13 and 16 that of its event, which is found here by going down from
- * the heading of the events, and none with 0, 14 and 15. Reading refusals are not judged here. */
+/* Whether an answer carries the line that it should: with 11 to 13 and 16 that of its event, which is found here by
+ * going down from the heading of the events, and none with any other. Reading refusals are not judged here. */
 static bool carries_its_line(const struct text *t, uint32_t answer, const uint32_t places[7]) {
-    if (answer == 0 || answer == 14 || answer == 15)
+    if (answer != 0 && answer < 11) return true;
+    if (answer == 0 || (answer > 13 && answer != 16))
         return places[1] == 0 && places[2] == WALNUTGLEAM_NONE && places[5] == 0 && places[6] == 0;
-    if (answer < 11) return true;
     size_t a = events_of(t);
     uint32_t line = 1;
     for (size_t i = 0; i < a; i++) line += t->bytes[i] == '\n';
@@ -61,7 +61,7 @@ static uint32_t compare(const struct pair *p) {
     memcpy(c, p->certificate.bytes, p->certificate.length);
     const uint32_t a = walnutgleam_check(h, p->history.length, c, p->certificate.length);
     const uint32_t b = plain_check(h, p->history.length, c, p->certificate.length);
-    uint32_t places[7];
+    uint32_t places[7] = {99, 99, 99, 99, 99, 99, 99};
     const uint32_t verdict = walnutgleam_verdict(h, p->history.length, c, p->certificate.length, places, 7);
     free(h);
     free(c);

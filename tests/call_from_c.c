@@ -1,7 +1,7 @@
-/* Calls the archive as the fleet console does, on the sample dispenser Q: the check, its places with the event's line, both
- * texts read and written back, and a certificate weakened; and some of these with an answer lost, and on a channel that
- * gets full. Then gives each function NULL with length 0 for each of its slices. Prints a line each; make test compares
- * them with tests/call_from_c.out. */
+/* Calls the archive as the fleet console does, on the sample dispenser Q: the check, its places with the event's line,
+ * both texts read and written back, and a certificate weakened; and some of these with an answer lost, and on a channel
+ * that gets full. Then gives each function NULL with length 0 for each of its slices. Prints a line each; make test
+ * compares them with tests/call_from_c.out. */
 #include <inttypes.h>
 #include <stdio.h>
 #include <string.h>
@@ -53,6 +53,15 @@ static const char without[] =
     "criterion sequential\n"
     "view order\n"
     "0 0\n";
+
+/* event 0 in the past of event 1, and behind it in the view */
+static const char behind[] =
+    "criterion converge\n"
+    "event past\n"
+    "0 -\n"
+    "1 0\n"
+    "view order\n"
+    "0 1,0\n";
 
 static const uint8_t *bytes(const char *text) { return (const uint8_t *)text; }
 
@@ -176,9 +185,10 @@ int main(void) {
     for (size_t i = 0; i < 9; i++) printf(" %" PRIu32, places[i]);
     printf("\n");
 
-    /* an event's line comes with 12, and none with 14 and with 0 */
+    /* an event's line comes with 12, and none with 14, with 15 and with 0 */
     verdict("Q", history, "1 in its own past", itself);
     verdict("Q", history, "0 alone", without);
+    verdict("Q", history, "1,0 and 0 in the past of 1", behind);
     verdict("Q", history, "0,1", accepted);
 
     uint8_t buffer[128];

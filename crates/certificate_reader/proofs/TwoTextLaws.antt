@@ -1,4 +1,4 @@
--- Laws of reading the two texts: the answer and the rows in each case. Assumes nothing.
+-- Laws of reading the two texts: the answer and the rows in each case, and where the faulty line lies. Assumes nothing.
 use Prim.Native.Nat.{ℕ, _≤_}
 use native.Mathlib.Omega.{arith}
 use mathlib.Core.Path.{_≡_, sym, ap, _∙_}

@@ -20,7 +20,7 @@ pub record Small (p : Place) : Type 0 where
   pub end : p .end ≤ 32768
 
 small-part : (t : Text) (n : ℕ) (p : Place) → n ≤ 32768 → PartOf t n p → Small p
-small-part t n p h part = record { line = omega (arith, part .low); end = omega (arith, part .to) }
+small-part t n p h part = record { line = omega (arith, part .line); end = omega (arith, part .to) }
 
 small-history : (history : List ℕ) → Small (readHistory history .place)
 unfolding readHistory

@@ -1,8 +1,8 @@
 -- The event that the check of a certificate carries is an event of the history. Assumes nothing.
 use Prim.Native.Nat.{ℕ, zero, suc, _<_}
 use native.Mathlib.Omega.{arith}
-use mathlib.Core.Path.{_≡_, refl, subst}
-use mathlib.Core.Bool.{Bool, true, false, cond, not, _&&_, _||_}
+use mathlib.Core.Path.{_≡_, refl}
+use mathlib.Core.Bool.{Bool, true, false, cond, not, _&&_}
 use mathlib.Core.List.{List, [], _∷_}
 use mathlib.Core.Option.{Option, none, some}
 use lib.ListN.{getD}
@@ -11,7 +11,7 @@ use borrow.Author.Tests.{eq-eqb}
 use Rattle.certificate.specs.declared.record.Criterion.{Criterion}
 use Rattle.certificate.specs.declared.record.Criterion.the-variants.{Pram, Weak, Causal, Converge, Sequential}
 use Rattle.certificate.specs.Criteria.{hasPasts}
-use Rattle.criteria.specs.Tests.{or, foundIf, lowest, keep, mem}
+use Rattle.criteria.specs.Tests.{or, foundIf, lowest, mem}
 use Rattle.criteria.specs.History.{History, size, pastWith}
 use Rattle.criteria.specs.Replay.{Contents, start, changed}
 use Rattle.criteria.specs.Certificate.{Certificate, pastCount, viewCount, viewNumber, viewSet, replayCount, replayed, visible, order, Readable}

@@ -1,23 +1,24 @@
--- The line that an answer carries (document 02, T-05): which answers carry one, its number, and its bytes. Assumes nothing.
+-- The line that an answer carries (document 02, T-05): which numbers carry one, the line's number, and its bytes. Assumes nothing.
 use Prim.Native.Nat.{ℕ, _+_, _<_}
 use mathlib.Core.Path.{_≡_, refl, sym, ap, _∙_, subst}
-use mathlib.Core.Bool.{Bool, true, false, cond, true≢false}
+use mathlib.Core.Bool.{Bool, true, false, cond, true≢false, _||_}
 use mathlib.Core.List.{List}
 use mathlib.Core.Option.{Option, none, some}
 use lib.ListN.{length, getD}
 use lib.Dec.{eqb, leb}
-use Rattle.layout.proofs.Cases.{by-eq, by-bool}
+use borrow.Author.Tests.{eq-eqb, ne-eqb}
+use Rattle.layout.proofs.Cases.{by-eq}
 use Rattle.history.specs.Record.{noEvent, eventsIn}
 use Rattle.history.specs.HistoryText.{eventText}
 use Rattle.history_reader.specs.declared.place.Place.{Place}
-use Rattle.history_reader.specs.Place.{nowhere, eventPlace, lineOf, bytesAt, textNamed}
+use Rattle.history_reader.specs.Place.{nowhere, eventPlace, lineOf, partAt}
 use Rattle.history_reader.specs.ReadHistory.{readHistory}
 use Rattle.history_theorems.proofs.EventLineTheorem.{event-line}
 use Rattle.certificate.specs.declared.record.Criterion.{Criterion}
 use Rattle.certificate_reader.specs.ReadCertificate.{readCertificate}
 use Rattle.certificate_theorems.proofs.Theorems.{no-fault-history}
-use Rattle.criteria.specs.Check.{answerOf, check}
-use Rattle.checker.specs.CheckText.{Verdict, refused, placeOf, historyRead, certificateRead, checkText, carriedLine}
+use Rattle.criteria.specs.Check.{Fault, fault11, fault12, fault13, fault14, fault15, fault16, answerOf, check}
+use Rattle.checker.specs.CheckText.{Verdict, placeOf, historyRead, certificateRead, checkText, carriedLine}
 use Rattle.checker.specs.WeakenText.{wantedOf, weakenedWanted, plain, pairAnswer, weakenAnswer}
 use Rattle.checker.proofs.TextTheorems.{checked-as, refused-as}
 use Rattle.checker.proofs.EventLaws.{Below}
@@ -26,8 +27,32 @@ use Rattle.checker.proofs.VerdictLaws.{event-read}
 none-some : {e : ℕ} → _≡_ {A = Option ℕ} none (some e) → ⊥
 none-some q = true≢false cc
 
+-- "16 carries the line of its event .. and 11 to 13 carry theirs."
+abbrev pub carriesEvent : ℕ → Bool
+carriesEvent n = eqb n 11 || eqb n 12 || eqb n 13 || eqb n 16
+
+abbrev pub hasEvent : Option ℕ → Bool
+hasEvent none = false
+hasEvent (some e) = true
+
+event-by-number : (x : Option Fault) → hasEvent (answerOf x .event) ≡ carriesEvent (answerOf x .number)
+event-by-number none = refl
+event-by-number (some (fault11 e)) = refl
+event-by-number (some (fault12 e)) = refl
+event-by-number (some (fault13 e)) = refl
+event-by-number (some (fault14 v)) = refl
+event-by-number (some (fault15 v)) = refl
+event-by-number (some (fault16 v e)) = refl
+
 module _ (history text : List ℕ) where
-  -- ---- an answer that carries an event, which is 11, 12, 13 or 16
+  -- ---- where both texts are read, the answers that carry an event are 11, 12, 13 and 16
+  pub which-carry : readCertificate history text .fault ≡ 0
+      → hasEvent (checkText history text .event) ≡ carriesEvent (checkText history text .number)
+  which-carry z =
+      subst (λ (v : Verdict). hasEvent (v .event) ≡ carriesEvent (v .number)) (sym (checked-as history text z))
+      (event-by-number (check (historyRead history) (certificateRead history text)))
+
+  -- ---- an answer that carries an event
   module _ (e : ℕ) (carries : checkText history text .event ≡ some e) where
     -- both texts are read
     pub carrier-read : readCertificate history text .fault ≡ 0
@@ -55,30 +80,32 @@ module _ (history text : List ℕ) where
     pub carried-line : carriedLine history text ≡ eventText e (getD (eventsIn (readHistory history .history)) e noEvent)
     unfolding carriedLine
     carried-line =
-        ap (λ (p : Place). bytesAt p (textNamed (p .text) history text)) carried-place
+        ap (λ (p : Place). partAt p history text) carried-place
         ∙ event-line history e (no-fault-history history text carrier-read) carried-event
 
-  -- ---- where both texts are read, an answer that carries no event carries no line: 14, 15 and 0
+  -- ---- where both texts are read, an answer that carries no event carries no line
   pub no-line : readCertificate history text .fault ≡ 0 → checkText history text .event ≡ none → checkText history text .place ≡ nowhere
   no-line z q =
       ap (λ (v : Verdict). v .place) (checked-as history text z)
       ∙ ap (placeOf history (readHistory history .history .declared)) (sym (ap (λ (v : Verdict). v .event) (checked-as history text z)) ∙ q)
 
-  -- ---- "also in weakening": what carries an event is the answer of the check
-  plain-pair : (v : Verdict) (c : Criterion) (t : Option (List ℕ)) (buffer : List ℕ) (e : ℕ) → pairAnswer v c t buffer .event ≡ some e
-      → pairAnswer v c t buffer ≡ v
-  plain-pair v c none buffer e q = absurd (none-some q)
-  plain-pair v c (some t) buffer e q = go (eqb (v .number) 0) (leb (length t) (length buffer)) q
+  -- ---- "also in weakening": every answer but 17 and 18 is that of the check
+  pair-as-check : (v : Verdict) (c : Criterion) (t : Option (List ℕ)) (buffer : List ℕ) → (pairAnswer v c t buffer .number ≡ 17 → ⊥)
+      → (pairAnswer v c t buffer .number ≡ 18 → ⊥) → pairAnswer v c t buffer ≡ v
+  pair-as-check v c none buffer n m = absurd (n refl)
+  pair-as-check v c (some t) buffer n m = go (eqb (v .number) 0) (leb (length t) (length buffer)) m
     where
-      go : (a b : Bool) → cond a (cond b v (plain c 18)) v .event ≡ some e → cond a (cond b v (plain c 18)) v ≡ v
-      go true true p = refl
-      go true false p = absurd (none-some p)
-      go false b p = refl
+      go : (a b : Bool) → (cond a (cond b v (plain c 18)) v .number ≡ 18 → ⊥) → cond a (cond b v (plain c 18)) v ≡ v
+      go true true k = refl
+      go true false k = absurd (k refl)
+      go false b k = refl
 
-  pub weakening-carries : (wanted : ℕ) (buffer : List ℕ) (e : ℕ) → weakenAnswer history text wanted buffer .event ≡ some e
-      → weakenAnswer history text wanted buffer ≡ checkText history text
+  pub weakening-carries : (wanted : ℕ) (buffer : List ℕ) → (weakenAnswer history text wanted buffer .number ≡ 17 → ⊥)
+      → (weakenAnswer history text wanted buffer .number ≡ 18 → ⊥) → weakenAnswer history text wanted buffer ≡ checkText history text
   unfolding weakenAnswer
-  weakening-carries wanted buffer e q =
-      by-bool (eqb (readCertificate history text .fault) 0)
-      (λ t. rw t (plain-pair (checkText history text) (certificateRead history text .criterion) (weakenedWanted history text (wantedOf wanted)) buffer e (rw t at q)))
-      (λ f. absurd (none-some (rw f at q)))
+  weakening-carries wanted buffer n m =
+      by-eq (readCertificate history text .fault) 0
+      (λ z.
+      let e = eq-eqb (readCertificate history text .fault) 0 z in
+      rw e (pair-as-check (checkText history text) (certificateRead history text .criterion) (weakenedWanted history text (wantedOf wanted)) buffer (rw e at n) (rw e at m)))
+      (λ f. rw (ne-eqb (readCertificate history text .fault) 0 f) (sym (refused-as history text f)))

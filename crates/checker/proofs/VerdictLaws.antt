@@ -16,12 +16,11 @@ use Rattle.history.proofs.WithinLaws.{within-limits}
 use Rattle.history_reader.specs.declared.place.Text.{Text}
 use Rattle.history_reader.specs.declared.place.Text.the-variants.{Neither}
 use Rattle.history_reader.specs.declared.place.Place.{Place}
-use Rattle.history_reader.specs.Place.{nowhere, eventPlace, lineIn, lineOf, bytesAt, textNamed}
+use Rattle.history_reader.specs.Place.{nowhere, eventPlace, lineIn, lineOf, bytesAt, textNamed, partAt}
 use Rattle.history_reader.specs.ReadHistory.{readHistory}
 use Rattle.history_reader.proofs.EventPlaceLaws.{few-declared, few-counted, event-within}
 use Rattle.history_theorems.proofs.Theorems.{no-fault-readable, read-within}
 use Rattle.certificate.specs.declared.record.Criterion.{Criterion}
-use Rattle.certificate.specs.declared.record.Criterion.the-variants.{Pram}
 use Rattle.certificate.specs.declared.record.Certificate.{Certificate}
 use Rattle.certificate.specs.Record.{noRow}
 use Rattle.certificate.specs.Readable.{fits}
@@ -35,7 +34,6 @@ use Rattle.criteria.specs.History.{size}
 use Rattle.criteria.specs.Records.{historyOf, certificateOf}
 use Rattle.criteria.proofs.RecordLaws.{size-is}
 use Rattle.faults.specs.declared.finding.Finding.{Finding}
-use Rattle.faults.specs.declared.finding.Finding.the-variants.{Nothing}
 use Rattle.faults.specs.Finding.{findingOf, numberIn}
 use Rattle.faults.proofs.FindingLaws.{finding-back, fault-back, number-small}
 use Rattle.checker.specs.CheckText.{Verdict, refused, checked, placeOf, foundIn, historyRead, rowsOf, certificateRead, checkText, carriedLine}
@@ -45,11 +43,6 @@ use Rattle.checker.proofs.TextTheorems.{checked-as, refused-as, lists-r
 use Rattle.checker.proofs.EventLaws.{Below, event-below}
 
 -- ---- the answers of the code
--- of a reading refusal, and of texts that were read
-abbrev pub refusal : CertificateRead → Checked
-refusal r =
-    record { fault = r .fault; place = r .place; criterion = Pram; finding = Nothing }
-
 module _ (history : List ℕ) (declared : ℕ) (c : Criterion) where
   -- the verdict of a finding tells it back
   pub found-back : (p : Place) (f : Finding) → p ≡ placeOf history declared (answerOf (findingOf f) .event)
@@ -89,7 +82,7 @@ verdict-is history text k q =
 
 module _ (history text : List ℕ) (r : CertificateRead) (read : r ≡ readCertificate history text) where
   -- a reading refusal
-  pub refused-answer : (r .fault ≡ 0 → ⊥) → refusal r ≡ checkedOf (checkText history text)
+  pub refused-answer : (r .fault ≡ 0 → ⊥) → checkedOf (refused r) ≡ checkedOf (checkText history text)
   refused-answer n =
       ap (λ (x : CertificateRead). checkedOf (refused x)) read
       ∙ ap checkedOf (sym (refused-as history text (λ z. n (ap (λ (x : CertificateRead). x .fault) read ∙ z))))
@@ -209,8 +202,7 @@ module _ (history text : List ℕ) (k : Checked) (q : k ≡ checkedOf (checkText
   pub carried-part : (which : Text) → k .place .text ≡ which → bytesAt (k .place) (textNamed which history text) ≡ carriedLine history text
   unfolding carriedLine
   carried-part which e =
-      ap (λ (w : Text). bytesAt (k .place) (textNamed w history text)) (sym e)
-      ∙ ap (λ (p : Place). bytesAt p (textNamed (p .text) history text)) (sym place-is)
+      ap (λ (w : Text). bytesAt (k .place) (textNamed w history text)) (sym e) ∙ ap (λ (p : Place). partAt p history text) (sym place-is)
 
   pub carried-none : k .place .text ≡ Neither → [] ≡ carriedLine history text
   carried-none e =

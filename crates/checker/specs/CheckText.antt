@@ -7,7 +7,7 @@ use mathlib.Core.Option.{Option, none, some}
 use lib.ListN.{replicate}
 use lib.Dec.{eqb}
 use Rattle.history_reader.specs.declared.place.Place.{Place}
-use Rattle.history_reader.specs.Place.{nowhere, eventPlace, bytesAt, textNamed}
+use Rattle.history_reader.specs.Place.{nowhere, eventPlace, partAt}
 use Rattle.history_reader.specs.ReadHistory.{readHistory}
 use Rattle.certificate.specs.declared.record.Criterion.{Criterion}
 use Rattle.certificate.specs.Record.{noRow}
@@ -29,9 +29,11 @@ pub record Verdict : Type 0 where
   pub view : Option ℕ
   pub event : Option ℕ
 
+abbrev pub refusedAt : ℕ → Place → Verdict
+refusedAt number p = record { number = number; criterion = none; place = p; view = none; event = none }
+
 abbrev pub refused : CertificateRead → Verdict
-refused r =
-    record { number = r .fault; criterion = none; place = r .place; view = none; event = none }
+refused r = refusedAt (r .fault) (r .place)
 
 abbrev pub checked : Place → Criterion → Answer → Verdict
 checked p c a =
@@ -67,7 +69,7 @@ checkText history text =
 
 -- The line that the answer carries, as part of whichever text it is in; empty where it carries none.
 unfoldable pub carriedLine : List ℕ → List ℕ → List ℕ
-carriedLine history text = bytesAt (checkText history text .place) (textNamed (checkText history text .place .text) history text)
+carriedLine history text = partAt (checkText history text .place) history text
 
 -- "A certificate text is accepted for a history text when the check of the two answers 0."
 unfoldable pub Accepted : List ℕ → List ℕ → Type 0

@@ -9,13 +9,13 @@ use Rattle.criteria.specs.Check.{Answer, answerOf}
 use Rattle.faults.specs.declared.finding.Finding.the-variants.{Nothing}
 use Rattle.faults.specs.Finding.{findingOf, findingIn}
 use Rattle.checker.specs.declared.check.Checked.{Checked}
-use Rattle.checker.specs.CheckText.{Verdict, checked}
+use Rattle.checker.specs.CheckText.{Verdict, refusedAt, checked}
 
 abbrev pub verdictOf : Checked → Verdict
 verdictOf c =
     cond (eqb (c .fault) 0)
     (checked (c .place) (c .criterion) (answerOf (findingOf (c .finding))))
-    record { number = c .fault; criterion = none; place = c .place; view = none; event = none }
+    (refusedAt (c .fault) (c .place))
 
 -- The number, the view and the event of a verdict.
 abbrev pub answerIn : Verdict → Answer

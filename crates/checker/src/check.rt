@@ -2,7 +2,7 @@
 ghost use mathlib.Core.Path.{_≡_};
 ghost use Prim.Native.Nat.{_≤_};
 ghost use Rattle.faults.specs.Finding.{findingOf};
-ghost use Rattle.checker.specs.CheckText.{foundIn, checkText, carriedLine};
+ghost use Rattle.checker.specs.CheckText.{refusedAt, foundIn, checkText, carriedLine};
 ghost use Rattle.checker.specs.Verdict.{checkedOf};
 use crate::place::place_of;
 use certificate::record::Criterion;
@@ -20,6 +20,18 @@ pub struct Checked {
     pub place: Place,
     pub criterion: Criterion,
     pub finding: Finding,
+}
+
+// The answer of a reading refusal.
+pub fn refused(fault: u8, place: Place) -> Checked
+    ensures { λ r. ⌜ r ≡ checkedOf (refusedAt fault place) ⌝ }
+{
+    Checked {
+        fault,
+        place,
+        criterion: Criterion::Pram,
+        finding: Finding::Nothing,
+    }
 }
 
 // The answer of texts that were read, the history text with `declared` objects.
@@ -45,12 +57,7 @@ pub fn check(history: &[u8], text: &[u8]) -> Checked
     let fault = read.fault;
     if fault != 0 {
         let place = read.place;
-        return Checked {
-            fault,
-            place,
-            criterion: Criterion::Pram,
-            finding: Finding::Nothing,
-        };
+        return refused(fault, place);
     }
     let h = read.history;
     let c = read.certificate;

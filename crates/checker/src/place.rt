@@ -12,7 +12,7 @@ use history_reader::place::Text;
 use history_reader::place::event_place;
 use history_reader::place::nowhere;
 
-// The line of the event that a finding carries, in a history text that has `declared` objects.
+// The line of the event that a finding carries, in a history text that has `declared` objects; nowhere where it carries none.
 pub(crate) fn place_of(history: &[u8], declared: usize, finding: Finding) -> Place
     requires { ⌜ declared ≤ 16 ⌝ }
     ensures { λ r. ⌜ r ≡ placeOf (now (history .entry)) declared (answerOf (findingOf finding) .event) ⌝ }

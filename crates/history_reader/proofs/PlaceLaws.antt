@@ -21,21 +21,21 @@ use Rattle.history.specs.Faults.{objectLine, eventLine}
 use Rattle.history_reader.specs.Place.{nowhere, faultyPlace, textNamed}
 use Rattle.history_reader.specs.ReadHistory.{refusal, readAs, eventsFrom, objectsFrom, linesFrom, readHistory}
 
--- A line of the text t, which has n bytes, or no line.
+-- The numbers of a place fit the text t, which has n bytes; and the text that it names, whatever that is.
 pub record PartOf (t : Text) (n : ℕ) (p : Place) : Type 0 where
-  pub low : p .line ≤ n + 1
+  pub line : p .line ≤ n + 1
   pub from : p .start ≤ p .end
   pub to : p .end ≤ n
   pub within : (history text : List ℕ) → n ≤ length (textNamed t history text) → p .end ≤ length (textNamed (p .text) history text)
 
 pub part-nowhere : (t : Text) (n : ℕ) → PartOf t n nowhere
-part-nowhere t n = record { low = omega arith; from = omega arith; to = omega arith; within = λ history text h. omega arith }
+part-nowhere t n = record { line = omega arith; from = omega arith; to = omega arith; within = λ history text h. omega arith }
 
 pub part-faulty : (t : Text) (n line at size : ℕ) → line ≤ at + 1 → at + size ≤ n → PartOf t n (faultyPlace t line at size)
 part-faulty t n line at size l h =
     by-eq size 0
-    (λ z. record { low = omega arith; from = rw (eq-eqb size 0 z) (omega arith); to = rw (eq-eqb size 0 z) (omega arith); within = λ history text k. rw (eq-eqb size 0 z) (omega arith) })
-    (λ z. record { low = omega arith; from = rw (ne-eqb size 0 z) (omega arith); to = rw (ne-eqb size 0 z) (omega arith); within = λ history text k. rw (ne-eqb size 0 z) (omega arith) })
+    (λ z. record { line = omega arith; from = rw (eq-eqb size 0 z) (omega arith); to = rw (eq-eqb size 0 z) (omega arith); within = λ history text k. rw (eq-eqb size 0 z) (omega arith) })
+    (λ z. record { line = omega arith; from = rw (ne-eqb size 0 z) (omega arith); to = rw (ne-eqb size 0 z) (omega arith); within = λ history text k. rw (ne-eqb size 0 z) (omega arith) })
 
 -- ---- of a history text that was read
 abbrev pub Placed : ℕ → HistoryRead → Type 0

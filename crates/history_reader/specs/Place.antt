@@ -1,5 +1,5 @@
 -- Places in the texts: the line that a refusal or an answer carries (document 01, "Check"; document 02, T-05). A `Place` names the text,
--- the number of the line from 1, and the line as the bytes from `start` to `end`, without its line feed.
+-- the number of the line from 1 (0 for a text that is too long), and the line as the bytes from `start` to `end`, without its line feed.
 use Prim.Native.Nat.{ℕ, _+_, _-_}
 use mathlib.Core.Bool.{cond}
 use mathlib.Core.List.{List, []}
@@ -49,3 +49,7 @@ abbrev pub textNamed : Text → List ℕ → List ℕ → List ℕ
 textNamed Neither history certificate = []
 textNamed HistoryText history certificate = history
 textNamed CertificateText history certificate = certificate
+
+-- The line that a place names, as part of whichever of two texts it is in.
+abbrev pub partAt : Place → List ℕ → List ℕ → List ℕ
+partAt p history certificate = bytesAt p (textNamed (p .text) history certificate)

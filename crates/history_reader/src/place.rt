@@ -12,8 +12,8 @@ pub enum Text {
     CertificateText,
 }
 
-// A line of a text: its number from 1, and its bytes from `start` to `end`, without its line feed. Where no text is named the
-// three numbers are 0.
+// A line of a text: its number from 1 (0 for a text that is too long), and its bytes from `start` to `end`, without its line feed.
+// Where no text is named the three numbers are 0.
 pub struct Place {
     pub text: Text,
     pub line: usize,

@@ -1,6 +1,6 @@
 // Reading a history text.
 ghost use mathlib.Core.Path.{_≡_};
-ghost use Prim.Native.Nat.{_+_, _-_, _≤_, _<_};
+ghost use Prim.Native.Nat.{_+_, _-_, _≤_};
 ghost use mathlib.Core.List.{[]};
 ghost use lib.ListN.{length, take, drop, replicate};
 ghost use Rattle.layout.specs.Split.{split};

@@ -93,7 +93,7 @@ fn put_values(part: &mut [u8], fields: [Field; 6]) -> usize
     at
 }
 
-// A number, or a dash where it is missing.
+// A number, or a dash for 4,294,967,295, which stands for none.
 fn number_or_dash(n: u32) -> Field
     ensures { λ r. ⌜ (r ≡ numberField (numberIn n)) × (length (fieldText r) ≤ 11) ⌝ }
 {

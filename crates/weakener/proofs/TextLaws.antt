@@ -20,9 +20,11 @@ use Rattle.criteria.specs.Check.{Fault, check}
 use Rattle.criteria.specs.Weaken.{weakened}
 use Rattle.criteria.specs.Records.{historyOf, certificateOf}
 use Rattle.checker.specs.CheckText.{Verdict, refused, foundIn, historyRead, certificateRead, checkText}
+use Rattle.checker.specs.declared.check.Checked.{Checked}
+use Rattle.checker.specs.Verdict.{checkedOf}
 use Rattle.checker.specs.WeakenText.{textIfSome, weakenedText, wantedOf, weakenedWanted, plain, pairAnswer, weakenAnswer, weakenLength, weakenBytes}
 use Rattle.checker.proofs.TextTheorems.{checked-as}
-use Rattle.checker.proofs.VerdictLaws.{refusal, checked-back, refused-back, no-fault, of-texts, checked-read}
+use Rattle.checker.proofs.VerdictLaws.{checked-back, refused-back, no-fault, of-texts, checked-read}
 use Rattle.weakener.specs.declared.weaken.Weakened.{Weakened}
 use Rattle.weakener.specs.Weakening.{weakeningOf, weakenedOf, IsPair}
 use Rattle.weakener.proofs.WeakenLaws.{answered, no-refusal, pair-refused}
@@ -35,15 +37,17 @@ Weakens history text wanted buffer k then =
 
 module _ (history text : List ℕ) (wanted : ℕ) (buffer : List ℕ) (r : CertificateRead) (read : r ≡ readCertificate history text) where
   -- a reading refusal
-  pub weakening-refused : (r .fault ≡ 0 → ⊥)
-      → Weakens history text wanted buffer
-      record { checked = refusal r; refusal = 0; length = 0 }
-      buffer
+  pub weakening-refused : (r .fault ≡ 0 → ⊥) → (k : Checked) → k ≡ checkedOf (refused r)
+      → Weakens history text wanted buffer record { checked = k; refusal = 0; length = 0 } buffer
   unfolding weakenAnswer weakenLength weakenBytes
-  weakening-refused n =
+  weakening-refused n k q =
       let m : readCertificate history text .fault ≡ 0 → ⊥ = λ z. n (ap (λ (x : CertificateRead). x .fault) read ∙ z) in
-      let e = ne-eqb (readCertificate history text .fault) 0 m in
-      (ap (λ (x : CertificateRead). weakenedOf (refused x) 0) read ∙ rw e refl, rw e refl)
+      let e = ne-eqb (readCertificate history text .fault) 0 m in (
+        ap (λ (x : Checked). record { checked = x; refusal = 0; length = 0 }) q
+            ∙ ap (λ (x : CertificateRead). weakenedOf (refused x) 0) read
+            ∙ rw e refl,
+        rw e refl,
+      )
 
   module _ (z : r .fault ≡ 0) (rows : List (List ℕ)) (rows-read : rows ≡ rowsRead history text (replicate 64 noRow)) where
     -- both texts are read

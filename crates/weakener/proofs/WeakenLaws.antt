@@ -16,7 +16,6 @@ use Rattle.history.specs.Readable.{within}
 use Rattle.history_reader.specs.Place.{nowhere}
 use Rattle.certificate.specs.declared.record.Criterion.{Criterion}
 use Rattle.certificate.specs.declared.record.Certificate as written-certificate
-use Rattle.certificate.specs.Record as text-record
 use Rattle.certificate.specs.CertificateText.{certificateText}
 use Rattle.certificate.specs.Readable.{fits}
 use Rattle.certificate_writer.specs.declared.write.CertificateWritten.{CertificateWritten}
@@ -25,7 +24,6 @@ use Rattle.criteria.specs.Certificate.{Certificate}
 use Rattle.criteria.specs.Check.{Fault, fault11, fault12, fault13, fault14, fault15, fault16, answerOf, check}
 use Rattle.criteria.specs.Weaken.{isPair, weakened}
 use Rattle.criteria.specs.Records.{historyOf, certificateOf}
-use Rattle.criteria.proofs.RecordLaws.{readable}
 use Rattle.criteria.proofs.Weaken.{isSome, weaken-accepted, pair-weakened}
 use Rattle.faults.specs.declared.finding.Finding.{Finding}
 use Rattle.faults.specs.declared.finding.Finding.the-variants.{Nothing}

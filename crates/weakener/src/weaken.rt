@@ -20,6 +20,7 @@ use certificate_reader::read::read_certificate;
 use certificate_writer::write::write_certificate;
 use checker::check::Checked;
 use checker::check::found;
+use checker::check::refused;
 use faults::check::check_records;
 use faults::finding::Finding;
 use faults::finding::is_found;
@@ -183,12 +184,7 @@ pub fn weaken(history: &[u8], text: &[u8], wanted: u32, buffer: &mut [u8]) -> We
     let fault = read.fault;
     if fault != 0 {
         let place = read.place;
-        let checked = Checked {
-            fault,
-            place,
-            criterion: Criterion::Pram,
-            finding: Finding::Nothing,
-        };
+        let checked = refused(fault, place);
         return Weakened {
             checked,
             refusal: 0,

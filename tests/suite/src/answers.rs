@@ -8,7 +8,7 @@ use crate::history::History;
 
 /// The number that the checker answers, and its seven places.
 pub fn given(comparer: &Comparer, history: &[u8], certificate: &[u8]) -> (u32, [u32; 7]) {
-    let mut places = Lent::new(7, |_| 0);
+    let mut places = Lent::new(7, |_| 0x5A5A_5A5A);
     let answer = comparer.checker.verdict(history, certificate, &mut places);
     (answer, places.part().try_into().expect("there are seven"))
 }

@@ -1,6 +1,7 @@
-//! The line that a fault carries (document 02, T-05): 16 and 11 to 13 carry the line of their event, 14 and 15 none. Each
-//! fault is put into accepted pairs of histories with any number of objects, at the lowest place where it can stand, at the
-//! highest and at one between; and pairs are damaged at random. What is carried is held to the bytes of the history text.
+//! The line that a fault carries (document 02, T-05): 16 and 11 to 13 carry the line of their event, 14 and 15 none.
+//! Each fault is put into accepted pairs of histories with any number of objects, at the lowest place where it can
+//! stand, at the highest and at one between; and pairs are damaged at random. What is carried is held to the bytes of
+//! the history text.
 
 use std::collections::BTreeMap;
 
@@ -126,10 +127,15 @@ fn put(fault: u32, (history, certificate): &Pair, place: usize) -> Option<(Pair,
     }
 }
 
+/// The numbers that carry the line of their event.
+fn carries_event(answer: u32) -> bool {
+    matches!(answer, 11..=13 | 16)
+}
+
 /// What is wrong with the line that an answer carries, if anything is. Reading refusals aren't judged here.
 fn wrong_line(history: &History, text: &[u8], answer: u32, places: [u32; 7]) -> Option<&'static str> {
     let [_, which, line, _, event, start, length] = places;
-    if matches!(answer, 0 | 14 | 15) {
+    if !carries_event(answer) {
         return ((which, line, start, length) != (0, NONE, 0, 0)).then_some("it carries a line");
     }
     let (line, event, start, end) = (line as usize, event as usize, start as usize, start as usize + length as usize);

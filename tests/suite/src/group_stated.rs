@@ -1,6 +1,7 @@
 //! What document 01 states outright: the sample dispensers with their answers and places, and texts whose fault its
 //! words name; and the same of lost answers, of channels, of windows and of the lines that faults carry, by T-01, T-02,
-//! T-04 and T-05 of document 02. The numbers are written here by hand, so that the model is held to them as well.
+//! T-04 and T-05 of document 02. The numbers are written here by hand, so that the model is held to them as well. The
+//! line of an event is found from its heading (`carried`), and written by hand in the group of the lines.
 
 use crate::certificate::Criterion;
 use crate::check::{Document01, Rules, NONE};

@@ -1216,7 +1216,7 @@ pub fn wrong_checkers() -> Vec<(&'static str, Box<dyn Checker>)> {
         spoilt("the event is off by one", Spoil::EventOffByOne),
         spoilt("the view is off by one", Spoil::ViewOffByOne),
         spoilt("view and event change places", Spoil::ViewAndEventSwapped),
-        spoilt("the line is counted from 0", Spoil::LineFromZero),
+        spoilt("the faulty line is counted from 0", Spoil::LineFromZero),
         spoilt("the faulty line has its line feed", Spoil::PartWithLineFeed),
         spoilt("an empty part doesn't start at 0", Spoil::EmptyPartWhereItIs),
         spoilt("a missing line has the number of the last", Spoil::MissingAtTheLast),

@@ -11,11 +11,14 @@ no-fault c = search needs
 read-certificate-requires : tie.Need-read-certificate-requires
 read-certificate-requires c κs = search needs
 
+refused-requires : tie.Need-refused-requires
+refused-requires c κs = search needs
+
 returns : tie.Need-returns
 returns c =
-    let r = c .before .before .read-certificate in
-    let s = c .before .before .before .before .before .before in
-    refused-answer (s .args .history .now) (s .args .text .now) (r .result) (r .ensures .0) (search needs)
+    let r = c .before .before .before .read-certificate in
+    let s = c .before .before .before .before .before .before .before in
+    c .refused .ensures ∙ refused-answer (s .args .history .now) (s .args .text .now) (r .result) (r .ensures .0) (search needs)
 
 check-records-requires : tie.Need-check-records-requires
 check-records-requires c κs =
@@ -43,4 +46,4 @@ returns-2 c =
 
 pub check-spec : {M : Type 1} → statement M
 check-spec =
-    tie.close (tie.spec read-certificate-requires returns check-records-requires found-requires returns-2)
+    tie.close (tie.spec read-certificate-requires refused-requires returns check-records-requires found-requires returns-2)

@@ -2,12 +2,6 @@
 use borrow.Author.Needs.{needs}
 use Rattle.weakener.proofs.weaken.weaken.Statement.{statement}
 use Rattle.weakener.proofs.weaken.weaken.Tie as tie
-use Rattle.weakener.proofs.weaken.weaken.Reads as reads
-use Rattle.weakener.proofs.weaken.weaken.Lts as lts
-use Rattle.certificate_reader.proofs.read.read_certificate.Reads as read-certificate-reads
-use Rattle.weakener.proofs.weaken.answer.Reads as answer-reads
-use Rattle.weakener.proofs.weaken.wanted_of.Reads as wanted-of-reads
-use Rattle.weakener.proofs.weaken.weaken_record.Reads as weaken-record-reads
 use mathlib.Core.Path.{_≡_, sym, ap, _∙_}
 use Rattle.checker.proofs.VerdictLaws.{within-read, fits-read}
 use Rattle.weakener.specs.Weakening.{criterionOf}
@@ -19,11 +13,15 @@ read-all c = search needs
 read-certificate-requires : tie.Need-read-certificate-requires
 read-certificate-requires c κs = search needs
 
+refused-requires : tie.Need-refused-requires
+refused-requires c κs = search needs
+
 returns : tie.Need-returns
 returns c =
-    let r = c .before .before .read-certificate in
-    let s = c .before .before .before .before .before .before .before in
+    let r = c .before .before .before .read-certificate in
+    let s = c .before .before .before .before .before .before .before .before in
     weakening-refused (s .args .history .now) (s .args .text .now) (s .args .wanted) (s .args .buffer .now) (r .result) (r .ensures .0) (search needs)
+    (c .refused .result) (c .refused .ensures)
 
 wanted-of-requires : tie.Need-wanted-of-requires
 wanted-of-requires c κs = search needs
@@ -73,6 +71,7 @@ weaken-spec =
     tie.close
     (tie.spec
     read-certificate-requires
+    refused-requires
     returns
     wanted-of-requires
     enum-told

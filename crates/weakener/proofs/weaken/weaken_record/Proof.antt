@@ -2,14 +2,6 @@
 use borrow.Author.Needs.{needs}
 use Rattle.weakener.proofs.weaken.weaken_record.Statement.{statement}
 use Rattle.weakener.proofs.weaken.weaken_record.Tie as tie
-use Rattle.weakener.proofs.weaken.weaken_record.Reads as reads
-use Rattle.weakener.proofs.weaken.weaken_record.Lts as lts
-use Rattle.certificate_writer.proofs.write.write_certificate.Reads as write-certificate-reads
-use Rattle.faults.proofs.check.check_records.Reads as check-records-reads
-use Rattle.faults.proofs.finding.is_found.Reads as is-found-reads
-use Rattle.weakener.proofs.records.weakened_record.Reads as weakened-record-reads
-use Rattle.weakener.proofs.weaken.answer.Reads as answer-reads
-use Rattle.weakener.proofs.weaken.is_pair.Reads as is-pair-reads
 use mathlib.Core.Path.{_≡_, sym, ap, _∙_}
 use mathlib.Core.Bool.{true, false}
 use borrow.Author.Tests.{not-true, not-false}
