@@ -18,9 +18,10 @@ refused-requires c κs = search needs
 
 returns : tie.Need-returns
 returns c =
-    let r = c .before .before .before .read-certificate in
-    let s = c .before .before .before .before .before .before .before .before in
-    weakening-refused (s .args .history .now) (s .args .text .now) (s .args .wanted) (s .args .buffer .now) (r .result) (r .ensures .0) (search needs)
+    let t = c .before .before in
+    let r = t .before .read-certificate in
+    let s = t .before .before .before .before .before .before in
+    weakening-refused (s .args .history .now) (s .args .text .now) (s .args .wanted) (s .args .buffer .now) (r .result) (r .ensures .0) (t .if1 .taken)
     (c .refused .result) (c .refused .ensures)
 
 wanted-of-requires : tie.Need-wanted-of-requires
