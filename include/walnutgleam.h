@@ -38,7 +38,8 @@ uint32_t walnutgleam_check(const uint8_t *history, size_t history_length,
  *   4  the event
  *   5  where that line starts within its text, and 6 its length without its line feed; 0 and 0 where there is none or it is empty
  * Places 0, 2, 3 and 4 are WALNUTGLEAM_NONE where the answer does not carry them. A slice of another length than 7 is filled as
- * far as it goes and left alone past that. */
+ * far as it goes and left alone past that. (walnutgleam_show, which older callers may know, is withdrawn: places 1, 2, 5 and 6 have
+ * the line of the event that an answer names.) */
 uint32_t walnutgleam_verdict(const uint8_t *history, size_t history_length,
                              const uint8_t *certificate, size_t certificate_length,
                              uint32_t *places, size_t places_length);
