@@ -18,10 +18,10 @@ PREFIX = /usr/local
 VERSION = 1.0
 ARCHIVE = target/libwalnutgleam.a
 PROGRAMS = $(patsubst crates/%/src/main.rt,%,$(wildcard crates/*/src/main.rt))
-# Accepted certificates of each criterion, two that are refused, the one of Q again where the answer is lost, and one of
-# a full channel.
+# Accepted certificates of each criterion, three that are refused, the one of Q again where the answer is lost, and one
+# of a full channel.
 WEAKENED = samples/Q-sequential samples/Q-pram samples/R samples/W samples/C samples/Q samples/width-9 samples/lost \
-           samples/channel
+           samples/channel samples/stack samples/Q-strict samples/W-outside-past
 
 .PHONY: help run test outside archive install calls console suite fuzz bench agree back_ends setup rt
 

@@ -126,7 +126,7 @@ static unsigned value_at(const struct text *t, size_t a, size_t b) {
 
 static const char *const words[] = {
     "register", "queue", "stack", "window", "channel", "write", "read", "push", "pop", "peek", "pram", "weak", "causal",
-    "converge", "sequential", "-", "0", "7", "8", "9", "15", "16", "63", "64", "65", "65535", "65536",
+    "converge", "sequential", "strict", "-", "0", "7", "8", "9", "15", "16", "63", "64", "65", "65535", "65536",
     "99999999999999999999", "00", "1,2,3,4,5,6,7,8,9", "?", "?,7", "??",
 };
 

@@ -122,7 +122,7 @@ static uint32_t verdict(const uint8_t *history, size_t n, const uint8_t *certifi
 
 static uint32_t weaken(const uint8_t *history, size_t n, const uint8_t *certificate, size_t m) {
     uint32_t answers = 0;
-    for (uint32_t wanted = 0; wanted < 5; wanted++)
+    for (uint32_t wanted = 0; wanted <= 5; wanted++)
         answers += walnutgleam_weaken(history, n, certificate, m, wanted, buffer, sizeof buffer, &length);
     return answers;
 }

@@ -1,8 +1,10 @@
 /* Histories with certificates that are accepted, made from a fixed seed.
  *
  * First 64 events are drawn: process, object, op and value. Then a run of replicas is drawn: before a process does an event it
- * receives some of the events that the others have done, late and in an order that keeps what they had received themselves. Then
- * each event gets a view of what its process had received and itself, and its answer is what the object gives in that view. */
+ * receives some of the events that the others have done, late and in an order that keeps what they had received
+ * themselves. Then each event gets a view of what its process had received and itself, and its answer is what the
+ * object gives in that view. Under pram and strict a process has one view: what it received and did, in order, and then
+ * the events that it lacks. */
 #include "pairs.h"
 
 #include <stdbool.h>
@@ -220,6 +222,20 @@ static void put_pasts(struct text *t, const struct run *r) {
     }
 }
 
+/* For each process with events what it received and did, in order, and then the events that it lacks: they are in
+ * rising order, so that each comes behind its past. */
+static void put_process_views(struct text *t, const struct run *r) {
+    for (unsigned p = 0; p < r->processes; p++) {
+        struct list view = r->received[p];
+        if (view.length == 0) continue; /* a process that does no event receives none */
+        uint64_t known = 0;
+        for (unsigned i = 0; i < view.length; i++) known |= bit(view.events[i]);
+        for (unsigned e = 0; e < EVENTS; e++)
+            if (!(known & bit(e))) append(&view, e);
+        put_view(t, p, &view);
+    }
+}
+
 static void make_pair(struct pair *pair, const char *name, const char *criterion, unsigned processes, unsigned objects,
                       unsigned chance, bool channels, uint64_t *seed) {
     static struct run run;
@@ -231,6 +247,7 @@ static void make_pair(struct pair *pair, const char *name, const char *criterion
     const bool weak = strcmp(criterion, "weak") == 0;
     const bool causal = strcmp(criterion, "causal") == 0;
     const bool converge = strcmp(criterion, "converge") == 0;
+    const bool strict = strcmp(criterion, "strict") == 0;
     draw_events(r, seed, channels);
     draw_run(r, seed, chance, pram);
     if (weak) drawn_views(r, seed);
@@ -244,20 +261,12 @@ static void make_pair(struct pair *pair, const char *name, const char *criterion
     put(t, "criterion ");
     put(t, criterion);
     put(t, "\n");
-    if (weak || causal || converge) put_pasts(t, r);
+    if (weak || causal || converge || strict) put_pasts(t, r);
     put(t, "view order\n");
     if (weak || causal) {
         for (unsigned e = 0; e < EVENTS; e++) put_view(t, e, &r->views[e]);
-    } else if (pram) {
-        for (unsigned p = 0; p < processes; p++) {
-            struct list view = r->received[p];
-            if (view.length == 0) continue; /* a process that does no event receives none */
-            uint64_t known = 0;
-            for (unsigned i = 0; i < view.length; i++) known |= bit(view.events[i]);
-            for (unsigned e = 0; e < EVENTS; e++)
-                if (!(known & bit(e))) append(&view, e);
-            put_view(t, p, &view);
-        }
+    } else if (pram || strict) {
+        put_process_views(t, r);
     } else {
         struct list all = {0};
         for (unsigned e = 0; e < EVENTS; e++) append(&all, e);
@@ -273,4 +282,6 @@ void make_pairs(struct pair pairs[PAIRS], uint64_t seed) {
     make_pair(&pairs[4], "converge", "converge", 4, 6, 40, false, &seed);
     make_pair(&pairs[5], "causal-full", "causal", 8, 16, 100, false, &seed);
     make_pair(&pairs[6], "channels", "causal", 4, 6, 40, true, &seed);
+    make_pair(&pairs[7], "strict", "strict", 4, 6, 40, false, &seed);
+    make_pair(&pairs[8], "strict-full", "strict", 8, 16, 100, false, &seed);
 }

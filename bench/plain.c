@@ -21,7 +21,7 @@ enum {
 
 enum kind { REGISTER, QUEUE, STACK, WINDOW, CHANNEL, NO_KIND };
 enum op { WRITE, READ, PUSH, POP, PEEK, OFFER, NO_OP }; /* an offer is a push onto a channel, which may be full */
-enum criterion { PRAM, WEAK, CAUSAL, CONVERGE, SEQUENTIAL, NO_CRITERION };
+enum criterion { PRAM, WEAK, CAUSAL, CONVERGE, SEQUENTIAL, STRICT, NO_CRITERION };
 
 struct object {
     uint8_t kind;
@@ -137,6 +137,7 @@ static enum criterion read_criterion(struct lines *t) {
     if (PASS(t, "criterion causal\n")) return CAUSAL;
     if (PASS(t, "criterion converge\n")) return CONVERGE;
     if (PASS(t, "criterion sequential\n")) return SEQUENTIAL;
+    if (PASS(t, "criterion strict\n")) return STRICT;
     return NO_CRITERION;
 }
 
@@ -285,6 +286,7 @@ static void number_views(struct certificate *c, const struct history *h) {
     c->views = 0;
     switch (c->criterion) {
     case PRAM:
+    case STRICT:
         for (unsigned p = 0; p < PROCESSES; p++)
             if (h->of_process[p] != 0) c->numbers[c->views++] = (uint8_t)p;
         break;
@@ -300,7 +302,7 @@ static void number_views(struct certificate *c, const struct history *h) {
     }
 }
 
-static bool has_pasts(enum criterion c) { return c == WEAK || c == CAUSAL || c == CONVERGE; }
+static bool has_pasts(enum criterion c) { return c != PRAM && c != SEQUENTIAL; }
 
 static uint32_t read_certificate(struct certificate *c, const struct history *h, const uint8_t *text, size_t length) {
     if (length > CERTIFICATE_BYTES) return 1;
@@ -344,6 +346,17 @@ static bool is_against(const struct view *w, const uint64_t *order) {
         const unsigned e = w->events[i];
         if (order[e] & left) return true;
         left &= ~bit(e);
+    }
+    return false;
+}
+
+/* Whether before one of these events of the view stands one that is not in its past. */
+static bool breaks_past(const struct view *w, const uint64_t *past, uint64_t own) {
+    uint64_t before = 0;
+    for (unsigned i = 0; i < w->length; i++) {
+        const unsigned e = w->events[i];
+        if (own & bit(e) && before & ~past[e]) return true;
+        before |= bit(e);
     }
     return false;
 }
@@ -431,7 +444,7 @@ static bool replays_well(const struct history *h, const struct certificate *c) {
     }
     for (unsigned k = 0; k < c->views; k++) {
         uint64_t visible = all;
-        if (c->criterion == PRAM) visible = h->of_process[c->numbers[k]];
+        if (c->criterion == PRAM || c->criterion == STRICT) visible = h->of_process[c->numbers[k]];
         if (c->criterion == WEAK) visible = bit(k);
         if (c->criterion == CAUSAL) visible = h->of_process[h->events[k].process];
         if (!replay(h, &s, &c->view[k], all, visible & recorded)) return false;
@@ -463,5 +476,7 @@ uint32_t plain_check(const uint8_t *history, size_t history_length,
     const uint64_t *order = pasts ? c.past : h.earlier;
     for (unsigned k = 0; k < c.views; k++)
         if (is_against(&c.view[k], order)) return 15;
+    for (unsigned k = 0; c.criterion == STRICT && k < c.views; k++)
+        if (breaks_past(&c.view[k], c.past, h.of_process[c.numbers[k]])) return 20;
     return replays_well(&h, &c) ? 0 : 16;
 }

@@ -33,8 +33,8 @@ static text read_text(const char *name) {
 }
 
 static const char *criterion_word(uint32_t number) {
-    static const char *const words[] = {"pram", "weak", "causal", "converge", "sequential"};
-    return number < 5 ? words[number] : "unknown";
+    static const char *const words[] = {"pram", "weak", "causal", "converge", "sequential", "strict"};
+    return number < 6 ? words[number] : "unknown";
 }
 
 static const char *meaning(uint32_t answer) {
@@ -51,6 +51,7 @@ static const char *meaning(uint32_t answer) {
     case 14: return "it is not its set of events, each once";
     case 15: return "it is against its order";
     case 16: return "the replay does not give its answer";
+    case 20: return "before an event of the view's process stands one that is not in its past";
     default: return "unknown answer";
     }
 }

@@ -30,11 +30,12 @@ uint32_t walnutgleam_check(const uint8_t *history, size_t history_length,
                            const uint8_t *certificate, size_t certificate_length);
 
 /* The same answer. places gets, in this order:
- *   0  the criterion that the certificate names (pram 0, weak 1, causal 2, converge 3, sequential 4)
- *   1  the text of the line that the answer carries (0 none, 1 history, 2 certificate): a reading refusal carries the faulty
- *      line, in either text; 11 to 13 and 16 carry the line of their event, in the history; 0, 14 and 15 carry none
+ *   0  the criterion that the certificate names (pram 0, weak 1, causal 2, converge 3, sequential 4, strict 5)
+ *   1  the text of the line that the answer carries (0 none, 1 history, 2 certificate): a reading refusal carries the
+ *      faulty line, in either text; 11 to 13 and 16 carry the line of their event, in the history; 0, 14, 15 and 20
+ *      carry none
  *   2  the number of that line, from 1; 0 for a text that is too long
- *   3  the view
+ *   3  the view: 14, 15, 16 and 20 carry one; under pram and strict it is a process's number
  *   4  the event
  *   5  where that line starts within its text, and 6 its length without its line feed; 0 and 0 where there is none or it is empty
  * Places 0, 2, 3 and 4 are WALNUTGLEAM_NONE where the answer does not carry them. A slice of another length than 7 is filled as
@@ -44,11 +45,11 @@ uint32_t walnutgleam_verdict(const uint8_t *history, size_t history_length,
                              const uint8_t *certificate, size_t certificate_length,
                              uint32_t *places, size_t places_length);
 
-/* Weakens an accepted certificate text to the criterion wanted (numbers as above): the weakened text goes into the buffer's first
- * bytes, the rest stays as it was, and length gets their number. Refusals, in this order: the reading refusals of the check; 17 if
- * the two criteria are not a pair of docs/FORMAT.md's list; 11 to 16 of the check; 18 if the buffer has fewer bytes than the text.
- * It gives the number only; walnutgleam_verdict on the same texts gives the places of 1 to 6 and of 11 to 16. On a refusal no byte
- * changes and length gets 0. */
+/* Weakens an accepted certificate text to the criterion wanted (0 to 5, numbers as above): the weakened text goes into
+ * the buffer's first bytes, the rest stays as it was, and length gets their number. Refusals, in this order: the
+ * reading refusals of the check; 17 if the two criteria are not a pair of docs/FORMAT.md's list; 11 to 15, 20 and 16 of
+ * the check; 18 if the buffer has fewer bytes than the text. It gives the number only; walnutgleam_verdict on the same
+ * texts gives the places of 1 to 6, of 11 to 16 and of 20. On a refusal no byte changes and length gets 0. */
 uint32_t walnutgleam_weaken(const uint8_t *history, size_t history_length,
                             const uint8_t *certificate, size_t certificate_length,
                             uint32_t wanted, uint8_t *buffer, size_t buffer_length, uint64_t *length);

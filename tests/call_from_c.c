@@ -1,5 +1,5 @@
 /* Calls the archive as the fleet console does, on the sample dispenser Q: the check, its places with the event's line,
- * both texts read and written back, and a certificate weakened; and some of these with an answer lost, and on a channel
+ * both texts read and written back, and certificates weakened; and some of these with an answer lost, and on a channel
  * that gets full. Then gives each function NULL with length 0 for each of its slices. Prints a line each; make test
  * compares them with tests/call_from_c.out. */
 #include <inttypes.h>
@@ -62,6 +62,35 @@ static const char behind[] =
     "1 0\n"
     "view order\n"
     "0 1,0\n";
+
+static const char strict[] =
+    "criterion strict\n"
+    "event past\n"
+    "0 -\n"
+    "1 0\n"
+    "view order\n"
+    "0 0,1\n"
+    "1 0,1\n";
+
+/* event 0 before event 1 in process 1's view, and not in its past */
+static const char outside[] =
+    "criterion strict\n"
+    "event past\n"
+    "0 -\n"
+    "1 -\n"
+    "view order\n"
+    "0 0,1\n"
+    "1 0,1\n";
+
+/* event 1 first in process 1's view, with an empty past */
+static const char alone[] =
+    "criterion strict\n"
+    "event past\n"
+    "0 -\n"
+    "1 -\n"
+    "view order\n"
+    "0 0,1\n"
+    "1 1,0\n";
 
 static const uint8_t *bytes(const char *text) { return (const uint8_t *)text; }
 
@@ -148,6 +177,7 @@ static void give_null(void) {
     say_length("weaken, NULL certificate", walnutgleam_weaken(h, hn, NULL, 0, 2, buffer, sizeof buffer, &given_length));
     say_length("weaken, NULL buffer", walnutgleam_weaken(h, hn, a, an, 2, NULL, 0, &given_length));
     say_length("weaken to 5, NULL buffer", walnutgleam_weaken(h, hn, a, an, 5, NULL, 0, &given_length));
+    say_length("weaken to 6, NULL buffer", walnutgleam_weaken(h, hn, a, an, 6, NULL, 0, &given_length));
     say_length("weaken what is refused, NULL buffer", walnutgleam_weaken(h, hn, r, rn, 2, NULL, 0, &given_length));
     say_length("weaken, all NULL", walnutgleam_weaken(NULL, 0, NULL, 0, 2, NULL, 0, &given_length));
 
@@ -191,6 +221,11 @@ int main(void) {
     verdict("Q", history, "1,0 and 0 in the past of 1", behind);
     verdict("Q", history, "0,1", accepted);
 
+    /* strict is criterion 5; 20 has the view, which is the process's number, and no line */
+    verdict("Q", history, "strict", strict);
+    verdict("Q", history, "strict, 0 outside the past of 1", outside);
+    verdict("Q", history, "strict, 1 alone", alone);
+
     uint8_t buffer[128];
     uint64_t length = 0;
     memset(buffer, '.', sizeof buffer);
@@ -201,14 +236,20 @@ int main(void) {
     answer = walnutgleam_rewrite_certificate(bytes(history), h, bytes(certificate), c, buffer, c, &length);
     printf("certificate %" PRIu32 " %" PRIu64 " %s\n", answer, length, memcmp(buffer, certificate, c) == 0 ? "same" : "other");
 
-    /* to causal, which takes 57 bytes; a buffer one byte shorter; no such criterion; a certificate that the check refuses, by an
-     * answer of the replay and by its layout */
+    /* to causal, which takes 57 bytes; a buffer one byte shorter; to strict; no such criterion; a certificate that the
+     * check refuses, by an answer of the replay and by its layout; from strict to causal, to pram and to sequential,
+     * which is no pair; and one of strict that is refused with 20 */
     weaken(accepted, 2, 128);
     weaken(accepted, 2, 57);
     weaken(accepted, 2, 56);
     weaken(accepted, 5, 128);
+    weaken(accepted, 6, 128);
     weaken(certificate, 2, 128);
     weaken("criterion sequential\nview ordre\n", 2, 128);
+    weaken(strict, 2, 128);
+    weaken(strict, 0, 128);
+    weaken(strict, 4, 128);
+    weaken(outside, 2, 128);
 
     /* Q with the answer of event 1 lost: the order that Q refuses is accepted. A channel of one slot, which event 0 had. */
     both_orders("lost", lost);

@@ -1,6 +1,7 @@
-/* Weakens an accepted certificate of each criterion to every number from 0 to 6: for a pair of document 01's list the weakened text is
- * accepted and names the criterion wanted, it fills exactly its length of a buffer, and a buffer one byte shorter is refused unchanged;
- * for every other number the answer is 17. Prints a line for each; make test compares them with tests/weaken_pairs.out. */
+/* Weakens certificates, an accepted one of each criterion among them, to every number from 0 to 7. Of an accepted one:
+ * for a pair of documents 01 and 02 the weakened text is accepted and names the criterion wanted, it fills exactly its
+ * length of a buffer, and a buffer one byte shorter is refused unchanged; for every other number the answer is 17.
+ * Prints a line for each; make test compares them with tests/weaken_pairs.out. */
 #include <inttypes.h>
 #include <stdio.h>
 #include <string.h>
@@ -57,7 +58,7 @@ int main(int count, char **folders) {
     for (int i = 1; i < count; i++) {
         const size_t h = read_file(folders[i], "history.txt", history);
         const size_t c = read_file(folders[i], "certificate.txt", certificate);
-        for (uint32_t wanted = 0; wanted <= 6; wanted++) weaken_to(folders[i], h, c, wanted);
+        for (uint32_t wanted = 0; wanted <= 7; wanted++) weaken_to(folders[i], h, c, wanted);
     }
     return 0;
 }

@@ -17,7 +17,7 @@ use Rattle.history.proofs.PadLaws.{pad-length, take-pad}
 use Rattle.history.proofs.WithinLaws.{zero-is, zeros, padded, drop-pad}
 use Rattle.certificate.proofs.NumberingLaws.{numbers-few}
 use Rattle.certificate.specs.declared.record.Criterion.{Criterion}
-use Rattle.certificate.specs.declared.record.Criterion.the-variants.{Pram, Weak, Causal, Converge, Sequential}
+use Rattle.certificate.specs.declared.record.Criterion.the-variants.{Pram, Weak, Causal, Converge, Sequential, Strict}
 use Rattle.certificate.specs.declared.record.EventList.{EventList}
 use Rattle.certificate.specs.declared.record.Certificate.{Certificate}
 use Rattle.certificate.specs.Record.{noList, noRow, eventListOf, rowOf, certificateOf, rowsOf, entriesIn, pastsIn, beginnings, viewsIn}
@@ -49,6 +49,7 @@ numbers-below Weak es h = count-below 64 0 (length es) (omega arith)
 numbers-below Causal es h = count-below 64 0 (length es) (omega arith)
 numbers-below Converge es h = one-below
 numbers-below Sequential es h = one-below
+numbers-below Strict es h = processes-below 64 es 0 8 (omega arith)
 
 -- there are at most 64 pasts
 pub pasts-few : (c : Criterion) (es : List Event) → length es ≤ 64 → pastCount c es ≤ 64
@@ -57,6 +58,7 @@ pasts-few Weak es h = h
 pasts-few Causal es h = h
 pasts-few Converge es h = h
 pasts-few Sequential es h = omega arith
+pasts-few Strict es h = h
 
 -- ---- what is not used is blank
 row-blank : (row : List ℕ) → length row ≡ 64 → allZero row ≡ true → row ≡ noRow

@@ -4,7 +4,7 @@ use native.Mathlib.Nat.{add-zero}
 use native.Mathlib.Numerals.{add-one}
 use native.Mathlib.Omega.{arith}
 use mathlib.Core.Path.{_≡_, refl, sym, ap, ap₂, _∙_}
-use mathlib.Core.Bool.{true, false}
+use mathlib.Core.Bool.{true, false, false≢true}
 use mathlib.Core.List.{List, [], _∷_, _++_, append-assoc, append-nil}
 use lib.ListN.{length, getD, take, drop, set, replicate}
 use lib.Seq.{length-take-le, getD-take, drop-cons, drop-length}
@@ -14,10 +14,10 @@ use Rattle.history.specs.declared.record.Event.{Event}
 use Rattle.history.specs.Record.{pad}
 use Rattle.history.proofs.PadLaws.{Filled, filled-none, filled-count, filled-take, filled-more}
 use Rattle.certificate.specs.declared.record.Criterion.{Criterion}
-use Rattle.certificate.specs.declared.record.Criterion.the-variants.{Pram, Weak, Causal, Converge, Sequential}
+use Rattle.certificate.specs.declared.record.Criterion.the-variants.{Pram, Weak, Causal, Converge, Sequential, Strict}
 use Rattle.certificate.specs.declared.numbers.ViewNumbers.{ViewNumbers}
 use Rattle.certificate.specs.Criteria.{countFrom, hasEvents, processesFrom, viewNumbers}
-use Rattle.certificate.specs.Steps.Numbers.{viewNumbersOf}
+use Rattle.certificate.specs.Steps.Numbers.{viewNumbersOf, processEach, eventEach}
 
 -- ---- a loop that looks for an event of the process p, at the place i of the first n events
 module _ (p : ℕ) (es : List Event) (n : ℕ) (l : n ≤ length es) where
@@ -168,6 +168,7 @@ numbers-few Weak es h = omega (arith, count-long 0 (length es))
 numbers-few Causal es h = omega (arith, count-long 0 (length es))
 numbers-few Converge es h = omega arith
 numbers-few Sequential es h = omega arith
+numbers-few Strict es h = omega (arith, processes-few es 0 8)
 
 module _ (c : Criterion) (events : List Event) (n : ℕ) (room : n ≤ 64) (long : length events ≡ 64) (r : ViewNumbers) where
   abbrev es : List Event
@@ -183,22 +184,38 @@ module _ (c : Criterion) (events : List Event) (n : ℕ) (room : n ≤ 64) (long
       let l : r .count ≡ length (viewNumbers c es) = ap (λ (v : ViewNumbers). v .count) t in
       (t, omega (arith, numbers-few c es (omega (arith, all))))
 
-  pub process-views : c ≡ Pram → r ≡ viewNumbersOf (processesFrom es 0 8) → (r ≡ viewNumbersOf (viewNumbers c es)) × (r .count ≤ 64)
+  pub process-views : processEach c ≡ true → r ≡ viewNumbersOf (processesFrom es 0 8) → (r ≡ viewNumbersOf (viewNumbers c es)) × (r .count ≤ 64)
   unfolding viewNumbers
-  process-views q e = views-are (processesFrom es 0 8) e (rw q)
+  process-views t e = views-are (processesFrom es 0 8) e (go c t)
+    where
+      go : (c : Criterion) → processEach c ≡ true → processesFrom es 0 8 ≡ viewNumbers c es
+      go Pram t = refl
+      go Weak t = absurd (false≢true t)
+      go Causal t = absurd (false≢true t)
+      go Converge t = absurd (false≢true t)
+      go Sequential t = absurd (false≢true t)
+      go Strict t = refl
 
-  pub weak-views : c ≡ Weak → r ≡ viewNumbersOf (countFrom 0 n) → (r ≡ viewNumbersOf (viewNumbers c es)) × (r .count ≤ 64)
+  pub event-views : eventEach c ≡ true → r ≡ viewNumbersOf (countFrom 0 n) → (r ≡ viewNumbersOf (viewNumbers c es)) × (r .count ≤ 64)
   unfolding viewNumbers
-  weak-views q e = views-are (countFrom 0 n) e (rw (q, all))
+  event-views t e = views-are (countFrom 0 n) e (go c t)
+    where
+      go : (c : Criterion) → eventEach c ≡ true → countFrom 0 n ≡ viewNumbers c es
+      go Pram t = absurd (false≢true t)
+      go Weak t = rw all
+      go Causal t = rw all
+      go Converge t = absurd (false≢true t)
+      go Sequential t = absurd (false≢true t)
+      go Strict t = absurd (false≢true t)
 
-  pub causal-views : c ≡ Causal → r ≡ viewNumbersOf (countFrom 0 n) → (r ≡ viewNumbersOf (viewNumbers c es)) × (r .count ≤ 64)
+  pub one-view : processEach c ≡ false → eventEach c ≡ false → r ≡ viewNumbersOf (0 ∷ []) → (r ≡ viewNumbersOf (viewNumbers c es)) × (r .count ≤ 64)
   unfolding viewNumbers
-  causal-views q e = views-are (countFrom 0 n) e (rw (q, all))
-
-  pub converge-view : c ≡ Converge → r ≡ viewNumbersOf (0 ∷ []) → (r ≡ viewNumbersOf (viewNumbers c es)) × (r .count ≤ 64)
-  unfolding viewNumbers
-  converge-view q e = views-are (0 ∷ []) e (rw q)
-
-  pub sequential-view : c ≡ Sequential → r ≡ viewNumbersOf (0 ∷ []) → (r ≡ viewNumbersOf (viewNumbers c es)) × (r .count ≤ 64)
-  unfolding viewNumbers
-  sequential-view q e = views-are (0 ∷ []) e (rw q)
+  one-view p t e = views-are (0 ∷ []) e (go c p t)
+    where
+      go : (c : Criterion) → processEach c ≡ false → eventEach c ≡ false → 0 ∷ [] ≡ viewNumbers c es
+      go Pram p t = absurd (false≢true (sym p))
+      go Weak p t = absurd (false≢true (sym t))
+      go Causal p t = absurd (false≢true (sym t))
+      go Converge p t = refl
+      go Sequential p t = refl
+      go Strict p t = absurd (false≢true (sym p))

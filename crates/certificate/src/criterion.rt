@@ -22,6 +22,7 @@ pub fn has_pasts(c: Criterion) -> bool
         Criterion::Causal => true,
         Criterion::Converge => true,
         Criterion::Sequential => false,
+        Criterion::Strict => true,
     }
 }
 
@@ -51,6 +52,12 @@ fn read_word(word: &[u8]) -> CriterionRead
         return CriterionRead {
             known: true,
             criterion: Criterion::Sequential,
+        };
+    }
+    if is_word(word, b"strict") {
+        return CriterionRead {
+            known: true,
+            criterion: Criterion::Strict,
         };
     }
     let known = is_word(word, b"pram");

@@ -1,10 +1,10 @@
-// The numbers of the views. A view is numbered by a process under pram and by an event under weak and causal.
+// The numbers of the views. A view is numbered by a process under pram and strict and by an event under weak and causal.
 ghost use mathlib.Core.Path.{_≡_};
 ghost use Prim.Native.Nat.{_≤_};
 ghost use mathlib.Core.List.{[], _∷_};
 ghost use lib.ListN.{take};
 ghost use Rattle.certificate.specs.Criteria.{countFrom, hasEvents, processesFrom, viewNumbers};
-ghost use Rattle.certificate.specs.Steps.Numbers.{viewNumbersOf};
+ghost use Rattle.certificate.specs.Steps.Numbers.{viewNumbersOf, processEach, eventEach};
 use crate::record::Criterion;
 use history::record::Event;
 use history::record::EventNo;
@@ -87,16 +87,44 @@ fn one_number() -> ViewNumbers
     }
 }
 
+// Whether the views of the criterion are one a process with events.
+fn process_each(c: Criterion) -> bool
+    ensures { λ r. ⌜ r ≡ processEach c ⌝ }
+{
+    match c {
+        Criterion::Pram => true,
+        Criterion::Weak => false,
+        Criterion::Causal => false,
+        Criterion::Converge => false,
+        Criterion::Sequential => false,
+        Criterion::Strict => true,
+    }
+}
+
+// Whether the views of the criterion are one an event, each of the past of its event and that event.
+pub fn event_each(c: Criterion) -> bool
+    ensures { λ r. ⌜ r ≡ eventEach c ⌝ }
+{
+    match c {
+        Criterion::Pram => false,
+        Criterion::Weak => true,
+        Criterion::Causal => true,
+        Criterion::Converge => false,
+        Criterion::Sequential => false,
+        Criterion::Strict => false,
+    }
+}
+
 // The numbers of the views of a criterion, in a history with the first n of the events.
 pub fn view_numbers(c: Criterion, events: [Event; 64], n: usize) -> ViewNumbers
     requires { ⌜ n ≤ 64 ⌝ }
     ensures { λ r. ⌜ (r ≡ viewNumbersOf (viewNumbers c (take n events))) × (r .count ≤ 64) ⌝ }
 {
-    match c {
-        Criterion::Pram => process_numbers(events, n),
-        Criterion::Weak => event_numbers(n),
-        Criterion::Causal => event_numbers(n),
-        Criterion::Converge => one_number(),
-        Criterion::Sequential => one_number(),
+    if process_each(c) {
+        return process_numbers(events, n);
     }
+    if event_each(c) {
+        return event_numbers(n);
+    }
+    one_number()
 }

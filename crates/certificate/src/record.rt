@@ -1,12 +1,13 @@
 // The certificate record, by value. The views stand beside it, as rows of event numbers. Every place that a record or a row does
 // not use holds zeros, so that two records of one certificate are equal.
 
-// In the order of their numbers, 0 to 4.
+// Those whose certificates have pasts stand together, so that a test for them is one of a range. Their numbers are `criterionNumber`.
 pub enum Criterion {
     Pram,
     Weak,
     Causal,
     Converge,
+    Strict,
     Sequential,
 }
 

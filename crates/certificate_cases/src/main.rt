@@ -191,6 +191,10 @@ fn of_criteria() {
         b"criterion converge\nevent past\n0 -\n1 0\nview order\n0 0,1\n",
     );
     of_queue(
+        b"strict",
+        b"criterion strict\nevent past\n0 -\n1 0\nview order\n0 0,1\n1 0,1\n",
+    );
+    of_queue(
         b"repeats in a view",
         b"criterion sequential\nview order\n0 1,1\n",
     );
@@ -200,7 +204,7 @@ fn of_criteria() {
 fn of_lists() {
     of_queue(
         b"unknown criterion",
-        b"criterion strict\nview order\n0 0,1\n",
+        b"criterion atomic\nview order\n0 0,1\n",
     );
     of_queue(
         b"past not rising",
@@ -258,13 +262,17 @@ fn of_other_histories() {
         b"criterion causal\nevent past\nview order\n",
     );
     of_nothing(
+        b"nothing, strict",
+        b"criterion strict\nevent past\nview order\n",
+    );
+    of_nothing(
         b"nothing, pram with a view",
         b"criterion pram\nview order\n0 -\n",
     );
     case(
         b"faulty history",
         b"object kind width\n0 queue 3\n",
-        b"criterion strict\n",
+        b"criterion atomic\n",
     );
 }
 

@@ -10,7 +10,7 @@ use lib.Dec.{eqb, leb}
 use borrow.Author.Tests.{leb-true, eqb-true}
 use Rattle.layout.specs.declared.list.ListRead.the-variants.{Listed}
 use Rattle.layout.specs.Split.{split, onFirst, join}
-use Rattle.layout.specs.Word.{same, criterionWord, pramWord, weakWord, causalWord, convergeWord, sequentialWord}
+use Rattle.layout.specs.Word.{same, criterionWord, pramWord, weakWord, causalWord, convergeWord, sequentialWord, strictWord}
 use Rattle.layout.specs.Number.{value, spell}
 use Rattle.layout.specs.List.{itemsOf, allNumbers, allBelow, judged, listOf, numbersOf}
 use Rattle.layout.proofs.Cases.{by-bool, and-left, and-right}
@@ -20,7 +20,7 @@ use Rattle.layout.proofs.RoundTrips.{written-read}
 use Rattle.history.specs.Readable.{allLess}
 use Rattle.event_reader.proofs.EventRound.{values-less}
 use Rattle.certificate.specs.declared.record.Criterion.{Criterion}
-use Rattle.certificate.specs.declared.record.Criterion.the-variants.{Pram, Weak, Causal, Converge, Sequential}
+use Rattle.certificate.specs.declared.record.Criterion.the-variants.{Pram, Weak, Causal, Converge, Sequential, Strict}
 use Rattle.certificate.specs.Criteria.{wordOf, isCriterion, criterionOf}
 use Rattle.certificate.specs.Faults.{rising, criterionLine, listLayout, listLimits, pairFault, listFault, listSaid}
 use Rattle.certificate.specs.CertificateText.{listLine, criterionText}
@@ -139,6 +139,7 @@ criterion-word Weak = refl
 criterion-word Causal = refl
 criterion-word Converge = refl
 criterion-word Sequential = refl
+criterion-word Strict = refl
 
 criterion-known : (c : Criterion) → isCriterion (wordOf c) ≡ true
 unfolding wordOf isCriterion same
@@ -147,6 +148,7 @@ criterion-known Weak = refl
 criterion-known Causal = refl
 criterion-known Converge = refl
 criterion-known Sequential = refl
+criterion-known Strict = refl
 
 criterion-fields : (c : Criterion) → split 32 (criterionText c) ≡ criterionWord ∷ wordOf c ∷ []
 unfolding criterionText wordOf split onFirst
@@ -155,6 +157,7 @@ criterion-fields Weak = refl
 criterion-fields Causal = refl
 criterion-fields Converge = refl
 criterion-fields Sequential = refl
+criterion-fields Strict = refl
 
 -- it holds no line feed
 pub criterion-without : (c : Criterion) → without 10 (criterionText c) ≡ true
@@ -164,6 +167,7 @@ criterion-without Weak = refl
 criterion-without Causal = refl
 criterion-without Converge = refl
 criterion-without Sequential = refl
+criterion-without Strict = refl
 
 -- as it is written it has its layout, and says its criterion
 pub criterion-line : (c : Criterion) → criterionLine (criterionText c) ≡ true
@@ -185,7 +189,9 @@ word-criterion f e =
     (λ v. rw (w, c, v) (sym (same-true f convergeWord v)))
     (λ v. by-bool (same f sequentialWord)
     (λ s. rw (w, c, v, s) (sym (same-true f sequentialWord s)))
-    (λ s. rw (w, c, v, s) (sym (same-true f pramWord (rw (w, c, v, s) at e)))))))
+    (λ s. by-bool (same f strictWord)
+    (λ t. rw (w, c, v, s, t) (sym (same-true f strictWord t)))
+    (λ t. rw (w, c, v, s, t) (sym (same-true f pramWord (rw (w, c, v, s, t) at e))))))))
 
 pub criterion-back : (line : List ℕ) → criterionLine line ≡ true
     → criterionText (criterionOf (getD (split 32 line) 1 [])) ≡ line

@@ -18,7 +18,7 @@ use Rattle.history.specs.HistoryText.{linesText}
 use Rattle.history.specs.Readable.{allLess}
 use Rattle.history_theorems.proofs.TextLength.{line-more, line-none, lines-append}
 use Rattle.certificate.specs.declared.record.Criterion.{Criterion}
-use Rattle.certificate.specs.declared.record.Criterion.the-variants.{Pram, Weak, Causal, Converge, Sequential}
+use Rattle.certificate.specs.declared.record.Criterion.the-variants.{Pram, Weak, Causal, Converge, Sequential, Strict}
 use Rattle.certificate.specs.Criteria.{wordOf, hasPasts, countFrom, viewNumbers, pastCount}
 use Rattle.certificate.specs.Faults.{rising}
 use Rattle.certificate.specs.CertificateText.{listLine, listLines, criterionText, viewPart, pastPart, textOf}
@@ -75,6 +75,7 @@ word-short Weak = omega arith
 word-short Causal = omega arith
 word-short Converge = omega arith
 word-short Sequential = omega arith
+word-short Strict = omega arith
 
 criterion-short : (c : Criterion) → length (criterionText c) ≤ 20
 unfolding criterionText

@@ -2,13 +2,13 @@
 use Prim.Native.Nat.{ℕ, _≤_}
 use native.Mathlib.Omega.{arith}
 use mathlib.Core.Path.{_≡_, refl, ap}
-use mathlib.Core.Bool.{Bool, true, false, _&&_}
+use mathlib.Core.Bool.{Bool, true, false}
 use mathlib.Core.List.{List}
 use lib.ListN.{length}
 use lib.Dec.{leb}
 use borrow.Author.Tests.{le-leb}
 use Rattle.layout.specs.Fill.{fill}
-use Rattle.layout.proofs.Cases.{by-bool, and-left, and-right}
+use Rattle.layout.proofs.Cases.{by-bool, and-left, and-right, true-and}
 use Rattle.layout.proofs.FillLaws.{after-fits}
 use Rattle.history.specs.declared.record.History.{History}
 use Rattle.history.specs.Record.{eventsIn}
@@ -33,13 +33,10 @@ pub record Stands (h : History) (c : Certificate) (rows : List (List ℕ)) (hist
   pub certificate-is : readCertificate history text .certificate ≡ c
   pub rows-are : (old : List (List ℕ)) → rowsRead history text old ≡ rows
 
-both : {a b : Bool} → a ≡ true → b ≡ true → a && b ≡ true
-both p q = rw (p, q)
-
 module _ (h : History) (c : Certificate) (rows : List (List ℕ)) where
   stands-writable : (history text : List ℕ) → Stands h c rows history text → writable h c rows ≡ true
   stands-writable history text s =
-      both (rw (s .history-is) at (history-theorems.read-within history (no-fault-history history text (s .readable))))
+      true-and (rw (s .history-is) at (history-theorems.read-within history (no-fault-history history text (s .readable))))
       (rw (s .history-is, s .certificate-is, s .rows-are rows) at (read-fits history text (s .readable) rows))
 
   module _ (w : writable h c rows ≡ true) where
@@ -94,7 +91,7 @@ module _ (h : History) (c : Certificate) (rows : List (List ℕ)) where
 -- what was read is written back, the same bytes, into every buffer that has room
 module _ (history text buf : List ℕ) (rows : List (List ℕ)) (z : readCertificate history text .fault ≡ 0) (room : length text ≤ length buf) where
   may-write : writable (readHistory history .history) (readCertificate history text .certificate) (rowsRead history text rows) ≡ true
-  may-write = both (history-theorems.read-within history (no-fault-history history text z)) (read-fits history text z rows)
+  may-write = true-and (history-theorems.read-within history (no-fault-history history text z)) (read-fits history text z rows)
 
   pub back-answer : certificateWritten (readHistory history .history) (readCertificate history text .certificate) (rowsRead history text rows) buf
       ≡ record { number = 0; length = length text }

@@ -101,6 +101,7 @@ fn criterion_len(c: Criterion) -> usize
         Criterion::Causal => 17,
         Criterion::Converge => 19,
         Criterion::Sequential => 21,
+        Criterion::Strict => 17,
     }
 }
 
@@ -115,6 +116,7 @@ fn put_criterion(part: &mut [u8], c: Criterion) -> usize
         Criterion::Causal => put_bytes(part, b"criterion causal\n"),
         Criterion::Converge => put_bytes(part, b"criterion converge\n"),
         Criterion::Sequential => put_bytes(part, b"criterion sequential\n"),
+        Criterion::Strict => put_bytes(part, b"criterion strict\n"),
     }
 }
 

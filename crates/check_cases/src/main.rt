@@ -58,6 +58,11 @@ fn accepted() {
         b"criterion converge\nevent past\n0 -\n1 -\n2 1\n3 0,1,2\nview order\n0 0,1,2,3\n",
     );
     case(
+        b"accepted, strict",
+        b"object kind width\n0 stack -\nevent process object op value answer\n0 0 0 push 1 -\n1 0 0 push 3 -\n2 0 0 pop - 3\n3 1 0 pop - 1\n4 1 0 push 2 -\n5 1 0 pop - 2\n6 2 0 pop - 1\n7 2 0 pop - 2\n",
+        b"criterion strict\nevent past\n0 -\n1 0\n2 0,1\n3 0\n4 0,3\n5 0,3,4\n6 0\n7 0,3,4,6\nview order\n0 0,1,2,3,4,5,6,7\n1 0,3,4,5,6,7,1,2\n2 0,6,3,4,7,5,1,2\n",
+    );
+    case(
         b"accepted, a full channel",
         b"object kind width\n0 channel 1\nevent process object op value answer\n0 0 0 push 5 -\n1 1 0 push 6 6\n2 0 0 pop - 5\n",
         b"criterion sequential\nview order\n0 0,1,2\n",
@@ -140,7 +145,7 @@ fn order_faults() {
     );
 }
 
-// 14 and 15.
+// 14, 15 and 20.
 fn view_faults() {
     case(
         b"14",
@@ -156,6 +161,21 @@ fn view_faults() {
         b"15, the second view",
         b"object kind width\n0 register -\n1 register -\nevent process object op value answer\n0 0 0 write 5 -\n1 1 0 read - 5\n2 1 1 write 6 -\n3 2 1 read - 6\n4 2 0 read - 0\n",
         b"criterion pram\nview order\n0 0,1,2,3,4\n1 2,1,0,3,4\n2 1,2,3,4,0\n",
+    );
+    case(
+        b"20",
+        b"object kind width\n0 window 2\nevent process object op value answer\n0 0 0 write 4 -\n1 0 0 read - 9,4\n2 1 0 write 9 -\n3 1 0 read - 4,9\n",
+        b"criterion strict\nevent past\n0 -\n1 0,2\n2 -\n3 0,2\nview order\n0 2,0,1,3\n1 0,2,3,1\n",
+    );
+    case(
+        b"15 before 20, in another view",
+        b"object kind width\n0 window 2\nevent process object op value answer\n0 0 0 write 4 -\n1 0 0 read - 9,4\n2 1 0 write 9 -\n3 1 0 read - 4,9\n",
+        b"criterion strict\nevent past\n0 -\n1 0,2\n2 -\n3 0,2\nview order\n0 2,0,1,3\n1 0,3,2,1\n",
+    );
+    case(
+        b"20 before 16, the second view",
+        b"object kind width\n0 window 2\nevent process object op value answer\n0 0 0 write 4 -\n1 0 0 read - 9,4\n2 1 0 write 9 -\n3 1 0 read - 4,9\n",
+        b"criterion strict\nevent past\n0 -\n1 0,2\n2 -\n3 0,2\nview order\n0 0,2,1,3\n1 0,2,3,1\n",
     );
 }
 

@@ -15,7 +15,7 @@ use Rattle.layout.proofs.SpellLaws.{number-spell}
 use Rattle.history.specs.HistoryText.{linesText}
 use Rattle.history.specs.Readable.{allLess}
 use Rattle.certificate.specs.declared.record.Criterion.{Criterion}
-use Rattle.certificate.specs.declared.record.Criterion.the-variants.{Pram, Weak, Causal, Converge, Sequential}
+use Rattle.certificate.specs.declared.record.Criterion.the-variants.{Pram, Weak, Causal, Converge, Sequential, Strict}
 use Rattle.certificate.specs.Criteria.{wordOf, hasPasts, countFrom}
 use Rattle.certificate.specs.CertificateText.{listLine, listLines, criterionText, viewPart, pastPart, textOf}
 use Rattle.checker.specs.Demand3.{Bytes}
@@ -90,6 +90,7 @@ word-bytes Weak = refl
 word-bytes Causal = refl
 word-bytes Converge = refl
 word-bytes Sequential = refl
+word-bytes Strict = refl
 
 view-bytes : (numbers : List ℕ) (views : List (List ℕ)) → AllBytes (viewPart numbers views)
 unfolding viewPart Bytes allLess AllBytes

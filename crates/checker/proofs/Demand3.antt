@@ -60,7 +60,7 @@ module _ (history text : List ℕ) (a : Accepted history text) where
   unfolding Names
   named v n = same-name (sym (accepted-names history text a) ∙ n)
 
-  meets-named : (v : Criterion) → Names history text v → Meets v (historyRead history)
+  pub meets-named : (v : Criterion) → Names history text v → Meets v (historyRead history)
   meets-named v n = subst (λ (k : Criterion). Meets k (historyRead history)) (named v n) (accepted-meets history text a)
 
   -- ---- weakening

@@ -9,13 +9,13 @@ use lib.ListN.{getD}
 use lib.Dec.{eqb}
 use borrow.Author.Tests.{eq-eqb}
 use Rattle.certificate.specs.declared.record.Criterion.{Criterion}
-use Rattle.certificate.specs.declared.record.Criterion.the-variants.{Pram, Weak, Causal, Converge, Sequential}
+use Rattle.certificate.specs.declared.record.Criterion.the-variants.{Pram, Weak, Causal, Converge, Sequential, Strict}
 use Rattle.certificate.specs.Criteria.{hasPasts}
 use Rattle.criteria.specs.Tests.{or, foundIf, lowest, mem}
-use Rattle.criteria.specs.History.{History, size, pastWith}
+use Rattle.criteria.specs.History.{History, size, pastWith, own}
 use Rattle.criteria.specs.Replay.{Contents, start, changed}
-use Rattle.criteria.specs.Certificate.{Certificate, pastCount, viewCount, viewNumber, viewSet, replayCount, replayed, visible, order, Readable}
-use Rattle.criteria.specs.Check.{Fault, fault11, fault12, fault13, fault14, fault15, fault16, answerOf, lacksOwn, lacksPast, notItsSet, against, right, firstWrong, mapFault, find11, find12, find13, find14, find15, find16, check}
+use Rattle.criteria.specs.Certificate.{Certificate, pastCount, viewCount, viewNumber, viewSet, strictCount, replayCount, replayed, visible, order, Readable}
+use Rattle.criteria.specs.Check.{Fault, fault11, fault12, fault13, fault14, fault15, fault16, fault20, answerOf, lacksOwn, lacksPast, notItsSet, against, outsidePast, right, firstWrong, mapFault, find11, find12, find13, find14, find15, find16, find20, check}
 use Rattle.criteria.proofs.Lists.{true-or-left, true-or-right, mem-keep}
 
 -- ---- what holds of all that may be found holds of what is found
@@ -52,7 +52,7 @@ module _ (h : History) (c : Certificate) (r : Readable h c) where
       lowest-holds (Carried (size h)) tt (pastCount (c .criterion) h) (λ e. foundIf (t e) (F e))
       (λ e l. flag-holds (Carried (size h)) tt (t e) (F e) (p e (past-event (hasPasts (c .criterion)) e l)))
 
-  -- ---- 14 and 15 carry none
+  -- ---- 14, 15 and 20 carry none
   at-view : (F : ℕ → Fault) → ((v : ℕ) → Carried (size h) (some (F v))) → (t : ℕ → Bool) (number : ℕ → ℕ) (m : ℕ)
       → Carried (size h) (lowest m (λ k. foundIf (t k) (F (number k))))
   at-view F p t number m =
@@ -77,6 +77,7 @@ module _ (h : History) (c : Certificate) (r : Readable h c) where
   replayed-in Causal k e t = r .view k .0 e t
   replayed-in Converge k e t = r .view 0 .0 e (mem-keep (pastWith (order h c) k) e (getD (c .views) 0 []) t .1)
   replayed-in Sequential k e t = r .view k .0 e t
+  replayed-in Strict k e t = r .view k .0 e t
 
   at-replay : (w : Criterion) → Carried (size h) (find16 w h (order h c) (c .views))
   at-replay w =
@@ -100,4 +101,6 @@ module _ (h : History) (c : Certificate) (r : Readable h c) where
       (at-view fault14 (λ v. tt) (λ k. notItsSet (size h) (viewSet w h R k) (getD (c .views) k [])) (viewNumber w h) (viewCount w h))
       (or-holds P (find15 w h R (c .views)) _
       (at-view fault15 (λ v. tt) (λ k. against R (getD (c .views) k [])) (viewNumber w h) (viewCount w h))
-      (at-replay w)))))
+      (or-holds P (find20 w h R (c .views)) _
+      (at-view fault20 (λ v. tt) (λ k. outsidePast R (own h (viewNumber w h k)) (getD (c .views) k [])) (viewNumber w h) (strictCount w h))
+      (at-replay w))))))

@@ -17,7 +17,7 @@ use Rattle.history_theorems.proofs.EventLineTheorem.{event-line}
 use Rattle.certificate.specs.declared.record.Criterion.{Criterion}
 use Rattle.certificate_reader.specs.ReadCertificate.{readCertificate}
 use Rattle.certificate_theorems.proofs.Theorems.{no-fault-history}
-use Rattle.criteria.specs.Check.{Fault, fault11, fault12, fault13, fault14, fault15, fault16, answerOf, check}
+use Rattle.criteria.specs.Check.{Fault, fault11, fault12, fault13, fault14, fault15, fault16, fault20, answerOf, check}
 use Rattle.checker.specs.CheckText.{Verdict, placeOf, historyRead, certificateRead, checkText, carriedLine}
 use Rattle.checker.specs.WeakenText.{wantedOf, weakenedWanted, plain, pairAnswer, weakenAnswer}
 use Rattle.checker.proofs.TextTheorems.{checked-as, refused-as}
@@ -43,6 +43,7 @@ event-by-number (some (fault13 e)) = refl
 event-by-number (some (fault14 v)) = refl
 event-by-number (some (fault15 v)) = refl
 event-by-number (some (fault16 v e)) = refl
+event-by-number (some (fault20 v)) = refl
 
 module _ (history text : List ℕ) where
   -- ---- where both texts are read, the answers that carry an event are 11, 12, 13 and 16

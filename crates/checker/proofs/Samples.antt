@@ -1,24 +1,26 @@
--- Document 01's (p) cases on the texts, with their lines (document 02, T-05) and C's as T-04 has it, and cases of lost answers, of channels
--- and of windows (T-01, T-02, T-04), one list, by computation. Assumes nothing.
+-- Document 01's (p) cases on the texts, with their lines (document 02, T-05) and C's as T-04 has it, and cases of lost answers, of channels,
+-- of windows and of strict (T-01, T-02, T-04, T-06), one list, by computation. Assumes nothing.
 use Prim.Native.Nat.{ℕ}
-use mathlib.Core.Path.{_≡_, refl, ap, ap₂, _∙_}
+use mathlib.Core.Path.{_≡_, refl, ap, ap₂, _∙_, subst}
 use mathlib.Core.List.{List, [], _∷_, _++_}
 use mathlib.Core.Option.{Option, none, some}
 use Rattle.certificate.specs.declared.record.Criterion.{Criterion}
-use Rattle.certificate.specs.declared.record.Criterion.the-variants.{Pram, Weak, Causal, Converge, Sequential}
+use Rattle.certificate.specs.declared.record.Criterion.the-variants.{Pram, Weak, Causal, Converge, Sequential, Strict}
 use Rattle.history_reader.specs.declared.place.Text.the-variants.{HistoryText}
 use Rattle.history_reader.specs.declared.place.Place.{Place}
 use Rattle.history_reader.specs.Place.{nowhere, eventPlace}
 use Rattle.history_reader.specs.ReadHistory.{readHistory}
 use Rattle.certificate_reader.specs.ReadCertificate.{readCertificate}
-use Rattle.criteria.specs.History.{own}
+use Rattle.criteria.specs.History.{History, own}
 use Rattle.criteria.specs.Replay.{start, Replays}
+use Rattle.criteria.specs.Criteria.{Meets}
 use Rattle.criteria.specs.Certificate.{Certificate}
 use Rattle.criteria.specs.Check.{Fault, fault12, answerOf, check}
 use Rattle.criteria.proofs.Replay.{none-wrong}
 use Rattle.criteria.proofs.Samples as lists
-use Rattle.checker.specs.CheckText.{Verdict, checked, foundIn, historyRead, certificateRead, checkText, carriedLine}
+use Rattle.checker.specs.CheckText.{Verdict, checked, foundIn, historyRead, certificateRead, checkText, Accepted, Names, carriedLine}
 use Rattle.checker.proofs.TextTheorems.{checked-as}
+use Rattle.checker.proofs.Demand3.{meets-named}
 use Rattle.layout.specs.Split as layout-split
 use Rattle.layout.specs.Word as layout-word
 use Rattle.layout.specs.Word.{dash, queueWord, channelWord}
@@ -108,6 +110,11 @@ OneSlot a b = 111 ∷ 98 ∷ 106 ∷ 101 ∷ 99 ∷ 116 ∷ 32 ∷ 107 ∷ 105 �
 abbrev pub Unscanned : List ℕ → List ℕ
 Unscanned a = 111 ∷ 98 ∷ 106 ∷ 101 ∷ 99 ∷ 116 ∷ 32 ∷ 107 ∷ 105 ∷ 110 ∷ 100 ∷ 32 ∷ 119 ∷ 105 ∷ 100 ∷ 116 ∷ 104 ∷ 10 ∷ 48 ∷ 32 ∷ 119 ∷ 105 ∷ 110 ∷ 100 ∷ 111 ∷ 119 ∷ 32 ∷ 49 ∷ 10 ∷ 101 ∷ 118 ∷ 101 ∷ 110 ∷ 116 ∷ 32 ∷ 112 ∷ 114 ∷ 111 ∷ 99 ∷ 101 ∷ 115 ∷ 115 ∷ 32 ∷ 111 ∷ 98 ∷ 106 ∷ 101 ∷ 99 ∷ 116 ∷ 32 ∷ 111 ∷ 112 ∷ 32 ∷ 118 ∷ 97 ∷ 108 ∷ 117 ∷ 101 ∷ 32 ∷ 97 ∷ 110 ∷ 115 ∷ 119 ∷ 101 ∷ 114 ∷ 10 ∷ 48 ∷ 32 ∷ 48 ∷ 32 ∷ 48 ∷ 32 ∷ 114 ∷ 101 ∷ 97 ∷ 100 ∷ 32 ∷ 45 ∷ 32 ∷ (a ++ 10 ∷ [])
 
+-- Source document 001's example, with 1, 2 and 3 for a, b and c: a stack; process 0 pushes 1 and 3 and pops 3, process 1 pops 1, pushes
+-- 2 and pops 2, process 2 pops 1 and 2.
+abbrev pub Stack : List ℕ
+Stack = 111 ∷ 98 ∷ 106 ∷ 101 ∷ 99 ∷ 116 ∷ 32 ∷ 107 ∷ 105 ∷ 110 ∷ 100 ∷ 32 ∷ 119 ∷ 105 ∷ 100 ∷ 116 ∷ 104 ∷ 10 ∷ 48 ∷ 32 ∷ 115 ∷ 116 ∷ 97 ∷ 99 ∷ 107 ∷ 32 ∷ 45 ∷ 10 ∷ 101 ∷ 118 ∷ 101 ∷ 110 ∷ 116 ∷ 32 ∷ 112 ∷ 114 ∷ 111 ∷ 99 ∷ 101 ∷ 115 ∷ 115 ∷ 32 ∷ 111 ∷ 98 ∷ 106 ∷ 101 ∷ 99 ∷ 116 ∷ 32 ∷ 111 ∷ 112 ∷ 32 ∷ 118 ∷ 97 ∷ 108 ∷ 117 ∷ 101 ∷ 32 ∷ 97 ∷ 110 ∷ 115 ∷ 119 ∷ 101 ∷ 114 ∷ 10 ∷ 48 ∷ 32 ∷ 48 ∷ 32 ∷ 48 ∷ 32 ∷ 112 ∷ 117 ∷ 115 ∷ 104 ∷ 32 ∷ 49 ∷ 32 ∷ 45 ∷ 10 ∷ 49 ∷ 32 ∷ 48 ∷ 32 ∷ 48 ∷ 32 ∷ 112 ∷ 117 ∷ 115 ∷ 104 ∷ 32 ∷ 51 ∷ 32 ∷ 45 ∷ 10 ∷ 50 ∷ 32 ∷ 48 ∷ 32 ∷ 48 ∷ 32 ∷ 112 ∷ 111 ∷ 112 ∷ 32 ∷ 45 ∷ 32 ∷ 51 ∷ 10 ∷ 51 ∷ 32 ∷ 49 ∷ 32 ∷ 48 ∷ 32 ∷ 112 ∷ 111 ∷ 112 ∷ 32 ∷ 45 ∷ 32 ∷ 49 ∷ 10 ∷ 52 ∷ 32 ∷ 49 ∷ 32 ∷ 48 ∷ 32 ∷ 112 ∷ 117 ∷ 115 ∷ 104 ∷ 32 ∷ 50 ∷ 32 ∷ 45 ∷ 10 ∷ 53 ∷ 32 ∷ 49 ∷ 32 ∷ 48 ∷ 32 ∷ 112 ∷ 111 ∷ 112 ∷ 32 ∷ 45 ∷ 32 ∷ 50 ∷ 10 ∷ 54 ∷ 32 ∷ 50 ∷ 32 ∷ 48 ∷ 32 ∷ 112 ∷ 111 ∷ 112 ∷ 32 ∷ 45 ∷ 32 ∷ 49 ∷ 10 ∷ 55 ∷ 32 ∷ 50 ∷ 32 ∷ 48 ∷ 32 ∷ 112 ∷ 111 ∷ 112 ∷ 32 ∷ 45 ∷ 32 ∷ 50 ∷ 10 ∷ []
+
 -- One object of a kind and a width, and no event.
 abbrev pub OneObject : List ℕ → List ℕ → List ℕ
 OneObject kind width = 111 ∷ 98 ∷ 106 ∷ 101 ∷ 99 ∷ 116 ∷ 32 ∷ 107 ∷ 105 ∷ 110 ∷ 100 ∷ 32 ∷ 119 ∷ 105 ∷ 100 ∷ 116 ∷ 104 ∷ 10 ∷ 48 ∷ 32 ∷ (kind ++ (32 ∷ (width ++ (10 ∷ 101 ∷ 118 ∷ 101 ∷ 110 ∷ 116 ∷ 32 ∷ 112 ∷ 114 ∷ 111 ∷ 99 ∷ 101 ∷ 115 ∷ 115 ∷ 32 ∷ 111 ∷ 98 ∷ 106 ∷ 101 ∷ 99 ∷ 116 ∷ 32 ∷ 111 ∷ 112 ∷ 32 ∷ 118 ∷ 97 ∷ 108 ∷ 117 ∷ 101 ∷ 32 ∷ 97 ∷ 110 ∷ 115 ∷ 119 ∷ 101 ∷ 114 ∷ 10 ∷ []))))
@@ -140,6 +147,15 @@ w-past-text = 99 ∷ 114 ∷ 105 ∷ 116 ∷ 101 ∷ 114 ∷ 105 ∷ 111 ∷ 110
 -- Of C: `criterion converge`, `event past`, `0 -`, `1 -`, `2 1`, `3 0,1,2`, `view order`, `0 0,1,2,3`.
 abbrev pub c-converge-text : List ℕ
 c-converge-text = 99 ∷ 114 ∷ 105 ∷ 116 ∷ 101 ∷ 114 ∷ 105 ∷ 111 ∷ 110 ∷ 32 ∷ 99 ∷ 111 ∷ 110 ∷ 118 ∷ 101 ∷ 114 ∷ 103 ∷ 101 ∷ 10 ∷ 101 ∷ 118 ∷ 101 ∷ 110 ∷ 116 ∷ 32 ∷ 112 ∷ 97 ∷ 115 ∷ 116 ∷ 10 ∷ 48 ∷ 32 ∷ 45 ∷ 10 ∷ 49 ∷ 32 ∷ 45 ∷ 10 ∷ 50 ∷ 32 ∷ 49 ∷ 10 ∷ 51 ∷ 32 ∷ 48 ∷ 44 ∷ 49 ∷ 44 ∷ 50 ∷ 10 ∷ 118 ∷ 105 ∷ 101 ∷ 119 ∷ 32 ∷ 111 ∷ 114 ∷ 100 ∷ 101 ∷ 114 ∷ 10 ∷ 48 ∷ 32 ∷ 48 ∷ 44 ∷ 49 ∷ 44 ∷ 50 ∷ 44 ∷ 51 ∷ 10 ∷ []
+
+-- Of W: `criterion strict`, `event past`, `0 -`, `1 0,2`, `2 -`, `3 0,2`, `view order`, `0 2,0,1,3`, `1 0,2,3,1`.
+abbrev pub w-strict-text : List ℕ
+w-strict-text = 99 ∷ 114 ∷ 105 ∷ 116 ∷ 101 ∷ 114 ∷ 105 ∷ 111 ∷ 110 ∷ 32 ∷ 115 ∷ 116 ∷ 114 ∷ 105 ∷ 99 ∷ 116 ∷ 10 ∷ 101 ∷ 118 ∷ 101 ∷ 110 ∷ 116 ∷ 32 ∷ 112 ∷ 97 ∷ 115 ∷ 116 ∷ 10 ∷ 48 ∷ 32 ∷ 45 ∷ 10 ∷ 49 ∷ 32 ∷ 48 ∷ 44 ∷ 50 ∷ 10 ∷ 50 ∷ 32 ∷ 45 ∷ 10 ∷ 51 ∷ 32 ∷ 48 ∷ 44 ∷ 50 ∷ 10 ∷ 118 ∷ 105 ∷ 101 ∷ 119 ∷ 32 ∷ 111 ∷ 114 ∷ 100 ∷ 101 ∷ 114 ∷ 10 ∷ 48 ∷ 32 ∷ 50 ∷ 44 ∷ 48 ∷ 44 ∷ 49 ∷ 44 ∷ 51 ∷ 10 ∷ 49 ∷ 32 ∷ 48 ∷ 44 ∷ 50 ∷ 44 ∷ 51 ∷ 44 ∷ 49 ∷ 10 ∷ []
+
+-- Of Stack: `criterion strict`, `event past`, `0 -`, `1 0`, `2 0,1`, `3 0`, `4 0,3`, `5 0,3,4`, `6 0`, `7 0,3,4,6`, `view order`,
+-- `0 0,1,2,3,4,5,6,7`, `1 0,3,4,5,6,7,1,2`, `2 0,6,3,4,7,5,1,2`.
+abbrev pub stack-strict-text : List ℕ
+stack-strict-text = 99 ∷ 114 ∷ 105 ∷ 116 ∷ 101 ∷ 114 ∷ 105 ∷ 111 ∷ 110 ∷ 32 ∷ 115 ∷ 116 ∷ 114 ∷ 105 ∷ 99 ∷ 116 ∷ 10 ∷ 101 ∷ 118 ∷ 101 ∷ 110 ∷ 116 ∷ 32 ∷ 112 ∷ 97 ∷ 115 ∷ 116 ∷ 10 ∷ 48 ∷ 32 ∷ 45 ∷ 10 ∷ 49 ∷ 32 ∷ 48 ∷ 10 ∷ 50 ∷ 32 ∷ 48 ∷ 44 ∷ 49 ∷ 10 ∷ 51 ∷ 32 ∷ 48 ∷ 10 ∷ 52 ∷ 32 ∷ 48 ∷ 44 ∷ 51 ∷ 10 ∷ 53 ∷ 32 ∷ 48 ∷ 44 ∷ 51 ∷ 44 ∷ 52 ∷ 10 ∷ 54 ∷ 32 ∷ 48 ∷ 10 ∷ 55 ∷ 32 ∷ 48 ∷ 44 ∷ 51 ∷ 44 ∷ 52 ∷ 44 ∷ 54 ∷ 10 ∷ 118 ∷ 105 ∷ 101 ∷ 119 ∷ 32 ∷ 111 ∷ 114 ∷ 100 ∷ 101 ∷ 114 ∷ 10 ∷ 48 ∷ 32 ∷ 48 ∷ 44 ∷ 49 ∷ 44 ∷ 50 ∷ 44 ∷ 51 ∷ 44 ∷ 52 ∷ 44 ∷ 53 ∷ 44 ∷ 54 ∷ 44 ∷ 55 ∷ 10 ∷ 49 ∷ 32 ∷ 48 ∷ 44 ∷ 51 ∷ 44 ∷ 52 ∷ 44 ∷ 53 ∷ 44 ∷ 54 ∷ 44 ∷ 55 ∷ 44 ∷ 49 ∷ 44 ∷ 50 ∷ 10 ∷ 50 ∷ 32 ∷ 48 ∷ 44 ∷ 54 ∷ 44 ∷ 51 ∷ 44 ∷ 52 ∷ 44 ∷ 55 ∷ 44 ∷ 53 ∷ 44 ∷ 49 ∷ 44 ∷ 50 ∷ 10 ∷ []
 
 -- Of R: `criterion weak`, `event past`, `0 -`, `1 -`, `2 -`, `3 0,1,2,3`, `4 0,1,2,3`, `view order`, `0 0`, `1 1`, `2 0,2`, `3 0,1,3`, `4 1,0,4`.
 abbrev pub r-inside-text : List ℕ
@@ -209,6 +225,12 @@ pub record Samples : Type 0 where
   pub window-two : readHistory (Unscanned (48 ∷ 44 ∷ 57 ∷ [])) .fault ≡ 5
   -- Document 01's C, where event 2 answers `0,9`, is read, and that answer is wrong.
   pub c-zeros : checkText (CWith (48 ∷ 44 ∷ 57 ∷ [])) c-converge-text ≡ answerAt Converge 16 (some 0) 2 6 98 114
+  -- Document 02, T-06: source document 001's example is strict; in W's views "an event outside the past stands before an own event".
+  -- And no certificate text whatever shows W strict or that example sequential.
+  pub stack-strict : checkText Stack stack-strict-text ≡ answer Strict 0 none
+  pub w-strict : checkText W w-strict-text ≡ answer Strict 20 (some 0)
+  pub w-never-strict : (text : List ℕ) → Accepted W text → Names W text Strict → ⊥
+  pub stack-never-sequential : (text : List ℕ) → Accepted Stack text → Names Stack text Sequential → ⊥
 
 -- a certificate is its criterion, its pasts and its views
 certificate-is : (c : Certificate) (w : Criterion) (ps : List (List ℕ)) → c .criterion ≡ w → c .pasts ≡ ps → c ≡ lists.claim w ps (c .views)
@@ -224,8 +246,13 @@ r-any h at text z w p =
     (ap₂ check h (certificate-is (certificateRead R text) Weak r-pasts w p) ∙ lists.R-inside (certificateRead R text .views))
     ∙ ap (λ (q : Place). checked q Weak (answerOf (some (fault12 3)))) at
 
+-- a history that breaks a criterion has no accepted certificate text that names it
+never : (history : List ℕ) (h : History) (w : Criterion) → historyRead history ≡ h → (Meets w h → ⊥)
+    → (text : List ℕ) → Accepted history text → Names history text w → ⊥
+never history h w q n text a names = n (subst (Meets w) q (meets-named history text a w names))
+
 pub samples : Samples
-unfolding layout-split.find layout-split.onFirst layout-split.split layout-split.join layout-split.partStart layout-word.same layout-number.isDigit layout-number.allDigits layout-number.startsWell layout-number.isNumber layout-number.valueFrom layout-number.below layout-number.numberOf layout-number.spellWithin layout-number.spellBefore layout-list.itemsOf layout-list.allNumbers layout-list.allBelow layout-list.judged layout-list.listOf layout-list.numbersOf layout-list.leading layout-list.listText history-record.pad history-record.answerOf history-record.historyOf history-kinds.kindWord history-kinds.opWord history-kinds.isKind history-kinds.kindOf history-kinds.isOp history-kinds.opOf history-faults.firstFault history-faults.isOptional history-faults.optional history-faults.objectLayout history-faults.objectLimits history-faults.objectFits history-faults.objectFault history-faults.objectThree history-faults.objectFields history-faults.objectLine history-faults.isLost history-faults.answerItems history-faults.answerSaid history-faults.eventLayout history-faults.eventLimits history-faults.eventFits history-faults.eventLong history-faults.eventFault history-faults.eventSaid history-faults.eventSix history-faults.eventFields history-faults.eventLine history-reader-readhistory.eventsFrom history-reader-readhistory.objectsFrom history-reader-readhistory.linesFrom history-reader-readhistory.readHistory history-reader-readhistory.faultyLine certificate-record.eventListOf certificate-record.rowOf certificate-record.certificateOf certificate-record.rowsOf certificate-record.beginnings certificate-criteria.wordOf certificate-criteria.isCriterion certificate-criteria.criterionOf certificate-criteria.countFrom certificate-criteria.hasEvents certificate-criteria.processesFrom certificate-criteria.viewNumbers certificate-faults.rising certificate-faults.criterionLine certificate-faults.listLayout certificate-faults.listLimits certificate-faults.pairFault certificate-faults.listFault certificate-faults.listSaid certificate-reader-readcertificate.endFrom certificate-reader-readcertificate.headingFrom certificate-reader-readcertificate.listsFrom certificate-reader-readcertificate.viewsFrom certificate-reader-readcertificate.pastsFrom certificate-reader-readcertificate.bodyFrom certificate-reader-readcertificate.linesFrom certificate-reader-readcertificate.readLines certificate-reader-readcertificate.readCertificate certificate-reader-readcertificate.rowsRead criteria-history.programOrder criteria-certificate.processes criteria-check.lacksOwn criteria-check.lacksPast criteria-check.notItsSet criteria-check.against criteria-check.right criteria-check.check criteria-records.eventOf criteria-records.historyOf criteria-records.certificateOf checker-checktext.historyRead checker-checktext.certificateRead checker-checktext.checkText checker-checktext.carriedLine
+unfolding layout-split.find layout-split.onFirst layout-split.split layout-split.join layout-split.partStart layout-word.same layout-number.isDigit layout-number.allDigits layout-number.startsWell layout-number.isNumber layout-number.valueFrom layout-number.below layout-number.numberOf layout-number.spellWithin layout-number.spellBefore layout-list.itemsOf layout-list.allNumbers layout-list.allBelow layout-list.judged layout-list.listOf layout-list.numbersOf layout-list.leading layout-list.listText history-record.pad history-record.answerOf history-record.historyOf history-kinds.kindWord history-kinds.opWord history-kinds.isKind history-kinds.kindOf history-kinds.isOp history-kinds.opOf history-faults.firstFault history-faults.isOptional history-faults.optional history-faults.objectLayout history-faults.objectLimits history-faults.objectFits history-faults.objectFault history-faults.objectThree history-faults.objectFields history-faults.objectLine history-faults.isLost history-faults.answerItems history-faults.answerSaid history-faults.eventLayout history-faults.eventLimits history-faults.eventFits history-faults.eventLong history-faults.eventFault history-faults.eventSaid history-faults.eventSix history-faults.eventFields history-faults.eventLine history-reader-readhistory.eventsFrom history-reader-readhistory.objectsFrom history-reader-readhistory.linesFrom history-reader-readhistory.readHistory history-reader-readhistory.faultyLine certificate-record.eventListOf certificate-record.rowOf certificate-record.certificateOf certificate-record.rowsOf certificate-record.beginnings certificate-criteria.wordOf certificate-criteria.isCriterion certificate-criteria.criterionOf certificate-criteria.countFrom certificate-criteria.hasEvents certificate-criteria.processesFrom certificate-criteria.viewNumbers certificate-faults.rising certificate-faults.criterionLine certificate-faults.listLayout certificate-faults.listLimits certificate-faults.pairFault certificate-faults.listFault certificate-faults.listSaid certificate-reader-readcertificate.endFrom certificate-reader-readcertificate.headingFrom certificate-reader-readcertificate.listsFrom certificate-reader-readcertificate.viewsFrom certificate-reader-readcertificate.pastsFrom certificate-reader-readcertificate.bodyFrom certificate-reader-readcertificate.linesFrom certificate-reader-readcertificate.readLines certificate-reader-readcertificate.readCertificate certificate-reader-readcertificate.rowsRead criteria-history.programOrder criteria-certificate.processes criteria-check.lacksOwn criteria-check.lacksPast criteria-check.notItsSet criteria-check.against criteria-check.outsidePast criteria-check.right criteria-check.check criteria-records.eventOf criteria-records.historyOf criteria-records.certificateOf checker-checktext.historyRead checker-checktext.certificateRead checker-checktext.checkText checker-checktext.carriedLine
 samples =
     record {
       q-sequential = refl;
@@ -261,4 +288,8 @@ samples =
       window-zero = refl;
       window-two = refl;
       c-zeros = refl;
+      stack-strict = refl;
+      w-strict = refl;
+      w-never-strict = never W lists.W Strict refl lists.W-not-strict;
+      stack-never-sequential = never Stack lists.Stack Sequential refl lists.Stack-not-sequential;
     }

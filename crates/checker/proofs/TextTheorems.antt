@@ -24,9 +24,9 @@ use Rattle.certificate_theorems.proofs.Theorems.{eventsOf, few-events, no-fault
 use Rattle.certificate_theorems.proofs.Guarantees as certificate-guarantees
 use Rattle.criteria.specs.Criteria.{Meets}
 use Rattle.criteria.specs.Certificate.{Certificate, Readable}
-use Rattle.criteria.specs.Check.{Fault, fault11, fault12, fault13, fault14, fault15, fault16, answerOf, check}
+use Rattle.criteria.specs.Check.{Fault, fault11, fault12, fault13, fault14, fault15, fault16, fault20, answerOf, check}
 use Rattle.criteria.specs.Records.{certificateOf}
-use Rattle.criteria.proofs.Meeting.{sound, complete}
+use Rattle.criteria.proofs.Meeting.{FewProcesses, sound, complete}
 use Rattle.criteria.proofs.RecordLaws.{few-processes, readable}
 use Rattle.checker.proofs.ListTexts.{lists-fit, pasts-back, views-back}
 use Rattle.checker.specs.CheckText.{Verdict, refused, foundIn, historyRead, rowsOf, certificateRead, checkText, Accepted, Names}
@@ -39,6 +39,7 @@ none-of (some (fault12 e)) n = absurd (omega arith)
 none-of (some (fault13 e)) n = absurd (omega arith)
 none-of (some (fault14 e)) n = absurd (omega arith)
 none-of (some (fault15 e)) n = absurd (omega arith)
+none-of (some (fault20 v)) n = absurd (omega arith)
 none-of (some (fault16 v e)) n = absurd (omega arith)
 
 module _ (history text : List ℕ) where
@@ -82,13 +83,19 @@ module _ (history text : List ℕ) where
       readable (readHistory history .history) (readCertificate history text .certificate) (rowsOf history text)
       (certificate-guarantees.read-sound history text (replicate 64 noRow) z)
 
+  -- what reading guarantees of the processes
+  pub few-processes-of : Accepted history text → FewProcesses (historyRead history)
+  unfolding historyRead
+  few-processes-of a =
+      few-processes (readHistory history .history) (history-guarantees.read-sound history (no-fault-history history text (accepted-read a)))
+
   -- whatever certificate text somebody writes, no history is accepted under a criterion that it breaks
   pub accepted-meets : Accepted history text → Meets (certificateRead history text .criterion) (historyRead history)
   unfolding historyRead
   accepted-meets a =
       let z = accepted-read a in
       sound (historyRead history) (certificateRead history text)
-      (few-processes (readHistory history .history) (history-guarantees.read-sound history (no-fault-history history text z)))
+      (few-processes-of a)
       (lists-readable z)
       (accepted-passes a)
 

@@ -9,20 +9,17 @@ use lib.ListN.{replicate}
 use Rattle.history.specs.declared.record.Event.{Event}
 use Rattle.history_reader.specs.ReadHistory.{readHistory}
 use Rattle.certificate.specs.declared.record.Criterion.{Criterion}
-use Rattle.certificate.specs.declared.record.Criterion.the-variants.{Pram, Weak, Causal, Converge, Sequential}
 use Rattle.certificate.specs.Record.{noRow}
-use Rattle.certificate.specs.Record as text-record
 use Rattle.certificate.specs.Criteria as text
 use Rattle.certificate.specs.CertificateText.{certificateText}
 use Rattle.certificate_theorems.proofs.Theorems.{eventsOf, few-events, no-fault-history, read-written}
-use Rattle.criteria.specs.History.{History}
 use Rattle.criteria.specs.Certificate.{Certificate, Readable}
-use Rattle.criteria.specs.Weaken.{isPair, weakenedFrom, weakened}
+use Rattle.criteria.specs.Weaken.{isPair, weakened}
 use Rattle.criteria.specs.Records.{certificateOf}
 use Rattle.criteria.proofs.Weaken as on-lists
 use Rattle.checker.specs.CheckText.{historyRead, certificateRead, Accepted, Names}
 use Rattle.checker.specs.WeakenText.{textOfLists, textIfSome, weakenedText}
-use Rattle.checker.proofs.TextTheorems.{accepted-read, accepted-passes, lists-readable, text-of, text-accepted}
+use Rattle.checker.proofs.TextTheorems.{accepted-read, accepted-passes, few-processes-of, lists-readable, text-of, text-accepted}
 use Rattle.checker.specs.Demand3.{Bytes}
 use Rattle.checker.proofs.ListTexts.{text-lists}
 use Rattle.checker.proofs.ByteLaws.{text-bytes}
@@ -67,7 +64,7 @@ module _ (history text : List ℕ) (a : Accepted history text) where
   weakened-accepted w t e =
       let s = some-of (eventsOf history) (weakened w (historyRead history) (certificateRead history text)) t e in
       let d = on-lists.weaken-accepted (historyRead history) w (certificateRead history text) (s .lists)
-      (lists-readable history text (accepted-read history text a)) (accepted-passes history text a) (s .found) in
+      (few-processes-of history text a) (lists-readable history text (accepted-read history text a)) (accepted-passes history text a) (s .found) in
       let p = text-accepted history z (s .lists) (d .readable) (d .passes) in
       let q : text-of history z (s .lists) (d .readable) ≡ t = text-is-lists history z (s .lists) (d .readable) ∙ s .says in
       (rw q at (p .0), subst (λ (k : Criterion). Names history t k) (d .named) (rw q at (p .1)))
@@ -93,20 +90,13 @@ module _ (history text : List ℕ) (a : Accepted history text) where
       no-text (some d) q = absurd (false≢true (sym q))
       no-text none q = refl
 
-  -- to itself: the text unchanged
-  itself : (c : Criterion) (h : History) (d : Certificate) → weakenedFrom c c h d ≡ some d
-  itself Pram h d = refl
-  itself Weak h d = refl
-  itself Causal h d = refl
-  itself Converge h d = refl
-  itself Sequential h d = refl
-
   lists-text : textOfLists (eventsOf history) (certificateRead history text) ≡ text
   unfolding certificateRead certificateOf certificateText
   lists-text = read-written history text (accepted-read history text a) (replicate 64 noRow)
 
+  -- to itself: the text unchanged
   pub weakened-itself : weakenedText history text (certificateRead history text .criterion) ≡ some text
   unfolding weakenedText weakened
   weakened-itself =
-      ap (textIfSome (eventsOf history)) (itself (certificateRead history text .criterion) (historyRead history) (certificateRead history text))
+      ap (textIfSome (eventsOf history)) (on-lists.weakened-itself (certificateRead history text .criterion) (historyRead history) (certificateRead history text))
       ∙ ap (λ (t : List ℕ). some t) lists-text

@@ -1,4 +1,5 @@
--- The check of two texts (document 01, "Check"): history's reading refusals, then the certificate's, then 11 to 16, then 0.
+-- The check of two texts (document 01, "Check"): history's reading refusals, then the certificate's, then 11 to 16 with 20 after 15
+-- (document 02, T-06), then 0.
 use Prim.Native.Nat.{ℕ}
 use mathlib.Core.Path.{_≡_}
 use mathlib.Core.Bool.{cond}
@@ -20,8 +21,8 @@ use Rattle.criteria.specs.Records.{historyOf, certificateOf}
 
 -- An answer with all that it carries. "A reading refusal carries the text, the line number from 1, and the faulty line as part of
 -- whichever text it is in": a place. "11 to 13 carry the event, 14 and 15 the view, 16 both." Document 02: "16 carries the line of its
--- event, as part of the history text, and 11 to 13 carry theirs". The criterion is the one that the certificate names; a reading refusal
--- has none.
+-- event, as part of the history text, and 11 to 13 carry theirs"; "20 carries the view". The criterion is the one that the certificate
+-- names; a reading refusal has none.
 pub record Verdict : Type 0 where
   pub number : ℕ
   pub criterion : Option Criterion

@@ -50,7 +50,8 @@ pub record TooShort (history text : List ℕ) (wanted : ℕ) (v : Criterion) (bu
 
 -- "For every readable history text and each criterion, the history meets it exactly when some certificate text that names it is
 -- accepted; and weakening an accepted certificate gives, for every pair of document 01's list, a text that is accepted and names the
--- criterion wanted, written into every buffer that has room, with 18 for every other."
+-- criterion wanted, written into every buffer that has room, with 18 for every other." The pairs of document 02, T-06 "join document
+-- 01's list".
 pub record Demand3 : Type 0 where
   pub meets-certified : (history : List ℕ) → Bytes history → (r : Readable history) (w : Criterion) → Meets w (historyOf (r .history))
       → Certified history w

@@ -12,7 +12,7 @@ use Rattle.history.specs.Record.{eventsIn}
 use Rattle.history_reader.specs.Place.{nowhere}
 use Rattle.history_reader.specs.ReadHistory.{readHistory}
 use Rattle.certificate.specs.declared.record.Criterion.{Criterion}
-use Rattle.certificate.specs.declared.record.Criterion.the-variants.{Pram, Weak, Causal, Converge, Sequential}
+use Rattle.certificate.specs.declared.record.Criterion.the-variants.{Pram, Weak, Causal, Converge, Sequential, Strict}
 use Rattle.certificate.specs.Criteria.{viewNumbers}
 use Rattle.certificate.specs.CertificateText.{textOf}
 use Rattle.certificate_reader.specs.ReadCertificate.{readCertificate}
@@ -34,14 +34,16 @@ weakenedText history text w =
     textIfSome (eventsIn (readHistory history .history)) (weakened w (historyRead history) (certificateRead history text))
 
 -- ---- the answer, its places, the length and the buffer
--- "criterion wanted: pram 0, weak 1, causal 2, converge 3, sequential 4"; any other number is no criterion.
+-- "criterion wanted: pram 0, weak 1, causal 2, converge 3, sequential 4"; strict 5 (document 02, T-06); any other number is no
+-- criterion.
 abbrev pub wantedOf : ℕ → Option Criterion
 wantedOf zero = some Pram
 wantedOf (suc zero) = some Weak
 wantedOf (suc (suc zero)) = some Causal
 wantedOf (suc (suc (suc zero))) = some Converge
 wantedOf (suc (suc (suc (suc zero)))) = some Sequential
-wantedOf (suc (suc (suc (suc (suc n))))) = none
+wantedOf (suc (suc (suc (suc (suc zero))))) = some Strict
+wantedOf (suc (suc (suc (suc (suc (suc n)))))) = none
 
 abbrev pub weakenedWanted : List ℕ → List ℕ → Option Criterion → Option (List ℕ)
 weakenedWanted history text none = none
@@ -52,7 +54,7 @@ abbrev pub plain : Criterion → ℕ → Verdict
 plain c number = checked nowhere c record { number = number; view = none; event = none }
 
 -- Both texts are read: v is their check, c the criterion named, and t the weakened text, if the two criteria are a pair. "17: not a
--- pair below; 11 to 16; 18."
+-- pair below; 11 to 16; 18", and 20 as in the check.
 abbrev pub pairAnswer : Verdict → Criterion → Option (List ℕ) → List ℕ → Verdict
 pairAnswer v c none buffer = plain c 17
 pairAnswer v c (some t) buffer = cond (eqb (v .number) 0) (cond (leb (length t) (length buffer)) v (plain c 18)) v

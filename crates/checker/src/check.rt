@@ -1,4 +1,4 @@
-// The check of two texts: the history's reading refusals, then the certificate's, then 11 to 16, then 0.
+// The check of two texts: the history's reading refusals, then the certificate's, then 11 to 16 with 20 after 15, then 0.
 ghost use mathlib.Core.Path.{_≡_};
 ghost use Prim.Native.Nat.{_≤_};
 ghost use Rattle.faults.specs.Finding.{findingOf};

@@ -1,5 +1,5 @@
 -- The check answers nothing exactly when the lists of the certificate are good: a causal order, views of their sets that extend it,
--- and replays that are right.
+-- in those of strict only its past before an own event, and replays that are right.
 -- Assumes nothing.
 use mathlib.Core.Path.{_≡_, refl, sym, ap, _∙_, subst}
 use mathlib.Core.Logic.{_⊎_, inl, inr}
@@ -7,25 +7,28 @@ use mathlib.Core.Bool.{Bool, true, false, not, _&&_, cond, false≢true}
 use mathlib.Core.List.{List, []}
 use mathlib.Core.Option.{Option, none, some}
 use Prim.Native.Nat.{ℕ, _<_}
+use native.Mathlib.Nat.{not-suc-le-zero}
 use native.Mathlib.Omega.{arith}
 use lib.Dec.{eqb, ltb}
 use lib.ListN.{length, getD, List·getD-eq-default}
 use borrow.Author.Tests.{ltb-true, ltb-false, eqb-true, lt-ltb, eq-eqb, not-false}
+use Rattle.layout.proofs.Cases.{true-and}
 use Rattle.certificate.specs.declared.record.Criterion.{Criterion}
-use Rattle.certificate.specs.declared.record.Criterion.the-variants.{Sequential, Pram, Weak, Causal, Converge}
+use Rattle.certificate.specs.declared.record.Criterion.the-variants.{Sequential, Pram, Weak, Causal, Converge, Strict}
 use Rattle.certificate.specs.Criteria.{hasPasts}
 use Rattle.criteria.specs.Tests.{any, or, foundIf, lowest, one, count, mem}
-use Rattle.criteria.specs.History.{History, size, process, programOrder, CausalOrder, IsView, Extends}
+use Rattle.criteria.specs.History.{History, size, process, programOrder, CausalOrder, IsView, Extends, OnlyPast, own}
 use Rattle.criteria.specs.Replay.{start, Replays}
-use Rattle.criteria.specs.Certificate.{Certificate, viewCount, replayCount, viewSet, replayed, visible, viewNumber, listed, orderBy, order, Readable, pastCount}
-use Rattle.criteria.specs.Check.{Fault, fault11, fault12, fault13, fault14, fault15, fault16, lacksOwn, lacksPast, notItsSet, against, firstWrong, mapFault, find11, find12, find13, find14, find15, find16, check}
-use Rattle.criteria.proofs.Lists.{by-test, and-true, true-and, or-true, any-none, none-any, or-none, flag-none, lowest-none, none-lowest, count-out}
+use Rattle.criteria.specs.Certificate.{Certificate, isStrict, strictCount, viewCount, replayCount, viewSet, replayed, visible, viewNumber, listed, orderBy, order, Readable, pastCount}
+use Rattle.criteria.specs.Check.{Fault, fault11, fault12, fault13, fault14, fault15, fault16, fault20, lacksOwn, lacksPast, notItsSet, against, outsidePast, firstWrong, mapFault, find11, find12, find13, find14, find15, find20, find16, check}
+use Rattle.criteria.proofs.Lists.{by-test, and-true, or-true, any-none, none-any, or-none, flag-none, lowest-none, none-lowest, count-out}
 use Rattle.criteria.proofs.Replay.{none-wrong, wrong-none}
 
 pub record Good (h : History) (w : Criterion) (R : ℕ → ℕ → Bool) (vs : List (List ℕ)) : Type 0 where
   pub causalOrder : CausalOrder h R
   pub isView : (k : ℕ) → k < viewCount w h → IsView (viewSet w h R k) (getD vs k [])
   pub extends : (k : ℕ) → k < viewCount w h → Extends R (getD vs k [])
+  pub onlyPast : isStrict w ≡ true → (k : ℕ) → k < viewCount w h → OnlyPast R (own h (viewNumber w h k)) (getD vs k [])
   pub replays : (k : ℕ) → k < replayCount w h → Replays h (visible w h k) (start h) (replayed w R vs k)
 
 -- ---- program order is a causal order
@@ -58,7 +61,7 @@ program-causal h = record {
 and-false : (a b : Bool) → a ≡ true → a && b ≡ false → b ≡ false
 and-false a b p q = cc
 
-false-and : (a b : Bool) → (a ≡ true → b ≡ false) → a && b ≡ false
+pub false-and : (a b : Bool) → (a ≡ true → b ≡ false) → a && b ≡ false
 false-and true b f = f refl
 false-and false b f = refl
 
@@ -119,6 +122,7 @@ set-inside h R i Pram k l e t = ltb-true e (size h) t
 set-inside h R i Weak k l e t = past-inside h R i k l e (or-true (R e k) (eqb e k) t)
 set-inside h R i Causal k l e t = past-inside h R i k l e (or-true (R e k) (eqb e k) t)
 set-inside h R i Converge k l e t = ltb-true e (size h) t
+set-inside h R i Strict k l e t = ltb-true e (size h) t
 
 notItsSet-none : (n : ℕ) (P : ℕ → Bool) (v : List ℕ) → ((e : ℕ) → mem e v ≡ true → e < n) → ((e : ℕ) → P e ≡ true → e < n)
     → notItsSet n P v ≡ false → IsView P v
@@ -151,6 +155,31 @@ none-against R v x =
     none-any (length v) (λ k. any (length v) (λ l. R (getD v k 0) (getD v l 0) && not (ltb k l)))
     (λ i p. none-any (length v) (λ l. R (getD v i 0) (getD v l 0) && not (ltb i l))
     (λ j q. false-and (R (getD v i 0) (getD v j 0)) (not (ltb i j)) (λ t. not-of-true (lt-ltb i j (x i j p q t)))))
+
+outsidePast-none : (R : ℕ → ℕ → Bool) (P : ℕ → Bool) (v : List ℕ) → outsidePast R P v ≡ false → OnlyPast R P v
+unfolding outsidePast OnlyPast
+outsidePast-none R P v a i j p q t =
+    not-false (R (getD v i 0) (getD v j 0))
+    (and-false (P (getD v j 0)) (not (R (getD v i 0) (getD v j 0))) t
+    (any-none j (λ k. P (getD v j 0) && not (R (getD v k 0) (getD v j 0)))
+    (any-none (length v) (λ l. any l (λ k. P (getD v l 0) && not (R (getD v k 0) (getD v l 0)))) a j q)
+    i p))
+
+none-outsidePast : (R : ℕ → ℕ → Bool) (P : ℕ → Bool) (v : List ℕ) → OnlyPast R P v → outsidePast R P v ≡ false
+unfolding outsidePast OnlyPast
+none-outsidePast R P v x =
+    none-any (length v) (λ l. any l (λ k. P (getD v l 0) && not (R (getD v k 0) (getD v l 0))))
+    (λ j q. none-any j (λ k. P (getD v j 0) && not (R (getD v k 0) (getD v j 0)))
+    (λ i p. false-and (P (getD v j 0)) (not (R (getD v i 0) (getD v j 0))) (λ t. not-of-true (x i j p q t))))
+
+-- a bound that stands only where a test passes
+where-true : (b : Bool) (n k : ℕ) → b ≡ true → k < n → k < cond b n 0
+where-true true n k t l = l
+where-true false n k t l = absurd (false≢true t)
+
+pub true-where : (b : Bool) (n k : ℕ) → k < cond b n 0 → (b ≡ true) × (k < n)
+true-where true n k l = (refl, l)
+true-where false n k l = absurd (not-suc-le-zero l)
 
 -- ---- the verdict
 
@@ -192,11 +221,12 @@ check-good h c rd e =
     let R : ℕ → ℕ → Bool = order h c in
     let vs = c .views in
     let a = pastCount w h in
-    let e1 = or-none (find11 h R a) (or (find12 R a) (or (find13 h R a) (or (find14 w h R vs) (or (find15 w h R vs) (find16 w h R vs))))) e in
-    let e2 = or-none (find12 R a) (or (find13 h R a) (or (find14 w h R vs) (or (find15 w h R vs) (find16 w h R vs)))) (e1 .1) in
-    let e3 = or-none (find13 h R a) (or (find14 w h R vs) (or (find15 w h R vs) (find16 w h R vs))) (e2 .1) in
-    let e4 = or-none (find14 w h R vs) (or (find15 w h R vs) (find16 w h R vs)) (e3 .1) in
-    let e5 = or-none (find15 w h R vs) (find16 w h R vs) (e4 .1) in
+    let e1 = or-none (find11 h R a) (or (find12 R a) (or (find13 h R a) (or (find14 w h R vs) (or (find15 w h R vs) (or (find20 w h R vs) (find16 w h R vs)))))) e in
+    let e2 = or-none (find12 R a) (or (find13 h R a) (or (find14 w h R vs) (or (find15 w h R vs) (or (find20 w h R vs) (find16 w h R vs))))) (e1 .1) in
+    let e3 = or-none (find13 h R a) (or (find14 w h R vs) (or (find15 w h R vs) (or (find20 w h R vs) (find16 w h R vs)))) (e2 .1) in
+    let e4 = or-none (find14 w h R vs) (or (find15 w h R vs) (or (find20 w h R vs) (find16 w h R vs))) (e3 .1) in
+    let e5 = or-none (find15 w h R vs) (or (find20 w h R vs) (find16 w h R vs)) (e4 .1) in
+    let e6 = or-none (find20 w h R vs) (find16 w h R vs) (e5 .1) in
     let o : CausalOrder h R = order-good h (hasPasts w) (c .pasts) (rd .pastsListed) (λ k f t. rd .past k .0 f t) (e1 .0) (e2 .0) (e3 .0) in
     record {
       causalOrder = o;
@@ -205,12 +235,16 @@ check-good h c rd e =
           (find-false (viewCount w h) (λ k. notItsSet (size h) (viewSet w h R k) (getD vs k [])) (λ k. fault14 (viewNumber w h k)) (e4 .0) k l);
       extends = λ k l.
           against-none R (getD vs k []) (find-false (viewCount w h) (λ k. against R (getD vs k [])) (λ k. fault15 (viewNumber w h k)) (e5 .0) k l);
+      onlyPast = λ t k l.
+          outsidePast-none R (own h (viewNumber w h k)) (getD vs k [])
+          (find-false (strictCount w h) (λ k. outsidePast R (own h (viewNumber w h k)) (getD vs k [])) (λ k. fault20 (viewNumber w h k)) (e6 .0) k
+          (where-true (isStrict w) (viewCount w h) k t l));
       replays = λ k l.
           none-wrong h (visible w h k) (start h) (replayed w R vs k)
           (map-none (fault16 (viewNumber w h k)) (firstWrong h (visible w h k) (start h) (replayed w R vs k))
           (lowest-none (replayCount w h)
           (λ k. mapFault (fault16 (viewNumber w h k)) (firstWrong h (visible w h k) (start h) (replayed w R vs k)))
-          (e5 .1) k l));
+          (e6 .1) k l));
     }
 
 pub good-check : (h : History) (c : Certificate) → Good h (c .criterion) (order h c) (c .views) → check h c ≡ none
@@ -233,7 +267,11 @@ good-check h c g =
     none-lowest (replayCount w h)
     (λ k. mapFault (fault16 (viewNumber w h k)) (firstWrong h (visible w h k) (start h) (replayed w R vs k)))
     (λ k l. ap (mapFault (fault16 (viewNumber w h k))) (wrong-none h (visible w h k) (start h) (replayed w R vs k) (g .replays k l))) in
-    none-or e1 (none-or e2 (none-or e3 (none-or e4 (none-or e5 e6))))
+    let e20 : find20 w h R vs ≡ none =
+    false-find (strictCount w h) (λ k. outsidePast R (own h (viewNumber w h k)) (getD vs k [])) (λ k. fault20 (viewNumber w h k))
+    (λ k l. let t = true-where (isStrict w) (viewCount w h) k l in
+    none-outsidePast R (own h (viewNumber w h k)) (getD vs k []) (g .onlyPast (t .0) k (t .1))) in
+    none-or e1 (none-or e2 (none-or e3 (none-or e4 (none-or e5 (none-or e20 e6)))))
   where
     none-or : {x y : Option Fault} → x ≡ none → y ≡ none → or x y ≡ none
     none-or p q = cc

@@ -2,6 +2,7 @@ pub mod Lists
 pub mod Orders
 pub mod Replay
 pub mod Check
+pub mod Search
 pub mod Meeting
 pub mod Weaken
 pub mod Loops

@@ -11,7 +11,9 @@ use lib.Dec.{eqb, ltb}
 use lib.ListN.{length, getD, take, length-append, List·getD-append, List·getD-eq-default}
 use lib.Seq.{getD-at}
 use borrow.Author.Tests.{ltb-true, ltb-false, eqb-true, eqb-false, lt-ltb, le-ltb, eq-eqb, ne-eqb}
+use Rattle.layout.proofs.Cases.{true-and}
 use Rattle.criteria.specs.Tests.{any, highest, or, foundIf, lowest, table, upTo, keepIf, keep, more, one, count, mem, place, RisingFrom, Rising, sameList}
+use Rattle.criteria.specs.History.{IsView}
 
 -- ---- Booleans
 
@@ -25,9 +27,6 @@ clash p q = absurd (true≢false (sym p ∙ q))
 pub and-true : (a b : Bool) → a && b ≡ true → (a ≡ true) × (b ≡ true)
 and-true true b e = (refl, e)
 and-true false b e = absurd (false≢true e)
-
-pub true-and : {a b : Bool} → a ≡ true → b ≡ true → a && b ≡ true
-true-and p q = cc
 
 pub or-false : (a b : Bool) → a || b ≡ false → (a ≡ false) × (b ≡ false)
 or-false true b e = absurd (true≢false e)
@@ -119,6 +118,11 @@ module _ {A : Type 0} where
       below-suc i n h
       (λ l. List·getD-append (table n f) (f n ∷ []) d i (omega (arith, length-table n f)) ∙ getD-table n f i d l)
       (λ q. getD-at (table n f) (f n) [] d i (length-table n f ∙ sym q) ∙ ap f (sym q))
+
+  -- tables of what agrees below n
+  pub table-below : (n : ℕ) (f g : ℕ → A) → ((k : ℕ) → k < n → f k ≡ g k) → table n f ≡ table n g
+  table-below zero f g h = refl
+  table-below (suc n) f g h = rw (table-below n f g (λ k l. h k (omega arith)), h n (omega arith))
 
   pub getD-table-out : (n : ℕ) (f : ℕ → A) (i : ℕ) (d : A) → n ≤ i → getD (table n f) i d ≡ d
   getD-table-out n f i d h = List·getD-eq-default (table n f) d (omega (arith, length-table n f))
@@ -289,6 +293,18 @@ total-le (suc n) v o = let r = total-le n v o in let c = o n in omega arith
 
 pub length-once : (n : ℕ) (v : List ℕ) → ((e : ℕ) → mem e v ≡ true → e < n) → Once v → length v ≤ n
 length-once n v h o = let a = total-length n v h in let b = total-le n v o in omega arith
+
+-- and one of all numbers below n, each once, has n
+total-all : (n : ℕ) (v : List ℕ) → ((e : ℕ) → e < n → count e v ≡ 1) → total n v ≡ n
+unfolding total
+total-all zero v c = refl
+total-all (suc n) v c = let r = total-all n v (λ e l. c e (omega arith)) in let k = c n (omega arith) in omega arith
+
+pub all-length : (n : ℕ) (v : List ℕ) → IsView (λ e. ltb e n) v → length v ≡ n
+unfolding IsView
+all-length n v i =
+    sym (total-length n v (λ e t. ltb-true e n (sym (mem-of-count e v (ltb e n) (i e)) ∙ t)))
+    ∙ total-all n v (λ e l. i e ∙ ap one (lt-ltb e n l))
 
 -- ---- places
 

@@ -13,12 +13,12 @@ use lib.ListN.{length, getD, length-append, List·getD-append, List·getD-eq-def
 use lib.Seq.{getD-at}
 use borrow.Author.Tests.{ltb-true, ltb-false, eqb-true, eq-eqb}
 use Rattle.certificate.specs.declared.record.Criterion.{Criterion}
-use Rattle.certificate.specs.declared.record.Criterion.the-variants.{Sequential, Pram, Weak, Causal, Converge}
+use Rattle.certificate.specs.declared.record.Criterion.the-variants.{Sequential, Pram, Weak, Causal, Converge, Strict}
 use Rattle.certificate.specs.Criteria.{hasPasts}
 use Rattle.criteria.specs.Tests.{table, upTo, keep, one, mem, place, Rising}
-use Rattle.criteria.specs.History.{History, size, process, programOrder, IsView, Extends, isEvent, pastWith, only, own}
+use Rattle.criteria.specs.History.{History, size, process, programOrder, IsView, Extends, OnlyPast, isEvent, pastWith, only, own}
 use Rattle.criteria.specs.Replay.{start, Replays}
-use Rattle.criteria.specs.Criteria.{Explains, HasEvents, MeetsSequential, MeetsPram, MeetsWeak, MeetsCausal, MeetsConverge, Meets}
+use Rattle.criteria.specs.Criteria.{Explains, HasEvents, MeetsSequential, MeetsPram, MeetsWeak, MeetsCausal, MeetsConverge, MeetsStrict, Meets}
 use Rattle.criteria.specs.Certificate.{Certificate, active, processes, viewCount, viewSet, listed, orderBy, order, EventsOf, Readable}
 use Rattle.criteria.specs.Check.{check}
 use Rattle.criteria.specs.Weaken.{pastsOf}
@@ -50,7 +50,7 @@ abbrev pub OwnOrder : History → Criterion → (ℕ → ℕ → Bool) → Type 
 OwnOrder h w R = hasPasts w ≡ false → R ≡ programOrder h
 
 pub good-meets : (h : History) (w : Criterion) (R : ℕ → ℕ → Bool) (vs : List (List ℕ)) → FewProcesses h → OwnOrder h w R → Good h w R vs → Meets w h
-unfolding MeetsSequential MeetsPram MeetsWeak MeetsCausal MeetsConverge
+unfolding MeetsSequential MeetsPram MeetsWeak MeetsCausal MeetsConverge MeetsStrict
 good-meets h Sequential R vs f o g = (
   getD vs 0 [],
   record {
@@ -75,6 +75,21 @@ good-meets h Causal R vs f o g =
     (R, g .causalOrder, λ e l. (getD vs e [], record { isView = g .isView e l; extends = g .extends e l; replays = g .replays e l }))
 good-meets h Converge R vs f o g =
     (R, g .causalOrder, (getD vs 0 [], g .isView 0 (omega arith), g .extends 0 (omega arith), g .replays))
+good-meets h Strict R vs f o g = (
+  R,
+  g .causalOrder,
+  λ p x.
+      let k = place p (processes h) in
+      let l = place-in p (processes h) (subst (λ (q : ℕ). mem q (processes h) ≡ true) (x .2) (process-listed h (x .0) f (x .1))) in (
+        getD vs k [],
+        record {
+          isView = g .isView k (l .0);
+          extends = g .extends k (l .0);
+          replays = subst (λ (q : ℕ). Replays h (own h q) (start h) (getD vs k [])) (l .1) (g .replays k (l .0));
+        },
+        subst (λ (q : ℕ). OnlyPast R (own h q) (getD vs k [])) (l .1) (g .onlyPast refl k (l .0)),
+      ),
+)
 
 own-order : (h : History) (b : Bool) (ps : List (List ℕ)) → b ≡ false → orderBy b h ps ≡ programOrder h
 own-order h true ps e = absurd (true≢false e)
@@ -102,7 +117,7 @@ choose (suc n) B f =
 
 pub meets-good : (h : History) (w : Criterion) → Meets w h
     → (R : ℕ → ℕ → Bool) × (vs : List (List ℕ)) × (length vs ≡ viewCount w h) × OwnOrder h w R × Good h w R vs
-unfolding MeetsSequential MeetsPram MeetsWeak MeetsCausal MeetsConverge
+unfolding MeetsSequential MeetsPram MeetsWeak MeetsCausal MeetsConverge MeetsStrict
 meets-good h Sequential m =
     let c = choose 1 (λ k v. Explains h (programOrder h) (isEvent h) (λ _. true) v) (λ _ _. m) in (
       programOrder h,
@@ -113,6 +128,7 @@ meets-good h Sequential m =
         causalOrder = program-causal h;
         isView = λ k l. c .2 k l .isView;
         extends = λ k l. c .2 k l .extends;
+        onlyPast = λ t. absurd (false≢true t);
         replays = λ k l. c .2 k l .replays;
       },
     )
@@ -128,6 +144,7 @@ meets-good h Pram m =
         causalOrder = program-causal h;
         isView = λ k l. c .2 k l .isView;
         extends = λ k l. c .2 k l .extends;
+        onlyPast = λ t. absurd (false≢true t);
         replays = λ k l. c .2 k l .replays;
       },
     )
@@ -137,7 +154,7 @@ meets-good h Weak m =
       c .0,
       c .1,
       λ t. absurd (true≢false t),
-      record { causalOrder = m .1; isView = λ k l. c .2 k l .isView; extends = λ k l. c .2 k l .extends; replays = λ k l. c .2 k l .replays },
+      record { causalOrder = m .1; isView = λ k l. c .2 k l .isView; extends = λ k l. c .2 k l .extends; onlyPast = λ t. absurd (false≢true t); replays = λ k l. c .2 k l .replays },
     )
 meets-good h Causal m =
     let c = choose (size h) (λ e v. Explains h (m .0) (pastWith (m .0) e) (own h (process h e)) v) (m .2) in (
@@ -145,7 +162,7 @@ meets-good h Causal m =
       c .0,
       c .1,
       λ t. absurd (true≢false t),
-      record { causalOrder = m .1; isView = λ k l. c .2 k l .isView; extends = λ k l. c .2 k l .extends; replays = λ k l. c .2 k l .replays },
+      record { causalOrder = m .1; isView = λ k l. c .2 k l .isView; extends = λ k l. c .2 k l .extends; onlyPast = λ t. absurd (false≢true t); replays = λ k l. c .2 k l .replays },
     )
 meets-good h Converge m =
     let R = m .0 in
@@ -162,7 +179,25 @@ meets-good h Converge m =
         causalOrder = m .1;
         isView = λ k l. c .2 k l .0;
         extends = λ k l. c .2 k l .1;
+        onlyPast = λ t. absurd (false≢true t);
         replays = λ k l. c .2 0 (omega arith) .2 k l;
+      },
+    )
+meets-good h Strict m =
+    let c =
+    choose (length (processes h))
+    (λ k v. Explains h (m .0) (isEvent h) (own h (getD (processes h) k 0)) v × OnlyPast (m .0) (own h (getD (processes h) k 0)) v)
+    (λ k l. let x = m .2 (getD (processes h) k 0) (listed-process h k l) in (x .0, (x .1, x .2))) in (
+      m .0,
+      c .0,
+      c .1,
+      λ t. absurd (true≢false t),
+      record {
+        causalOrder = m .1;
+        isView = λ k l. c .2 k l .0 .isView;
+        extends = λ k l. c .2 k l .0 .extends;
+        onlyPast = λ t k l. c .2 k l .1;
+        replays = λ k l. c .2 k l .0 .replays;
       },
     )
 

@@ -18,7 +18,7 @@ use Rattle.history.specs.Record.{noEvent, eventsIn}
 use Rattle.history.specs.Kinds.{hasOp}
 use Rattle.history.proofs.Guarantees as history-guarantees
 use Rattle.certificate.specs.declared.record.Criterion.{Criterion}
-use Rattle.certificate.specs.declared.record.Criterion.the-variants.{Pram, Weak, Causal, Converge, Sequential}
+use Rattle.certificate.specs.declared.record.Criterion.the-variants.{Pram, Weak, Causal, Converge, Sequential, Strict}
 use Rattle.certificate.specs.declared.record.Certificate as written-certificate
 use Rattle.certificate.specs.Record.{pastsIn, viewsIn}
 use Rattle.certificate.specs.Criteria.{hasPasts, countFrom, hasEvents, processesFrom, viewNumbers}
@@ -149,6 +149,7 @@ view-count Weak h = size-is h ∙ sym (count-long 0 (length (eventsIn h)))
 view-count Causal h = size-is h ∙ sym (count-long 0 (length (eventsIn h)))
 view-count Converge h = refl
 view-count Sequential h = refl
+view-count Strict h = ap length (processes-are h)
 
 pub view-number : (w : Criterion) (h : written-history.History) (k : ℕ) → k < viewCount w (historyOf h)
     → viewNumber w (historyOf h) k ≡ getD (viewNumbers w (eventsIn h)) k 0
@@ -160,6 +161,7 @@ view-number Converge h zero l = refl
 view-number Converge h (suc k) l = absurd (omega arith)
 view-number Sequential h zero l = refl
 view-number Sequential h (suc k) l = absurd (omega arith)
+view-number Strict h k l = ap (λ (ps : List ℕ). getD ps k 0) (processes-are h)
 
 -- ---- what reading a certificate guarantees
 record Place (e : ℕ) (l : List ℕ) : Type 0 where

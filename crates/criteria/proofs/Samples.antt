@@ -1,19 +1,26 @@
 -- Document 01's samples marked (p), on lists (C as document 02, T-04 has it), Q with a lost answer, a window that holds fewer and one
--- that was given more values than its width, and a channel that gets full: theorems by computation. Assumes nothing.
+-- that was given more values than its width, a channel that gets full, and source document 001's stack: theorems by computation.
+-- Assumes nothing.
 use mathlib.Core.Path.{_≡_, refl}
+use mathlib.Core.Bool.{true}
 use mathlib.Core.List.{List, [], _∷_}
 use mathlib.Core.Option.{none, some}
 use Prim.Native.Nat.{ℕ}
+use native.Mathlib.Omega.{arith}
+use Rattle.history.specs.declared.record.Kind.the-variants as kinds
 use Rattle.history.specs.declared.record.Kind.the-variants.{Register, Queue, Window, Channel}
 use Rattle.history.specs.declared.record.Op.{Op}
 use Rattle.history.specs.declared.record.Op.the-variants.{Write, Read, Push, Pop}
 use Rattle.certificate.specs.declared.record.Criterion.{Criterion}
-use Rattle.certificate.specs.declared.record.Criterion.the-variants.{Sequential, Pram, Weak, Causal, Converge}
+use Rattle.certificate.specs.declared.record.Criterion.the-variants.{Sequential, Pram, Weak, Causal, Converge, Strict}
 use Rattle.criteria.specs.History.{History, Event, own, programOrder}
 use Rattle.criteria.specs.Replay.{start, Replays}
+use Rattle.criteria.specs.Criteria.{MeetsSequential, MeetsStrict, Meets}
 use Rattle.criteria.specs.Certificate.{Certificate, processes}
-use Rattle.criteria.specs.Check.{fault11, fault12, fault14, fault16, lacksOwn, lacksPast, notItsSet, against, right, check}
+use Rattle.criteria.specs.Check.{fault11, fault12, fault14, fault16, fault20, lacksOwn, lacksPast, notItsSet, against, outsidePast, right, check}
+use Rattle.criteria.proofs.Lists.{clash}
 use Rattle.criteria.proofs.Replay.{none-wrong}
+use Rattle.criteria.proofs.Search.{someOrder, no-view, in-past}
 
 -- process, object, op, value, answer
 abbrev pub ev : ℕ → ℕ → Op → ℕ → List ℕ → Event
@@ -85,6 +92,21 @@ W-causal = refl
 pub W-past : (vs : List (List ℕ)) → check W (claim Causal ([] ∷ (2 ∷ []) ∷ [] ∷ (0 ∷ 2 ∷ []) ∷ []) vs) ≡ some (fault11 1)
 unfolding lacksOwn lacksPast notItsSet against right check programOrder processes
 W-past vs = refl
+
+-- with the pasts of W-causal, 2 stands before 0 in process 0's view, and is not in its past
+pub W-outside : check W
+    (claim Strict ([] ∷ (0 ∷ 2 ∷ []) ∷ [] ∷ (0 ∷ 2 ∷ []) ∷ []) ((2 ∷ 0 ∷ 1 ∷ 3 ∷ []) ∷ (0 ∷ 2 ∷ 3 ∷ 1 ∷ []) ∷ [])) ≡ some (fault20 0)
+unfolding lacksOwn lacksPast notItsSet against outsidePast right check programOrder processes
+W-outside = refl
+
+-- no certificate helps: process 0's answer 9,4 puts 2 in the past of 0, and process 1's answer 4,9 puts 0 in the past of 2
+pub W-not-strict : Meets Strict W → ⊥
+unfolding MeetsStrict someOrder right
+W-not-strict m =
+    clash
+    (m .1 .transitive 0 2 0 (in-past W (m .0) 1 0 2 refl refl refl (m .2 1 (2, omega arith, refl)))
+    (in-past W (m .0) 0 2 0 refl refl refl (m .2 0 (0, omega arith, refl))))
+    (m .1 .irreflexive 0)
 
 -- C with this answer of event 2: "Sample C's event 2 becomes answer `9`", and the zeros that a window once started with are wrong
 abbrev pub C : List ℕ → History
@@ -175,3 +197,22 @@ channel-last = refl
 pub empty-sequential : check record { objects = []; events = [] } (claim Sequential [] ([] ∷ [])) ≡ none
 unfolding lacksOwn lacksPast notItsSet against right check programOrder processes
 empty-sequential = refl
+
+-- source document 001's example: strict, and not sequential, since 1 and 2 are each pushed once and popped twice
+abbrev pub Stack : History
+Stack = record {
+  objects = record { kind = kinds.Stack; width = 0 } ∷ [];
+  events =
+      ev 0 0 Push 1 [] ∷ ev 0 0 Push 3 [] ∷ ev 0 0 Pop 0 (3 ∷ []) ∷ ev 1 0 Pop 0 (1 ∷ []) ∷ ev 1 0 Push 2 [] ∷ ev 1 0 Pop 0 (2 ∷ [])
+      ∷ ev 2 0 Pop 0 (1 ∷ []) ∷ ev 2 0 Pop 0 (2 ∷ []) ∷ [];
+}
+
+pub Stack-strict : check Stack
+    (claim Strict ([] ∷ (0 ∷ []) ∷ (0 ∷ 1 ∷ []) ∷ (0 ∷ []) ∷ (0 ∷ 3 ∷ []) ∷ (0 ∷ 3 ∷ 4 ∷ []) ∷ (0 ∷ []) ∷ (0 ∷ 3 ∷ 4 ∷ 6 ∷ []) ∷ [])
+    ((0 ∷ 1 ∷ 2 ∷ 3 ∷ 4 ∷ 5 ∷ 6 ∷ 7 ∷ []) ∷ (0 ∷ 3 ∷ 4 ∷ 5 ∷ 6 ∷ 7 ∷ 1 ∷ 2 ∷ []) ∷ (0 ∷ 6 ∷ 3 ∷ 4 ∷ 7 ∷ 5 ∷ 1 ∷ 2 ∷ []) ∷ [])) ≡ none
+unfolding lacksOwn lacksPast notItsSet against outsidePast right check programOrder processes
+Stack-strict = refl
+
+pub Stack-not-sequential : Meets Sequential Stack → ⊥
+unfolding MeetsSequential someOrder right programOrder
+Stack-not-sequential m = no-view Stack (programOrder Stack) (λ _. true) refl (m .0) (m .1)

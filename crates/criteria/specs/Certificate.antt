@@ -5,7 +5,7 @@ use Prim.Native.Nat.{ℕ, _≤_, _<_}
 use mathlib.Core.Path.{_≡_}
 use lib.ListN.{length, getD}
 use Rattle.certificate.specs.declared.record.Criterion.{Criterion}
-use Rattle.certificate.specs.declared.record.Criterion.the-variants.{Pram, Weak, Causal, Converge, Sequential}
+use Rattle.certificate.specs.declared.record.Criterion.the-variants.{Pram, Weak, Causal, Converge, Sequential, Strict}
 use Rattle.certificate.specs.Criteria.{hasPasts}
 use Rattle.criteria.specs.Tests.{any, keep, upTo, mem, Rising}
 use Rattle.criteria.specs.History.{History, size, process, programOrder, isEvent, pastWith, only, own}
@@ -25,7 +25,7 @@ unfoldable pub processes : History → List ℕ
 processes h = keep (active h) (upTo 8)
 
 -- How many pasts, and how many views: "sequential and converge have the one view 0; pram one for each process with events; weak and
--- causal one an event".
+-- causal one an event"; strict "has pasts and pram's views" (document 02, T-06).
 abbrev pub pastCount : Criterion → History → ℕ
 pastCount w h = cond (hasPasts w) (size h) 0
 
@@ -35,6 +35,7 @@ viewCount Weak h = size h
 viewCount Causal h = size h
 viewCount Converge h = 1
 viewCount Sequential h = 1
+viewCount Strict h = length (processes h)
 
 -- The number of view k. "An event number and a process number are two quantities, also where both number views."
 abbrev pub viewNumber : Criterion → History → ℕ → ℕ
@@ -43,6 +44,7 @@ viewNumber Weak h k = k
 viewNumber Causal h k = k
 viewNumber Converge h k = 0
 viewNumber Sequential h k = 0
+viewNumber Strict h k = getD (processes h) k 0
 
 -- The set whose view k is: all events, or past(e) and e.
 abbrev pub viewSet : Criterion → History → (ℕ → ℕ → Bool) → ℕ → ℕ → Bool
@@ -51,6 +53,19 @@ viewSet Weak h R k = pastWith R k
 viewSet Causal h R k = pastWith R k
 viewSet Converge h R k = isEvent h
 viewSet Sequential h R k = isEvent h
+viewSet Strict h R k = isEvent h
+
+abbrev pub isStrict : Criterion → Bool
+isStrict Pram = false
+isStrict Weak = false
+isStrict Causal = false
+isStrict Converge = false
+isStrict Sequential = false
+isStrict Strict = true
+
+-- In how many views only its past may stand before an own event: in those of strict.
+abbrev pub strictCount : Criterion → History → ℕ
+strictCount w h = cond (isStrict w) (viewCount w h) 0
 
 -- ---- replays
 -- One a view, and for converge one an event; the events of replay k, its visible answers, and the number of its view.
@@ -60,6 +75,7 @@ replayCount Weak h = size h
 replayCount Causal h = size h
 replayCount Converge h = size h
 replayCount Sequential h = 1
+replayCount Strict h = length (processes h)
 
 abbrev pub replayed : Criterion → (ℕ → ℕ → Bool) → List (List ℕ) → ℕ → List ℕ
 replayed Pram R vs k = getD vs k []
@@ -67,6 +83,7 @@ replayed Weak R vs k = getD vs k []
 replayed Causal R vs k = getD vs k []
 replayed Converge R vs k = keep (pastWith R k) (getD vs 0 [])
 replayed Sequential R vs k = getD vs k []
+replayed Strict R vs k = getD vs k []
 
 abbrev pub visible : Criterion → History → ℕ → ℕ → Bool
 visible Pram h k = own h (getD (processes h) k 0)
@@ -74,6 +91,7 @@ visible Weak h k = only k
 visible Causal h k = own h (process h k)
 visible Converge h k = only k
 visible Sequential h k = λ _. true
+visible Strict h k = own h (getD (processes h) k 0)
 
 -- ---- the order that a certificate stands for: that of its pasts, or program order where the criterion has none
 abbrev pub listed : List (List ℕ) → ℕ → ℕ → Bool

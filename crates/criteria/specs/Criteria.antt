@@ -1,12 +1,12 @@
--- The five criteria, each as document 01 words it. No certificate and no check is named here.
+-- The six criteria, each as document 01 words it, and document 02 the sixth. No certificate and no check is named here.
 use mathlib.Core.Path.{_≡_}
 use mathlib.Core.Bool.{Bool, true}
 use mathlib.Core.List.{List}
 use Prim.Native.Nat.{ℕ, _<_}
 use Rattle.certificate.specs.declared.record.Criterion.{Criterion}
-use Rattle.certificate.specs.declared.record.Criterion.the-variants.{Pram, Weak, Causal, Converge, Sequential}
+use Rattle.certificate.specs.declared.record.Criterion.the-variants.{Pram, Weak, Causal, Converge, Sequential, Strict}
 use Rattle.criteria.specs.Tests.{keep}
-use Rattle.criteria.specs.History.{History, size, process, programOrder, CausalOrder, IsView, Extends, isEvent, pastWith, only, own}
+use Rattle.criteria.specs.History.{History, size, process, programOrder, CausalOrder, IsView, Extends, OnlyPast, isEvent, pastWith, only, own}
 use Rattle.criteria.specs.Replay.{start, Replays}
 
 -- v is a view of the set P that extends R, and in its replay the visible answers are right.
@@ -47,6 +47,13 @@ MeetsConverge h =
     × ((v : List ℕ) × IsView (isEvent h) v × Extends R v
     × ((e : ℕ) → e < size h → Replays h (only e) (start h) (keep (pastWith R e) v)))
 
+-- "`strict` .. : a causal order, and for each process with events a view of all events extending it, that process's answers visible,
+-- where before each event of that process only its past stands." (Document 02, T-06; source document 001, section 4.)
+unfoldable pub MeetsStrict : History → Type 0
+MeetsStrict h =
+    (R : ℕ → ℕ → Bool) × CausalOrder h R
+    × ((p : ℕ) → HasEvents h p → (v : List ℕ) × Explains h R (isEvent h) (own h p) v × OnlyPast R (own h p) v)
+
 -- "A history meets a criterion when what its line here says is so."
 abbrev pub Meets : Criterion → History → Type 0
 Meets Pram h = MeetsPram h
@@ -54,3 +61,4 @@ Meets Weak h = MeetsWeak h
 Meets Causal h = MeetsCausal h
 Meets Converge h = MeetsConverge h
 Meets Sequential h = MeetsSequential h
+Meets Strict h = MeetsStrict h

@@ -73,3 +73,7 @@ IsView P v = (e : ℕ) → count e v ≡ one (P e)
 -- The view extends an order: what comes before another event stands before it.
 unfoldable pub Extends : (ℕ → ℕ → Bool) → List ℕ → Type 0
 Extends R v = (i j : ℕ) → i < length v → j < length v → R (getD v i 0) (getD v j 0) ≡ true → i < j
+
+-- "Before each event" of the set "only its past stands" (document 02, T-06).
+unfoldable pub OnlyPast : (ℕ → ℕ → Bool) → (ℕ → Bool) → List ℕ → Type 0
+OnlyPast R P v = (i j : ℕ) → i < j → j < length v → P (getD v j 0) ≡ true → R (getD v i 0) (getD v j 0) ≡ true

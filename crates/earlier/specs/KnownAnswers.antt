@@ -26,7 +26,7 @@ use Rattle.criteria.specs.Tests.{or, foundIf, lowest, sameList}
 use Rattle.criteria.specs.History.{History, event}
 use Rattle.criteria.specs.Replay.{Contents, start, answered, changed}
 use Rattle.criteria.specs.Certificate.{Certificate, pastCount, viewNumber, replayCount, replayed, visible, order}
-use Rattle.criteria.specs.Check.{Fault, fault16, mapFault, find11, find12, find13, find14, find15}
+use Rattle.criteria.specs.Check.{Fault, fault16, mapFault, find11, find12, find13, find14, find15, find20}
 use Rattle.checker.specs.CheckText.{Verdict}
 use Rattle.earlier.specs.VerdictFrom.{verdictFrom}
 
@@ -120,7 +120,8 @@ checkBefore h c =
     (or (find12 (order h c) (pastCount (c .criterion) h))
     (or (find13 h (order h c) (pastCount (c .criterion) h))
     (or (find14 (c .criterion) h (order h c) (c .views))
-    (or (find15 (c .criterion) h (order h c) (c .views)) (find16Before (c .criterion) h (order h c) (c .views))))))
+    (or (find15 (c .criterion) h (order h c) (c .views))
+    (or (find20 (c .criterion) h (order h c) (c .views)) (find16Before (c .criterion) h (order h c) (c .views)))))))
 
 -- ---- the check of two texts
 unfoldable pub checkTextBefore : List ℕ → List ℕ → Verdict

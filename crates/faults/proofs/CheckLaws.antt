@@ -23,13 +23,13 @@ use Rattle.certificate.specs.Record as text-record
 use Rattle.certificate.specs.Criteria.{hasPasts, viewNumbers}
 use Rattle.certificate.specs.Criteria as text
 use Rattle.certificate.specs.Readable.{fits}
-use Rattle.certificate.specs.Steps.Numbers.{viewNumbersOf}
+use Rattle.certificate.specs.Steps.Numbers.{viewNumbersOf, eventEach}
 use Rattle.certificate.proofs.FitsLaws.{Fits, fits-facts}
 use Rattle.certificate.proofs.Guarantees.{SoundCertificate, fits-sound}
 use Rattle.criteria.specs.Tests.{or, mem}
 use Rattle.criteria.specs.History.{Event, History, size, process, programOrder}
-use Rattle.criteria.specs.Certificate.{Certificate, listed, orderBy, order, pastCount, Readable}
-use Rattle.criteria.specs.Check.{Fault, find11, find12, find13, find14, find15, find16, check}
+use Rattle.criteria.specs.Certificate.{Certificate, isStrict, listed, orderBy, order, pastCount, Readable}
+use Rattle.criteria.specs.Check.{Fault, find11, find12, find13, find14, find15, find16, find20, check}
 use Rattle.criteria.specs.Records.{eventOf, historyOf, certificateOf}
 use Rattle.criteria.proofs.Lists.{mem-getD}
 use Rattle.criteria.proofs.Loops.{any-default}
@@ -38,7 +38,7 @@ use Rattle.criteria.proofs.RecordLaws.{size-is, event-is, view-count, view-numb
 use Rattle.orders.specs.Rows.{inRows, IsOrder, ShortList, EventViews, viewAt, programIn}
 use Rattle.orders.proofs.ProgramLaws.{program-is}
 use Rattle.faults.specs.Finding.{isFound}
-use Rattle.faults.specs.Steps.{orderFault, viewFault, eventEach}
+use Rattle.faults.specs.Steps.{orderFault, viewFault}
 use Rattle.faults.proofs.OrderLaws.{order-faults}
 use Rattle.faults.proofs.ViewedLaws.{view-faults}
 use Rattle.faults.proofs.ReplayedLaws.{view-begins}
@@ -62,11 +62,16 @@ or-assoc : (x y z : Option Fault) → or (or x y) z ≡ or x (or y z)
 or-assoc none y z = refl
 or-assoc (some f) y z = refl
 
-six : (a b d e f g : Option Fault) → or (or a (or b d)) (or (or e f) g) ≡ or a (or b (or d (or e (or f g))))
-six a b d e f g = or-assoc a (or b d) (or (or e f) g) ∙ ap (or a) (or-assoc b d (or (or e f) g) ∙ ap (λ (x : Option Fault). or b (or d x)) (or-assoc e f g))
+seven : (a b d e f s g : Option Fault) → or (or a (or b d)) (or (or e (or f s)) g) ≡ or a (or b (or d (or e (or f (or s g)))))
+seven a b d e f s g =
+    or-assoc a (or b d) (or (or e (or f s)) g)
+    ∙ ap (or a)
+    (or-assoc b d (or (or e (or f s)) g)
+    ∙ ap (λ (x : Option Fault). or b (or d x)) (or-assoc e (or f s) g ∙ ap (or e) (or-assoc f s g)))
 
-six-by : (x y z a b d e f g : Option Fault) → x ≡ or a (or b d) → y ≡ or e f → z ≡ g → or x (or y z) ≡ or a (or b (or d (or e (or f g))))
-six-by x y z a b d e f g p q r = rw (p, q, r) (six a b d e f g)
+seven-by : (x y z a b d e f s g : Option Fault) → x ≡ or a (or b d) → y ≡ or e (or f s) → z ≡ g
+    → or x (or y z) ≡ or a (or b (or d (or e (or f (or s g)))))
+seven-by x y z a b d e f s g p q r = rw (p, q, r) (seven a b d e f s g)
 
 -- what a step found is the answer, after steps that found nothing
 answers-first : (x a r : Option Fault) {k : Option Fault} → x ≡ a → isFound x ≡ true → k ≡ or a r → x ≡ k
@@ -141,6 +146,15 @@ module _ (h : written-history.History) (w : within h ≡ true) where
       List·getD-map (λ (x : Event). x .process) (historyOf h .events) e _
       ∙ ap (λ (x : Event). x .process) (event-is h e (omega (arith, sound-h .events)))
       ∙ ap (λ x. x .process .0) (getD-take (h .count) (h .events) e noEvent l)
+
+  pub process-at : (ps : List ℕ) → ((e : ℕ) → e < 64 → getD ps e 0 ≡ getD (h .events) e noEvent .process .0)
+      → (e : ℕ) → e < size (historyOf h) → getD ps e 0 ≡ process (historyOf h) e
+  unfolding eventOf
+  process-at ps q e l =
+      let k : e < h .count = omega (arith, size-of) in
+      q e (omega (arith, few-of))
+      ∙ sym (ap (λ (x : Event). x .process) (event-is h e (omega (arith, sound-h .events)))
+      ∙ ap (λ x. x .process .0) (getD-take (h .count) (h .events) e noEvent k))
 
   pub program-of : (ps : List ℕ) (program : List ℕ) → ((e : ℕ) → e < 64 → getD ps e 0 ≡ getD (h .events) e noEvent .process .0)
       → IsOrder program (programIn (h .count) ps) → IsOrder program (programOrder (historyOf h))
@@ -242,7 +256,13 @@ module _ (h : written-history.History) (w : within h ≡ true) where
           ∙ order-by (hasPasts (c .criterion)) (historyOf h) (h .count) (c .pasts) (inRows program) (fun-ext (λ a. fun-ext (λ b. is-program a b)))
           ∙ ap (λ (n : ℕ). orderBy (hasPasts (c .criterion)) (historyOf h) (map entriesIn (take (cond (hasPasts (c .criterion)) n 0) (c .pasts)))) (sym (sound-h .events))
 
-      module _ (numbers : ViewNumbers) (numbered : numbers ≡ viewNumbersOf (viewNumbers (c .criterion) (eventsIn h))) where
+      module _ (numbers : ViewNumbers) (numbered : numbers ≡ viewNumbersOf (viewNumbers (c .criterion) (eventsIn h)))
+          (processes : List ℕ) (processed : (e : ℕ) → e < 64 → getD processes e 0 ≡ getD (h .events) e noEvent .process .0) where
+        -- what the step of the views finds
+        abbrev pub viewsFound : ℕ → Option Fault
+        viewsFound n =
+            viewFault (eventEach (c .criterion)) rows (c .lengths) (numbers .numbers) order-rows processes (numbers .count) (cond (isStrict (c .criterion)) (numbers .count) 0) n
+
         first-step : orderFault order-rows program (cond (hasPasts (c .criterion)) (h .count) 0)
             ≡ or (find11 (historyOf h) (order (historyOf h) lists) (pastCount (c .criterion) (historyOf h)))
             (or (find12 (order (historyOf h) lists) (pastCount (c .criterion) (historyOf h))) (find13 (historyOf h) (order (historyOf h) lists) (pastCount (c .criterion) (historyOf h))))
@@ -251,17 +271,19 @@ module _ (h : written-history.History) (w : within h ≡ true) where
             ∙ order-faults (historyOf h) (order (historyOf h) lists) order-rows program (omega (arith, size-of, few-of)) (λ a b. ap (λ (R : ℕ → ℕ → Bool). R a b) order-is) is-program
             (order-inside (historyOf h) lists readable-of) (pastCount (c .criterion) (historyOf h))
 
-        second-step : viewFault (eventEach (c .criterion)) rows (c .lengths) (numbers .numbers) order-rows (numbers .count) (h .count)
-            ≡ or (find14 (c .criterion) (historyOf h) (order (historyOf h) lists) viewed) (find15 (c .criterion) (historyOf h) (order (historyOf h) lists) viewed)
+        second-step : viewsFound (h .count)
+            ≡ or (find14 (c .criterion) (historyOf h) (order (historyOf h) lists) viewed)
+            (or (find15 (c .criterion) (historyOf h) (order (historyOf h) lists) viewed) (find20 (c .criterion) (historyOf h) (order (historyOf h) lists) viewed))
         unfolding certificateOf
         second-step =
-            ap (λ (n : ℕ). viewFault (eventEach (c .criterion)) rows (c .lengths) (numbers .numbers) order-rows (numbers .count) n) (sym size-of)
+            ap viewsFound (sym size-of)
             ∙ view-faults (c .criterion) (historyOf h) (order (historyOf h) lists) order-rows rows (c .lengths) (numbers .numbers) viewed (numbers .count)
             (omega (arith, size-of, few-of)) (λ a b. ap (λ (R : ℕ → ℕ → Bool). R a b) order-is) (order-inside (historyOf h) lists readable-of)
             (number-count numbers _ numbered ∙ sym (view-count (c .criterion) h))
             (λ k l. number-at numbers _ numbered k ∙ sym (view-number (c .criterion) h k (omega (arith, number-count numbers _ numbered, view-count (c .criterion) h))))
             (view-same (numbers .count) (number-count numbers _ numbered))
             (λ k l. readable-of .view k .0)
+            processes (process-at processes processed)
 
         third-step : find16 (c .criterion) (historyOf h) (inRows order-rows) (beginnings (take (numbers .count) (c .lengths)) (take (numbers .count) rows))
             ≡ find16 (c .criterion) (historyOf h) (order (historyOf h) lists) viewed
@@ -270,14 +292,14 @@ module _ (h : written-history.History) (w : within h ≡ true) where
 
         check-is : check (historyOf h) lists
             ≡ or (orderFault order-rows program (cond (hasPasts (c .criterion)) (h .count) 0))
-            (or (viewFault (eventEach (c .criterion)) rows (c .lengths) (numbers .numbers) order-rows (numbers .count) (h .count))
+            (or (viewsFound (h .count))
             (find16 (c .criterion) (historyOf h) (inRows order-rows) (beginnings (take (numbers .count) (c .lengths)) (take (numbers .count) rows))))
         unfolding check certificateOf
         check-is =
             let k : History = historyOf h in
             let R : ℕ → ℕ → Bool = order (historyOf h) lists in
             let among : ℕ = pastCount (c .criterion) (historyOf h) in
-            sym (six-by _ _ _ (find11 k R among) (find12 R among) (find13 k R among) (find14 (c .criterion) k R viewed) (find15 (c .criterion) k R viewed) _ first-step second-step third-step)
+            sym (seven-by _ _ _ (find11 k R among) (find12 R among) (find13 k R among) (find14 (c .criterion) k R viewed) (find15 (c .criterion) k R viewed) (find20 (c .criterion) k R viewed) _ first-step second-step third-step)
 
         -- the answer is the first that a step finds
         pub order-answers : (x : Option Fault) → x ≡ orderFault order-rows program (cond (hasPasts (c .criterion)) (h .count) 0) → isFound x ≡ true
@@ -285,12 +307,12 @@ module _ (h : written-history.History) (w : within h ≡ true) where
         order-answers x q e = answers-first x _ _ q e check-is
 
         pub view-answers : (x y : Option Fault) → x ≡ orderFault order-rows program (cond (hasPasts (c .criterion)) (h .count) 0) → isFound x ≡ false
-            → y ≡ viewFault (eventEach (c .criterion)) rows (c .lengths) (numbers .numbers) order-rows (numbers .count) (h .count) → isFound y ≡ true
+            → y ≡ viewsFound (h .count) → isFound y ≡ true
             → y ≡ check (historyOf h) lists
         view-answers x y q e p d = answers-next x _ _ y q e check-is (answers-first y _ _ p d refl)
 
         pub replay-answers : (x y z : Option Fault) → x ≡ orderFault order-rows program (cond (hasPasts (c .criterion)) (h .count) 0) → isFound x ≡ false
-            → y ≡ viewFault (eventEach (c .criterion)) rows (c .lengths) (numbers .numbers) order-rows (numbers .count) (h .count) → isFound y ≡ false
+            → y ≡ viewsFound (h .count) → isFound y ≡ false
             → z ≡ find16 (c .criterion) (historyOf h) (inRows order-rows) (beginnings (take (numbers .count) (c .lengths)) (take (numbers .count) rows))
             → z ≡ check (historyOf h) lists
         replay-answers x y z q e p d r = answers-next x _ _ z q e check-is (answers-next y _ _ z p d refl r)

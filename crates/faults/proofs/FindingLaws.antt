@@ -5,9 +5,9 @@ use mathlib.Core.Path.{_≡_, refl, sym, ap, _∙_}
 use mathlib.Core.Option.{Option, none, some}
 use borrow.Author.Tests.{eq-eqb, ne-eqb}
 use Rattle.layout.proofs.Cases.{by-eq}
-use Rattle.criteria.specs.Check.{Fault, fault11, fault12, fault13, fault14, fault15, fault16, answerOf}
+use Rattle.criteria.specs.Check.{Fault, fault11, fault12, fault13, fault14, fault15, fault16, fault20, answerOf}
 use Rattle.faults.specs.declared.finding.Finding.{Finding}
-use Rattle.faults.specs.declared.finding.Finding.the-variants.{Nothing, LacksOwn, InOwnPast, LacksPast, NotItsSet, Against, Wrong}
+use Rattle.faults.specs.declared.finding.Finding.the-variants.{Nothing, LacksOwn, InOwnPast, LacksPast, NotItsSet, Against, Wrong, OutsidePast}
 use Rattle.faults.specs.Finding.{findingOf, orNone, numberIn, findingIn}
 
 -- the answer of a finding tells it back
@@ -19,6 +19,7 @@ finding-back (LacksPast e) = refl
 finding-back (NotItsSet v) = refl
 finding-back (Against v) = refl
 finding-back (Wrong v e) = refl
+finding-back (OutsidePast v) = refl
 
 -- and the finding of an answer tells the answer back
 pub fault-back : (x : Option Fault) → findingOf (findingIn (answerOf x)) ≡ x
@@ -29,6 +30,7 @@ fault-back (some (fault13 e)) = refl
 fault-back (some (fault14 v)) = refl
 fault-back (some (fault15 v)) = refl
 fault-back (some (fault16 v e)) = refl
+fault-back (some (fault20 v)) = refl
 
 -- ---- a number that may be missing
 pub number-small : (n : ℕ) → n ≤ 4294967294 → numberIn n ≡ some n

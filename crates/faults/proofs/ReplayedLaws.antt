@@ -14,7 +14,7 @@ use Rattle.history.specs.Record.{noObject, noEvent, eventsIn}
 use Rattle.history.specs.Readable.{within}
 use Rattle.history.proofs.Guarantees.{within-sound}
 use Rattle.certificate.specs.declared.record.Criterion.{Criterion}
-use Rattle.certificate.specs.declared.record.Criterion.the-variants.{Pram, Weak, Causal, Converge, Sequential}
+use Rattle.certificate.specs.declared.record.Criterion.the-variants.{Pram, Weak, Causal, Converge, Sequential, Strict}
 use Rattle.certificate.specs.Record.{beginnings}
 use Rattle.certificate.specs.Criteria.{viewNumbers}
 use Rattle.criteria.specs.Tests.{or, lowest, keep, mem}
@@ -109,6 +109,7 @@ converge-is Weak e = absurd (false≢true e)
 converge-is Causal e = absurd (false≢true e)
 converge-is Converge e = refl
 converge-is Sequential e = absurd (false≢true e)
+converge-is Strict e = absurd (false≢true e)
 
 count-same : (c : Criterion) (h : History) → isConverge c ≡ false → replayCount c h ≡ viewCount c h
 count-same Pram h e = refl
@@ -116,6 +117,7 @@ count-same Weak h e = refl
 count-same Causal h e = refl
 count-same Converge h e = absurd (true≢false e)
 count-same Sequential h e = refl
+count-same Strict h e = refl
 
 replayed-same : (c : Criterion) (R : ℕ → ℕ → Bool) (vs : List (List ℕ)) (k : ℕ) → isConverge c ≡ false → getD vs k [] ≡ replayed c R vs k
 replayed-same Pram R vs k e = refl
@@ -123,6 +125,7 @@ replayed-same Weak R vs k e = refl
 replayed-same Causal R vs k e = refl
 replayed-same Converge R vs k e = absurd (true≢false e)
 replayed-same Sequential R vs k e = refl
+replayed-same Strict R vs k e = refl
 
 -- the fault that replay k gives
 abbrev faultOf : Criterion → History → (ℕ → ℕ → Bool) → List (List ℕ) → ℕ → Option Fault

@@ -1,12 +1,12 @@
--- The fault that a finding stands for; `answerOf` of `criteria` gives document 01's number, view and event of each. And the other way, the
+-- The fault that a finding stands for; `answerOf` of `criteria` gives the documents' number, view and event of each. And the other way, the
 -- finding of a number, a view and an event.
 use Prim.Native.Nat.{ℕ}
 use mathlib.Core.Bool.{Bool, true, false, cond}
 use mathlib.Core.Option.{Option, none, some}
 use lib.Dec.{eqb}
-use Rattle.criteria.specs.Check.{Answer, Fault, fault11, fault12, fault13, fault14, fault15, fault16}
+use Rattle.criteria.specs.Check.{Answer, Fault, fault11, fault12, fault13, fault14, fault15, fault16, fault20}
 use Rattle.faults.specs.declared.finding.Finding.{Finding}
-use Rattle.faults.specs.declared.finding.Finding.the-variants.{Nothing, LacksOwn, InOwnPast, LacksPast, NotItsSet, Against, Wrong}
+use Rattle.faults.specs.declared.finding.Finding.the-variants.{Nothing, LacksOwn, InOwnPast, LacksPast, NotItsSet, Against, Wrong, OutsidePast}
 
 abbrev pub findingOf : Finding → Option Fault
 findingOf Nothing = none
@@ -16,6 +16,7 @@ findingOf (LacksPast e) = some (fault13 (e .0))
 findingOf (NotItsSet v) = some (fault14 v)
 findingOf (Against v) = some (fault15 v)
 findingOf (Wrong v e) = some (fault16 v (e .0))
+findingOf (OutsidePast v) = some (fault20 v)
 
 -- A fault was found.
 abbrev pub isFound : Option Fault → Bool
@@ -41,7 +42,8 @@ findingBy number view event =
     cond (eqb number 11) (LacksOwn record { 0 = event })
     (cond (eqb number 12) (InOwnPast record { 0 = event })
     (cond (eqb number 13) (LacksPast record { 0 = event })
-    (cond (eqb number 14) (NotItsSet view) (cond (eqb number 15) (Against view) (cond (eqb number 16) (Wrong view record { 0 = event }) Nothing)))))
+    (cond (eqb number 14) (NotItsSet view) (cond (eqb number 15) (Against view) (cond (eqb number 16) (Wrong view record { 0 = event })
+    (cond (eqb number 20) (OutsidePast view) Nothing))))))
 
 abbrev pub findingIn : Answer → Finding
 findingIn a = findingBy (a .number) (orZero (a .view)) (orZero (a .event))

@@ -14,14 +14,15 @@ use crate::order::order_rows;
 use crate::order::past_count;
 use crate::order::processes_of;
 use crate::replayed::replay_fault;
-use crate::viewed::event_each;
+use crate::viewed::strict_count;
 use crate::viewed::view_fault;
+use certificate::numbers::event_each;
 use certificate::numbers::view_numbers;
 use certificate::record::Certificate;
 use history::record::History;
 use orders::listed::program_rows;
 
-// The first of the faults 11 to 16 of a certificate, with the rows of its views beside it, for a history.
+// The first of the faults 11 to 16, with 20 after 15, of a certificate, with the rows of its views beside it, for a history.
 pub fn check_records(h: History, c: Certificate, views: &[[u8; 64]; 64]) -> Finding
     requires { ⌜ (within h ≡ true) × (fits (eventsIn h) c (now views) ≡ true) ⌝ }
     ensures { λ r. ⌜ findingOf r ≡ check (historyOf h) (certificateOf h c (now (views .entry))) ⌝ }
@@ -43,7 +44,18 @@ pub fn check_records(h: History, c: Certificate, views: &[[u8; 64]; 64]) -> Find
         return a;
     }
     let each = event_each(criterion);
-    let b = view_fault(each, views, lengths, numbers, &rows, m, n);
+    let strict = strict_count(criterion, m);
+    let b = view_fault(
+        each,
+        views,
+        lengths,
+        numbers,
+        &rows,
+        processes,
+        m,
+        strict,
+        n,
+    );
     if is_found(b) {
         return b;
     }

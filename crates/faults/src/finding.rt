@@ -4,7 +4,7 @@ ghost use Rattle.criteria.specs.Check.{answerOf};
 ghost use Rattle.faults.specs.Finding.{findingOf, isFound, numberIn};
 use history::record::EventNo;
 
-// Nothing, or one of the faults 11 to 16 in their order, with the event, the view's number, or both.
+// Nothing, or one of the faults 11 to 16 and 20, with the event, the view's number, or both.
 pub enum Finding {
     Nothing,
     LacksOwn(EventNo),
@@ -13,6 +13,7 @@ pub enum Finding {
     NotItsSet(u8),
     Against(u8),
     Wrong(u8, EventNo),
+    OutsidePast(u8),
 }
 
 // Whether a fault was found.
@@ -27,10 +28,11 @@ pub fn is_found(f: Finding) -> bool
         Finding::NotItsSet(_) => true,
         Finding::Against(_) => true,
         Finding::Wrong(_, _) => true,
+        Finding::OutsidePast(_) => true,
     }
 }
 
-// Document 01's number of the answer.
+// The documents' number of the answer.
 pub fn number_of(f: Finding) -> u32
     ensures { λ r. ⌜ r ≡ answerOf (findingOf f) .number ⌝ }
 {
@@ -42,6 +44,7 @@ pub fn number_of(f: Finding) -> u32
         Finding::NotItsSet(_) => 14,
         Finding::Against(_) => 15,
         Finding::Wrong(_, _) => 16,
+        Finding::OutsidePast(_) => 20,
     }
 }
 
@@ -57,6 +60,7 @@ pub fn view_of(f: Finding) -> u32
         Finding::NotItsSet(v) => v as u32,
         Finding::Against(v) => v as u32,
         Finding::Wrong(v, _) => v as u32,
+        Finding::OutsidePast(v) => v as u32,
     }
 }
 
@@ -72,5 +76,6 @@ pub fn event_of(f: Finding) -> u32
         Finding::NotItsSet(_) => 4294967295,
         Finding::Against(_) => 4294967295,
         Finding::Wrong(_, e) => e.0 as u32,
+        Finding::OutsidePast(_) => 4294967295,
     }
 }

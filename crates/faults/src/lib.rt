@@ -1,4 +1,4 @@
-// Faults 11 to 16 of a history and a certificate that were read.
+// Faults 11 to 16 and 20 of a history and a certificate that were read.
 pub mod check;
 pub mod finding;
 pub mod order;

@@ -35,6 +35,7 @@ fn is_converge(c: Criterion) -> bool
         Criterion::Causal => false,
         Criterion::Converge => true,
         Criterion::Sequential => false,
+        Criterion::Strict => false,
     }
 }
 

@@ -1,27 +1,31 @@
-// Faults 14 and 15.
+// Faults 14, 15 and 20.
 ghost use mathlib.Core.Path.{_≡_};
 ghost use Prim.Native.Nat.{_≤_, _<_};
 ghost use Rattle.criteria.specs.Tests.{lowest, foundIf};
+ghost use mathlib.Core.Bool.{cond};
+ghost use Rattle.criteria.specs.Certificate.{isStrict};
 ghost use Rattle.criteria.specs.Check.{notItsSet};
 ghost use Rattle.orders.specs.Rows.{foundAt, viewAt, EventViews};
 ghost use Rattle.faults.specs.Finding.{findingOf};
-ghost use Rattle.faults.specs.Steps.{eventEach, setAt, viewFault};
+ghost use Rattle.faults.specs.Steps.{setAt, viewFault};
 use crate::finding::Finding;
 use certificate::record::Criterion;
 use orders::searches::first_against;
 use orders::searches::first_not_all;
 use orders::searches::first_not_past;
+use orders::searches::first_outside;
 
-// Whether the views of the criterion are one an event, each of the past of its event and that event.
-pub(crate) fn event_each(c: Criterion) -> bool
-    ensures { λ r. ⌜ r ≡ eventEach c ⌝ }
+// How many of m views have to hold only the past before an own event: those of strict.
+pub(crate) fn strict_count(c: Criterion, m: usize) -> usize
+    ensures { λ r. ⌜ r ≡ cond (isStrict c) m 0 ⌝ }
 {
     match c {
-        Criterion::Pram => false,
-        Criterion::Weak => true,
-        Criterion::Causal => true,
-        Criterion::Converge => false,
-        Criterion::Sequential => false,
+        Criterion::Pram => 0,
+        Criterion::Weak => 0,
+        Criterion::Causal => 0,
+        Criterion::Converge => 0,
+        Criterion::Sequential => 0,
+        Criterion::Strict => m,
     }
 }
 
@@ -43,18 +47,20 @@ fn first_not_set(
     first_not_all(views, lengths, m, n)
 }
 
-// 14 and 15 of the first m views, in this order; `numbers` are the views' numbers.
+// 14 and 15 of the first m views and 20 of the first `strict` of them, in this order; `numbers` are the views' numbers.
 pub(crate) fn view_fault(
     each: bool,
     views: &[[u8; 64]; 64],
     lengths: [u8; 64],
     numbers: [u8; 64],
     rows: &[u64; 64],
+    processes: [u8; 64],
     m: usize,
+    strict: usize,
     n: usize,
 ) -> Finding
-    requires { ⌜ (m ≤ 64) × (n ≤ 64) × EventViews (now views) lengths m 64 ⌝ }
-    ensures { λ r. ⌜ findingOf r ≡ viewFault each (now (views .entry)) lengths numbers (now (rows .entry)) m n ⌝ }
+    requires { ⌜ (m ≤ 64) × (n ≤ 64) × EventViews (now views) lengths m 64 × (strict ≤ m) ⌝ }
+    ensures { λ r. ⌜ findingOf r ≡ viewFault each (now (views .entry)) lengths numbers (now (rows .entry)) processes m strict n ⌝ }
 {
     let a = first_not_set(each, views, lengths, rows, m, n);
     if a < m {
@@ -63,6 +69,10 @@ pub(crate) fn view_fault(
     let b = first_against(views, lengths, rows, m);
     if b < m {
         return Finding::Against(numbers[b]);
+    }
+    let d = first_outside(views, lengths, rows, processes, numbers, strict);
+    if d < strict {
+        return Finding::OutsidePast(numbers[d]);
     }
     Finding::Nothing
 }

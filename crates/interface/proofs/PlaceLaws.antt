@@ -9,7 +9,7 @@ use lib.ListN.{length, getD, take, drop, set, drop-of-length-le}
 use lib.Seq.{take-suc, take-all, set-append-seam, length-take-le, drop-cons}
 use borrow.Author.Tests.{eq-eqb, ne-eqb}
 use Rattle.certificate.specs.declared.record.Criterion.{Criterion}
-use Rattle.certificate.specs.declared.record.Criterion.the-variants.{Pram, Weak, Causal, Converge, Sequential}
+use Rattle.certificate.specs.declared.record.Criterion.the-variants.{Pram, Weak, Causal, Converge, Sequential, Strict}
 use Rattle.history_reader.specs.Place.{lineOf}
 use Rattle.criteria.specs.Check.{answerOf}
 use Rattle.faults.specs.Finding.{findingOf, numberIn}
@@ -71,3 +71,4 @@ number-wanted Weak = refl
 number-wanted Causal = refl
 number-wanted Converge = refl
 number-wanted Sequential = refl
+number-wanted Strict = refl

@@ -5,20 +5,21 @@ use mathlib.Core.List.{List, [], _∷_, _++_}
 use mathlib.Core.Option.{Option, none, some}
 use lib.ListN.{length, take, drop}
 use Rattle.certificate.specs.declared.record.Criterion.{Criterion}
-use Rattle.certificate.specs.declared.record.Criterion.the-variants.{Pram, Weak, Causal, Converge, Sequential}
+use Rattle.certificate.specs.declared.record.Criterion.the-variants.{Pram, Weak, Causal, Converge, Sequential, Strict}
 use Rattle.history_reader.specs.declared.place.Text.{Text}
 use Rattle.history_reader.specs.declared.place.Text.the-variants.{Neither, HistoryText, CertificateText}
 use Rattle.history_reader.specs.Place.{lineOf}
 use Rattle.faults.specs.Finding.{orNone}
 use Rattle.checker.specs.CheckText.{Verdict}
 
--- "criterion wanted: pram 0, weak 1, causal 2, converge 3, sequential 4".
+-- "criterion wanted: pram 0, weak 1, causal 2, converge 3, sequential 4"; strict is 5 (document 02, T-06).
 abbrev pub criterionNumber : Criterion → ℕ
 criterionNumber Pram = 0
 criterionNumber Weak = 1
 criterionNumber Causal = 2
 criterionNumber Converge = 3
 criterionNumber Sequential = 4
+criterionNumber Strict = 5
 
 abbrev pub criterionPlace : Option Criterion → Option ℕ
 criterionPlace none = none

@@ -24,6 +24,7 @@ fn criterion_number(c: Criterion) -> u32
         Criterion::Causal => 2,
         Criterion::Converge => 3,
         Criterion::Sequential => 4,
+        Criterion::Strict => 5,
     }
 }
 

@@ -23,6 +23,9 @@ pub and-right : (a b : Bool) → a && b ≡ true → b ≡ true
 and-right true b e = e
 and-right false b e = absurd (false≢true e)
 
+pub true-and : {a b : Bool} → a ≡ true → b ≡ true → a && b ≡ true
+true-and p q = cc
+
 pub and-false : (a : Bool) → a && false ≡ false
 and-false true = refl
 and-false false = refl

@@ -82,6 +82,10 @@ convergeWord = 99 ∷ 111 ∷ 110 ∷ 118 ∷ 101 ∷ 114 ∷ 103 ∷ 101 ∷ []
 abbrev pub sequentialWord : List ℕ
 sequentialWord = 115 ∷ 101 ∷ 113 ∷ 117 ∷ 101 ∷ 110 ∷ 116 ∷ 105 ∷ 97 ∷ 108 ∷ []
 
+-- `strict`
+abbrev pub strictWord : List ℕ
+strictWord = 115 ∷ 116 ∷ 114 ∷ 105 ∷ 99 ∷ 116 ∷ []
+
 -- ---- headings, and the first word of a certificate
 -- `object kind width`
 abbrev pub objectHeading : List ℕ

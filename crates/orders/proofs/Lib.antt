@@ -1,6 +1,7 @@
 pub mod BitLaws
 pub mod RowLaws
 pub mod ViewLaws
+pub mod PastLaws
 pub mod SearchLaws
 pub mod ListedLaws
 pub mod ProgramLaws

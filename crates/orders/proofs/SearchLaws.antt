@@ -5,10 +5,11 @@ use mathlib.Core.List.{List}
 use Prim.Native.Nat.{ℕ, _+_}
 use native.Mathlib.Omega.{arith}
 use lib.Dec.{eqb, ltb}
+use lib.ListN.{getD}
 use borrow.Author.Tests.{eq-eqb, ne-eqb, lt-ltb, le-ltb}
 use Rattle.layout.proofs.Cases.{by-eq, by-lt}
 use Rattle.criteria.specs.Tests.{count, one}
-use Rattle.criteria.specs.Check.{notItsSet, against}
+use Rattle.criteria.specs.Check.{notItsSet, against, outsidePast}
 use Rattle.orders.specs.Rows.{inRow, inRows, viewAt}
 use Rattle.orders.proofs.BitLaws.{any-same, none-in}
 use Rattle.orders.proofs.ViewLaws.{More}
@@ -41,3 +42,8 @@ notPast views lengths rows k = notItsSet 64 (λ f. inRows rows f k || eqb f k) (
 
 abbrev pub inverted : List (List ℕ) → List ℕ → List ℕ → ℕ → Bool
 inverted views lengths rows k = against (inRows rows) (viewAt views lengths k)
+
+-- an event outside the past stands before an own event in view k
+abbrev pub outside : List (List ℕ) → List ℕ → List ℕ → List ℕ → List ℕ → ℕ → Bool
+outside views lengths rows processes numbers k =
+    outsidePast (inRows rows) (λ e. eqb (getD processes e 0) (getD numbers k 0)) (viewAt views lengths k)

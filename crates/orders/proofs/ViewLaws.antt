@@ -11,9 +11,10 @@ use lib.Dec.{eqb, ltb, eqb·suc-zero, eqb·suc-suc}
 use lib.ListN.{length, getD, take}
 use lib.Seq.{slice, slice-cons, slice-empty, getD-take, length-take-le}
 use borrow.Author.Tests.{eq-eqb, le-ltb, ltb-true, ltb-false, not-true, not-false, eqb-true}
+use Rattle.layout.proofs.Cases.{true-and}
 use Rattle.criteria.specs.Tests.{any, more, one, count, mem, place}
 use Rattle.criteria.specs.Check.{notItsSet, against}
-use Rattle.criteria.proofs.Lists.{by-test, clash, and-true, true-and, true-or-right, same-test, any-none, any-at, any-some, at-head, mem-getD, Once, once-tail, once-head, count-out, place-in}
+use Rattle.criteria.proofs.Lists.{by-test, clash, and-true, true-or-right, same-test, any-none, any-at, any-some, at-head, mem-getD, Once, once-tail, once-head, count-out, place-in}
 use Rattle.criteria.proofs.Loops.{mem-take-suc}
 use Rattle.orders.specs.Rows.{inRow, inRows}
 use Rattle.orders.proofs.BitLaws.{any-same}

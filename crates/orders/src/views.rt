@@ -2,10 +2,12 @@
 ghost use mathlib.Core.Path.{_≡_};
 ghost use Prim.Native.Nat.{ℕ, _≤_, _<_};
 ghost use lib.ListN.{take, getD};
+ghost use lib.Dec.{eqb};
 ghost use Rattle.certificate.specs.Record.{entriesIn};
 ghost use Rattle.criteria.specs.Tests.{keep, one, count, mem};
-ghost use Rattle.criteria.specs.Check.{notItsSet, against};
+ghost use Rattle.criteria.specs.Check.{notItsSet, against, outsidePast};
 ghost use Rattle.orders.specs.Rows.{inRow, inRows};
+use crate::sets::escapes;
 use crate::sets::holds_some;
 use crate::sets::in_row;
 use crate::sets::meets;
@@ -63,6 +65,26 @@ pub fn against_order(view: [u8; 64], n: usize, rows: &[u64; 64]) -> bool
         i += 1;
     }
     false
+}
+
+// 20: whether an event outside the past stands before an own event, among the first n entries of a view. The own events are those of
+// process p.
+pub fn outside_past(view: [u8; 64], n: usize, rows: &[u64; 64], processes: [u8; 64], p: u8) -> bool
+    requires { ⌜ (n ≤ 64) × ((k : ℕ) → k < n → getD view k 0 < 64) ⌝ }
+    ensures { λ r. ⌜ r ≡ outsidePast (inRows (now (rows .entry))) (λ e. eqb (getD processes e 0) p) (take n view) ⌝ }
+{
+    let mut before: u64 = 0;
+    let mut bad = false;
+    let mut i = 0;
+    while i < n {
+        let x = view[i] as usize;
+        let past = rows[x];
+        let own = processes[x] == p;
+        bad = bad | (own & escapes(before, past));
+        before = with_event(before, x);
+        i += 1;
+    }
+    bad
 }
 
 // How many of a test that passed or not.

@@ -9,7 +9,7 @@ use lib.Dec.{eqb}
 use Rattle.history.specs.declared.record.History as written-history
 use Rattle.history.specs.Record.{noEvent, eventsIn}
 use Rattle.certificate.specs.declared.record.Criterion.{Criterion}
-use Rattle.certificate.specs.declared.record.Criterion.the-variants.{Pram, Weak, Causal, Converge, Sequential}
+use Rattle.certificate.specs.declared.record.Criterion.the-variants.{Pram, Weak, Causal, Converge, Sequential, Strict}
 use Rattle.certificate.specs.Criteria.{viewNumbers}
 use Rattle.criteria.specs.History.{Event, process}
 use Rattle.criteria.specs.Certificate.{viewCount, replayCount, visible}
@@ -39,3 +39,4 @@ module _ (h : written-history.History) (ls : List Light) (numbers : List ℕ) (f
   visible-is Causal k l same e = ap (λ (p : ℕ). eqb (process (historyOf h) e) p) (process-light k (omega (arith, size-is h)))
   visible-is Converge k l same e = refl
   visible-is Sequential k l same e = refl
+  visible-is Strict k l same e = ap (λ (p : ℕ). eqb (process (historyOf h) e) p) (same l ∙ sym (view-number Strict h k l))

@@ -3,7 +3,7 @@ use Prim.Native.Nat.{ℕ}
 use mathlib.Core.List.{List}
 use lib.ListN.{getD}
 use Rattle.certificate.specs.declared.record.Criterion.{Criterion}
-use Rattle.certificate.specs.declared.record.Criterion.the-variants.{Pram, Weak, Causal, Converge, Sequential}
+use Rattle.certificate.specs.declared.record.Criterion.the-variants.{Pram, Weak, Causal, Converge, Sequential, Strict}
 use Rattle.replays.specs.declared.replay.Light.{Light}
 use Rattle.replays.specs.declared.replay.Visible.{Visible}
 use Rattle.replays.specs.declared.replay.Visible.the-variants.{All, Of, Only}
@@ -19,6 +19,7 @@ visibleIn Weak number process k = Only record { 0 = k }
 visibleIn Causal number process k = Of record { 0 = process }
 visibleIn Converge number process k = Only record { 0 = k }
 visibleIn Sequential number process k = All
+visibleIn Strict number process k = Of record { 0 = number }
 
 abbrev pub visibleAt : Criterion → List ℕ → List Light → ℕ → Visible
 visibleAt c numbers ls k = visibleIn c (getD numbers k 0) (getD ls k noLight .process .0) k

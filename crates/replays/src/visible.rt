@@ -20,6 +20,7 @@ fn visible_in(c: Criterion, number: u8, process: ProcessNo, k: u8) -> Visible
         Criterion::Causal => Visible::Of(process),
         Criterion::Converge => Visible::Only(EventNo(k)),
         Criterion::Sequential => Visible::All,
+        Criterion::Strict => Visible::Of(ProcessNo(number)),
     }
 }
 

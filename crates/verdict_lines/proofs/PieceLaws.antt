@@ -12,7 +12,7 @@ use Rattle.layout.specs.Steps.Line.{piecesText}
 use Rattle.layout.proofs.SpellLaws.{spell-short}
 use Rattle.history.specs.Record.{pad}
 use Rattle.certificate.specs.declared.record.Criterion.{Criterion}
-use Rattle.certificate.specs.declared.record.Criterion.the-variants.{Pram, Weak, Causal, Converge, Sequential}
+use Rattle.certificate.specs.declared.record.Criterion.the-variants.{Pram, Weak, Causal, Converge, Sequential, Strict}
 use Rattle.certificate.specs.Criteria.{wordOf}
 use Rattle.history_reader.specs.declared.place.Text.{Text}
 use Rattle.history_reader.specs.declared.place.Text.the-variants.{Neither, HistoryText, CertificateText}
@@ -39,6 +39,7 @@ criterion-short Weak = omega arith
 criterion-short Causal = omega arith
 criterion-short Converge = omega arith
 criterion-short Sequential = omega arith
+criterion-short Strict = omega arith
 
 pub text-short : (t : Text) → length (textWord t) ≤ 11
 text-short Neither = omega arith

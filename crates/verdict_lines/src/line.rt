@@ -39,6 +39,7 @@ fn put_criterion(part: &mut [u8], c: Criterion) -> usize
         Criterion::Causal => put_bytes(part, b"causal"),
         Criterion::Converge => put_bytes(part, b"converge"),
         Criterion::Sequential => put_bytes(part, b"sequential"),
+        Criterion::Strict => put_bytes(part, b"strict"),
     }
 }
 

@@ -3,3 +3,4 @@ pub mod causal;
 pub mod converge;
 pub mod list;
 pub mod sequential;
+pub mod strict;

@@ -42,7 +42,7 @@ pub fn preceding_pasts(view: [u8; 64], n: usize) -> [EventList; 64]
 }
 
 // The part of the view up to and with e.
-fn up_to(view: [u8; 64], n: usize, e: usize) -> EventList
+pub(crate) fn up_to(view: [u8; 64], n: usize, e: usize) -> EventList
     requires { ⌜ (n ≤ 64) × (e < 64) ⌝ }
     ensures { λ r. ⌜ (r ≡ eventListOf (upToIn (take n view) e)) × (r .count ≤ 64) ⌝ }
 {

@@ -1,10 +1,10 @@
 -- From causal to weak and to pram: what a certificate that passed gives to the makers, and the records that are made. Assumes nothing.
 use Prim.Native.Nat.{ℕ, zero, suc, _<_}
 use native.Mathlib.Omega.{arith}
-use mathlib.Core.Path.{_≡_, refl, sym, ap, ap₂, _∙_, subst}
+use mathlib.Core.Path.{_≡_, refl, sym, ap, ap₂, _∙_}
 use mathlib.Core.Bool.{Bool}
 use mathlib.Core.List.{List, []}
-use mathlib.Core.Option.{Option, some}
+use mathlib.Core.Option.{some}
 use lib.Dec.{eqb}
 use lib.ListN.{getD, take, replicate, List·getD-map}
 use Rattle.layout.proofs.Cases.{by-lt}
@@ -18,7 +18,6 @@ use Rattle.certificate.specs.declared.record.EventList.{EventList}
 use Rattle.certificate.specs.declared.record.Certificate as written-certificate
 use Rattle.certificate.specs.declared.numbers.ViewNumbers.{ViewNumbers}
 use Rattle.certificate.specs.Record.{noList, rowsOf}
-use Rattle.certificate.specs.Record as text-record
 use Rattle.certificate.specs.Criteria.{hasEvents, processesFrom, viewNumbers}
 use Rattle.certificate.specs.Steps.Numbers.{viewNumbersOf}
 use Rattle.criteria.specs.Tests.{highest, table, count}
@@ -26,20 +25,17 @@ use Rattle.criteria.specs.History.{Event, History, size, process, own, IsView}
 use Rattle.criteria.specs.Certificate.{Certificate, order, processes, viewCount, viewSet}
 use Rattle.criteria.specs.Weaken.{completed, lastOf, weakenedFrom, weakened}
 use Rattle.criteria.specs.Records.{historyOf, certificateOf}
-use Rattle.criteria.proofs.Lists.{Once, once-of-count}
+use Rattle.criteria.proofs.Lists.{table-below, Once, once-of-count}
 use Rattle.criteria.proofs.RecordLaws.{view-count, view-number}
 use Rattle.orders.specs.Rows.{viewAt, EventViews}
 use Rattle.weakened.specs.Steps.{lengthsOf, lastIn}
 use Rattle.weakened.proofs.CausalLaws.{last-below}
 use Rattle.faults.proofs.CheckLaws.{process-of, event-views, view-same, number-count, number-at}
-use Rattle.weakener.proofs.PassedLaws.{size-passed, few-passed, few-numbers, fits-passed, good-passed}
+use Rattle.weakener.proofs.PassedLaws.{size-passed, few-passed, few-numbers, pasts-passed, lengths-passed, rows-passed, good-passed}
+use Rattle.weakener.proofs.RecordLaws.{record-parts, is-record, same-criterion}
 use Rattle.weakener.specs.Steps.{Passed, IsRecordOf}
 
--- ---- tables and searches of what agrees below n
-table-below : {A : Type 0} (n : ℕ) (f g : ℕ → A) → ((k : ℕ) → k < n → f k ≡ g k) → table n f ≡ table n g
-table-below zero f g h = refl
-table-below (suc n) f g h = rw (table-below n f g (λ k l. h k (omega arith)), h n (omega arith))
-
+-- ---- searches of what agrees below n
 highest-below : (n : ℕ) (f g : ℕ → Bool) → ((k : ℕ) → k < n → f k ≡ g k) → highest n f ≡ highest n g
 highest-below zero f g h = refl
 highest-below (suc n) f g h = rw (highest-below n f g (λ k l. h k (omega arith)), h n (omega arith))
@@ -64,22 +60,10 @@ causal-pram h c q = ap (λ (w : Criterion). weakenedFrom w Pram h c) q
 
 module _ (h : written-history.History) (c : written-certificate.Certificate) (rows : List (List ℕ)) (q : c .criterion ≡ Causal) (p : Passed h c rows) where
   -- ---- to weak
-  renamed : _≡_ {A = written-certificate.Certificate} (record { criterion = Weak; pasts = c .pasts; lengths = c .lengths })
-      (text-record.certificateOf Weak (certificateOf h c rows .pasts) (certificateOf h c rows .views))
-  unfolding certificateOf text-record.certificateOf
-  renamed =
-      ap {B = written-certificate.Certificate} (λ (x : written-certificate.Certificate). record { criterion = Weak; pasts = x .pasts; lengths = x .lengths })
-      (fits-passed h c rows p .record-is)
-
-  same-rows : rows ≡ rowsOf (certificateOf h c rows .views)
-  unfolding certificateOf
-  same-rows = fits-passed h c rows p .rows-are
-
   pub weak-record : IsRecordOf (weakened Weak (historyOf h) (certificateOf h c rows)) (record { criterion = Weak; pasts = c .pasts; lengths = c .lengths }) rows
-  unfolding certificateOf
   weak-record =
-      subst (λ (x : Option Certificate). IsRecordOf x (record { criterion = Weak; pasts = c .pasts; lengths = c .lengths }) rows)
-      (sym (causal-weak (historyOf h) (certificateOf h c rows) q)) (renamed, same-rows)
+      is-record _ Weak _ _ _ rows (causal-weak (historyOf h) (certificateOf h c rows) (same-criterion h c rows Causal q))
+      (record-parts Weak _ _ _ _ (pasts-passed h c rows p) (lengths-passed h c rows p)) (rows-passed h c rows p)
 
   -- ---- the views are one an event, and none of their events stands twice
   count-is : viewCount (c .criterion) (historyOf h) ≡ h .count
@@ -135,18 +119,9 @@ module _ (h : written-history.History) (c : written-certificate.Certificate) (ro
         table-below (numbers .count) madeAt (lastView (historyOf h) (certificateOf h c rows .views)) made-is
         ∙ ap (λ (n : ℕ). table n (lastView (historyOf h) (certificateOf h c rows .views))) views-count
 
-    made : (pasts : List EventList) (lengths : List ℕ) (views : List (List ℕ)) → pasts ≡ replicate 64 noList → lengths ≡ lengthsOf views
-        → _≡_ {A = written-certificate.Certificate} (record { criterion = Pram; pasts = pasts; lengths = lengths }) (text-record.certificateOf Pram [] views)
-    unfolding text-record.certificateOf lengthsOf
-    made pasts lengths views a b =
-        ap₂ {C = written-certificate.Certificate} (λ (xs : List EventList) (ns : List ℕ). record { criterion = Pram; pasts = xs; lengths = ns })
-        (a ∙ sym (pad-none 64 noList)) b
-
     pub pram-record : (pasts : List EventList) (lengths : List ℕ) (out : List (List ℕ)) → pasts ≡ replicate 64 noList
         → out ≡ rowsOf (table (numbers .count) madeAt) → lengths ≡ lengthsOf (table (numbers .count) madeAt)
         → IsRecordOf (weakened Pram (historyOf h) (certificateOf h c rows)) (record { criterion = Pram; pasts = pasts; lengths = lengths }) out
-    unfolding certificateOf
     pram-record pasts lengths out e a b =
-        subst (λ (x : Option Certificate). IsRecordOf x (record { criterion = Pram; pasts = pasts; lengths = lengths }) out)
-        (sym (causal-pram (historyOf h) (certificateOf h c rows) q))
-        (made pasts lengths _ e (b ∙ ap lengthsOf views-are), a ∙ ap rowsOf views-are)
+        is-record _ Pram [] _ _ out (causal-pram (historyOf h) (certificateOf h c rows) (same-criterion h c rows Causal q))
+        (record-parts Pram pasts lengths [] _ (e ∙ sym (pad-none 64 noList)) (b ∙ ap lengthsOf views-are)) (a ∙ ap rowsOf views-are)

@@ -1,18 +1,16 @@
 -- From converge to weak: what a certificate that passed gives to the cut of its view, and the record that is made. Assumes nothing.
 use Prim.Native.Nat.{ℕ}
-use mathlib.Core.Path.{_≡_, refl, sym, ap, ap₂, _∙_, subst, fun-ext}
+use mathlib.Core.Path.{_≡_, refl, sym, ap, ap₂, _∙_, fun-ext}
 use mathlib.Core.Bool.{Bool, cond}
 use mathlib.Core.List.{List, [], map}
-use mathlib.Core.Option.{Option, some}
+use mathlib.Core.Option.{some}
 use lib.ListN.{length, getD, take}
 use Rattle.history.specs.declared.record.History as written-history
 use Rattle.history.specs.Record.{eventsIn}
 use Rattle.certificate.specs.declared.record.Criterion.{Criterion}
 use Rattle.certificate.specs.declared.record.Criterion.the-variants.{Weak, Converge}
-use Rattle.certificate.specs.declared.record.EventList.{EventList}
 use Rattle.certificate.specs.declared.record.Certificate as written-certificate
 use Rattle.certificate.specs.Record.{entriesIn, rowsOf}
-use Rattle.certificate.specs.Record as text-record
 use Rattle.certificate.specs.Criteria.{hasPasts}
 use Rattle.criteria.specs.Tests.{table, keep, count}
 use Rattle.criteria.specs.History.{History, size, pastWith}
@@ -22,7 +20,8 @@ use Rattle.criteria.specs.Records.{historyOf, certificateOf}
 use Rattle.criteria.proofs.RecordLaws.{size-is}
 use Rattle.orders.specs.Rows.{inRows, IsOrder}
 use Rattle.weakened.specs.Steps.{lengthsOf}
-use Rattle.weakener.proofs.PassedLaws.{size-passed, fits-passed, one-begins}
+use Rattle.weakener.proofs.PassedLaws.{size-passed, pasts-passed, one-begins}
+use Rattle.weakener.proofs.RecordLaws.{record-parts, is-record, same-criterion}
 use Rattle.weakener.specs.Steps.{Passed, IsRecordOf}
 
 -- ---- the weakened certificate
@@ -53,20 +52,10 @@ module _ (h : written-history.History) (c : written-certificate.Certificate) (ro
         ap (λ (n : ℕ). cutViews n (inRows rows-of) (take (h .count) (getD rows 0 []))) (sym (size-passed h c rows p))
         ∙ ap₂ (cutViews (size (historyOf h))) order-is (one-begins h c rows p Converge q refl)
 
-    made : (lengths : List ℕ) (views : List (List ℕ)) → lengths ≡ lengthsOf views
-        → _≡_ {A = written-certificate.Certificate} (record { criterion = Weak; pasts = c .pasts; lengths = lengths })
-        (text-record.certificateOf Weak (certificateOf h c rows .pasts) views)
-    unfolding certificateOf text-record.certificateOf lengthsOf
-    made lengths views e =
-        ap₂ {C = written-certificate.Certificate} (λ (ps : List EventList) (ns : List ℕ). record { criterion = Weak; pasts = ps; lengths = ns })
-        (ap (λ (x : written-certificate.Certificate). x .pasts) (fits-passed h c rows p .record-is)) e
-
     pub converge-record : (lengths : List ℕ) (out : List (List ℕ))
         → out ≡ rowsOf (cutViews (h .count) (inRows rows-of) (take (h .count) (getD rows 0 [])))
         → lengths ≡ lengthsOf (cutViews (h .count) (inRows rows-of) (take (h .count) (getD rows 0 [])))
         → IsRecordOf (weakened Weak (historyOf h) (certificateOf h c rows)) (record { criterion = Weak; pasts = c .pasts; lengths = lengths }) out
-    unfolding certificateOf
     converge-record lengths out a b =
-        subst (λ (x : Option Certificate). IsRecordOf x (record { criterion = Weak; pasts = c .pasts; lengths = lengths }) out)
-        (sym (converge-weak (historyOf h) (certificateOf h c rows) q))
-        (made lengths _ (b ∙ ap lengthsOf views-are), a ∙ ap rowsOf views-are)
+        is-record _ Weak _ _ _ out (converge-weak (historyOf h) (certificateOf h c rows) (same-criterion h c rows Converge q))
+        (record-parts Weak _ lengths _ _ (pasts-passed h c rows p) (b ∙ ap lengthsOf views-are)) (a ∙ ap rowsOf views-are)

@@ -1,64 +1,37 @@
 -- What a record that passed the check is: within its limits, and for sequential the one view is all events, each once. Assumes nothing.
-use Prim.Native.Nat.{ℕ, zero, suc, _+_, _≤_, _<_}
+use Prim.Native.Nat.{ℕ, _≤_, _<_}
 use native.Mathlib.Omega.{arith}
 use mathlib.Core.Path.{_≡_, refl, sym, ap, _∙_, subst}
-use mathlib.Core.Bool.{Bool, true, false, not, false≢true}
-use mathlib.Core.List.{List, [], _∷_}
+use mathlib.Core.Bool.{Bool, true, false, false≢true}
+use mathlib.Core.List.{List, [], map}
 use lib.ListN.{length, getD, take}
-use lib.Dec.{eqb, ltb}
-use borrow.Author.Tests.{ltb-true, lt-ltb, ne-eqb}
+use lib.Dec.{ltb}
+use borrow.Author.Tests.{lt-ltb}
 use Rattle.history.specs.declared.record.Event.{Event}
 use Rattle.history.specs.declared.record.History.{History}
-use Rattle.history.specs.Record.{eventsIn}
+use Rattle.history.specs.Record.{eventsIn, pad}
 use Rattle.history.proofs.Guarantees.{within-sound}
 use Rattle.certificate.specs.declared.record.Criterion.{Criterion}
-use Rattle.certificate.specs.declared.record.Criterion.the-variants.{Pram, Weak, Causal, Converge, Sequential}
+use Rattle.certificate.specs.declared.record.Criterion.the-variants.{Pram, Weak, Causal, Converge, Sequential, Strict}
 use Rattle.certificate.specs.declared.record.Certificate as written-certificate
-use Rattle.certificate.specs.Record.{noList}
+use Rattle.certificate.specs.Record.{noList, eventListOf, rowsOf}
 use Rattle.certificate.specs.Record as text-record
 use Rattle.certificate.specs.Criteria.{viewNumbers}
 use Rattle.certificate.proofs.FitsLaws.{Fits, fits-facts}
 use Rattle.certificate.proofs.NumberingLaws.{numbers-few}
-use Rattle.criteria.specs.Tests.{keepIf, keep, more, count, mem}
+use Rattle.criteria.specs.Tests.{mem}
 use Rattle.criteria.specs.History as lists
 use Rattle.criteria.specs.History.{size, IsView, isEvent}
 use Rattle.criteria.specs.Certificate.{viewCount, viewSet, order, Readable}
 use Rattle.criteria.specs.Records.{historyOf, certificateOf}
-use Rattle.criteria.proofs.Lists.{count-keep, mem-of-count, once-of-count, length-once}
+use Rattle.criteria.proofs.Lists.{mem-of-count, all-length}
 use Rattle.criteria.proofs.Check.{Good, check-good}
+use Rattle.criteria.proofs.Meeting.{FewProcesses}
+use Rattle.criteria.proofs.RecordLaws.{few-processes}
 use Rattle.orders.specs.Rows.{ShortList}
 use Rattle.faults.proofs.CheckLaws.{size-of, few-of, readable-of, short-past, length-made, event-views, view-same}
+use Rattle.weakened.specs.Steps.{lengthsOf}
 use Rattle.weakener.specs.Steps.{Passed}
-
--- ---- a list of all numbers below n, each once, has n entries
-kept-length : (n : ℕ) (v : List ℕ) → length (keep (λ f. not (eqb n f)) v) + count n v ≡ length v
-kept-length n [] = refl
-kept-length n (x ∷ v) = go (eqb n x) (kept-length n v)
-  where
-    go : (b : Bool) → length (keep (λ f. not (eqb n f)) v) + count n v ≡ length v
-        → length (keepIf (not b) x (keep (λ f. not (eqb n f)) v)) + more b (count n v) ≡ suc (length v)
-    go true q = omega (arith, q)
-    go false q = omega (arith, q)
-
-all-there : (n : ℕ) (v : List ℕ) → ((e : ℕ) → e < n → 1 ≤ count e v) → n ≤ length v
-all-there zero v f = omega arith
-all-there (suc n) v f =
-    let rest : List ℕ = keep (λ f. not (eqb n f)) v in
-    let r = all-there n rest (λ e l. still e (ne-eqb n e (λ q. absurd (omega (arith, l, q)))) (f e (omega (arith, l)))) in
-    let k = kept-length n v in
-    let one-there = f n (omega arith) in
-    omega (arith, r, k, one-there)
-  where
-    still : (e : ℕ) → eqb n e ≡ false → 1 ≤ count e v → 1 ≤ count e (keep (λ f. not (eqb n f)) v)
-    still e q t = rw (count-keep (λ f. not (eqb n f)) e v, q) t
-
-pub all-length : (n : ℕ) (v : List ℕ) → IsView (λ e. ltb e n) v → length v ≡ n
-unfolding IsView
-all-length n v i =
-    let most : length v ≤ n =
-    length-once n v (λ e t. ltb-true e n (sym (mem-of-count e v (ltb e n) (i e)) ∙ t)) (once-of-count (λ e. ltb e n) v i) in
-    let least = all-there n v (λ e l. rw (i e, lt-ltb e n l) (omega arith)) in
-    omega (arith, most, least)
 
 -- ---- the criteria with one view, of all events
 abbrev pub hasOneView : Criterion → Bool
@@ -67,6 +40,7 @@ hasOneView Weak = false
 hasOneView Causal = false
 hasOneView Converge = true
 hasOneView Sequential = true
+hasOneView Strict = false
 
 one-of : (w : Criterion) → hasOneView w ≡ true → (es : List Event) → length (viewNumbers w es) ≡ 1
 unfolding viewNumbers
@@ -75,6 +49,7 @@ one-of Weak e es = absurd (false≢true e)
 one-of Causal e es = absurd (false≢true e)
 one-of Converge e es = refl
 one-of Sequential e es = refl
+one-of Strict e es = absurd (false≢true e)
 
 all-of : (w : Criterion) → hasOneView w ≡ true → (h : lists.History) (R : ℕ → ℕ → Bool) (v : List ℕ)
     → (0 < viewCount w h → IsView (viewSet w h R 0) v) → IsView (isEvent h) v
@@ -83,6 +58,7 @@ all-of Weak e h R v f = absurd (false≢true e)
 all-of Causal e h R v f = absurd (false≢true e)
 all-of Converge e h R v f = f (omega arith)
 all-of Sequential e h R v f = f (omega arith)
+all-of Strict e h R v f = absurd (false≢true e)
 
 -- ---- a record that passed
 module _ (h : History) (c : written-certificate.Certificate) (rows : List (List ℕ)) (p : Passed h c rows) where
@@ -95,11 +71,27 @@ module _ (h : History) (c : written-certificate.Certificate) (rows : List (List 
   pub few-events : length (eventsIn h) ≤ 64
   few-events = omega (arith, within-sound h (p .history) .events, few-passed)
 
+  pub processes-passed : FewProcesses (historyOf h)
+  processes-passed = few-processes h (within-sound h (p .history))
+
   pub few-numbers : (w : Criterion) → length (viewNumbers w (eventsIn h)) ≤ 64
   few-numbers w = numbers-few w (eventsIn h) few-events
 
   pub fits-passed : Fits (eventsIn h) c rows
   fits-passed = fits-facts (eventsIn h) c rows few-events (p .certificate)
+
+  -- the parts of the record are those of its lists
+  pub pasts-passed : c .pasts ≡ pad 64 noList (map eventListOf (certificateOf h c rows .pasts))
+  unfolding certificateOf text-record.certificateOf
+  pasts-passed = ap (λ (x : written-certificate.Certificate). x .pasts) (fits-passed .record-is)
+
+  pub lengths-passed : c .lengths ≡ lengthsOf (certificateOf h c rows .views)
+  unfolding certificateOf text-record.certificateOf lengthsOf
+  lengths-passed = ap (λ (x : written-certificate.Certificate). x .lengths) (fits-passed .record-is)
+
+  pub rows-passed : rows ≡ rowsOf (certificateOf h c rows .views)
+  unfolding certificateOf
+  rows-passed = fits-passed .rows-are
 
   pub readable-passed : Readable (historyOf h) (certificateOf h c rows)
   readable-passed = readable-of h (p .history) c rows (p .certificate) (few-numbers (c .criterion))

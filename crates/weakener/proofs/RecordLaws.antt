@@ -1,7 +1,7 @@
 -- The records of weakened certificates are those of the lists. Assumes nothing.
 use Prim.Native.Nat.{ℕ}
 use mathlib.Core.Path.{_≡_, refl, sym, ap, ap₂, _∙_, subst}
-use mathlib.Core.Bool.{Bool, true, false, false≢true}
+use mathlib.Core.Bool.{true, false, false≢true}
 use mathlib.Core.List.{List, [], map}
 use mathlib.Core.Option.{Option, none, some}
 use lib.ListN.{getD, take, replicate}
@@ -9,7 +9,7 @@ use Rattle.history.specs.declared.record.History as written-history
 use Rattle.history.specs.Record.{pad}
 use Rattle.history.proofs.PadLaws.{pad-none}
 use Rattle.certificate.specs.declared.record.Criterion.{Criterion}
-use Rattle.certificate.specs.declared.record.Criterion.the-variants.{Pram, Weak, Causal, Converge, Sequential}
+use Rattle.certificate.specs.declared.record.Criterion.the-variants.{Pram, Weak, Causal, Converge, Sequential, Strict}
 use Rattle.certificate.specs.declared.record.EventList.{EventList}
 use Rattle.certificate.specs.declared.record.Certificate as written-certificate
 use Rattle.certificate.specs.Record.{noList, eventListOf, rowsOf}
@@ -17,21 +17,22 @@ use Rattle.certificate.specs.Record as text-record
 use Rattle.criteria.specs.Tests.{table}
 use Rattle.criteria.specs.History.{History, size}
 use Rattle.criteria.specs.Certificate.{Certificate, viewCount}
-use Rattle.criteria.specs.Weaken.{precedes, pastsOf, upToIn, fromSequential, fromCausal, fromConverge, fromPram, fromWeak, weakenedFrom, weakened}
+use Rattle.criteria.specs.Weaken.{precedes, pastsOf, upToIn, isPair, fromSequential, weakenedFrom, weakened}
 use Rattle.criteria.specs.Records.{historyOf, certificateOf}
-use Rattle.faults.specs.Steps.{eventEach}
+use Rattle.criteria.proofs.Weaken.{isSome, pair-weakened, weakened-itself}
+use Rattle.certificate.specs.Steps.Numbers.{eventEach}
 use Rattle.weakened.specs.Steps.{lengthsOf}
 use Rattle.weakener.specs.Steps.{Passed, IsRecordOf}
-use Rattle.weakener.proofs.PassedLaws.{size-passed, fits-passed, one-begins}
+use Rattle.weakener.proofs.PassedLaws.{size-passed, fits-passed, rows-passed, one-begins}
 
 -- ---- the record of lists
-record-parts : (w : Criterion) (ps : List EventList) (ls : List ℕ) (pasts views : List (List ℕ))
+pub record-parts : (w : Criterion) (ps : List EventList) (ls : List ℕ) (pasts views : List (List ℕ))
     → ps ≡ pad 64 noList (map eventListOf pasts) → ls ≡ lengthsOf views
     → _≡_ {A = written-certificate.Certificate} (record { criterion = w; pasts = ps; lengths = ls }) (text-record.certificateOf w pasts views)
 unfolding text-record.certificateOf lengthsOf
 record-parts w ps ls pasts views p q = rw (p, q)
 
-is-record : (o : Option Certificate) (w : Criterion) (pasts views : List (List ℕ)) (x : written-certificate.Certificate) (rows : List (List ℕ))
+pub is-record : (o : Option Certificate) (w : Criterion) (pasts views : List (List ℕ)) (x : written-certificate.Certificate) (rows : List (List ℕ))
     → o ≡ some record { criterion = w; pasts = pasts; views = views } → x ≡ text-record.certificateOf w pasts views → rows ≡ rowsOf views → IsRecordOf o x rows
 is-record o w pasts views x rows q a b = subst (λ (y : Option Certificate). IsRecordOf y x rows) (sym q) (a, b)
 
@@ -61,6 +62,7 @@ event-lists w h c v n t q b k =
     go Causal e = refl
     go Converge e = absurd (false≢true e)
     go Sequential e = absurd (false≢true e)
+    go Strict e = absurd (false≢true e)
 
 converge-lists : (h : History) (c : Certificate) (v : List ℕ) (n : ℕ) → c .criterion ≡ Sequential → v ≡ getD (c .views) 0 [] → n ≡ size h
     → weakened Converge h c ≡ some record { criterion = Converge; pasts = pastsOf n (precedes v); views = table 1 (λ _. v) }
@@ -68,78 +70,43 @@ converge-lists h c v n q b k =
     from-sequential Converge h c q
     ∙ ap₂ (λ (i : ℕ) (u : List ℕ). some record { criterion = Converge; pasts = pastsOf i (precedes u); views = table 1 (λ _. u) }) (sym k) (sym b)
 
+strict-lists : (h : History) (c : Certificate) (v : List ℕ) (n m : ℕ) → c .criterion ≡ Sequential → v ≡ getD (c .views) 0 [] → n ≡ size h → m ≡ viewCount Strict h
+    → weakened Strict h c ≡ some record { criterion = Strict; pasts = pastsOf n (precedes v); views = table m (λ _. v) }
+strict-lists h c v n m q b k l =
+    from-sequential Strict h c q
+    ∙ ap₂ (λ (i : ℕ) (u : List ℕ). some record { criterion = Strict; pasts = pastsOf i (precedes u); views = table (viewCount Strict h) (λ _. u) }) (sym k) (sym b)
+    ∙ ap (λ (i : ℕ). some record { criterion = Strict; pasts = pastsOf n (precedes v); views = table i (λ _. v) }) (sym l)
+
 -- ---- to itself
-only-itself : (wanted : Criterion) (h : History) (c : Certificate) (w : Criterion) → c .criterion ≡ w → ((d : Certificate) → weakenedFrom w wanted h c ≡ some d → d ≡ c)
+pub not-a-pair : (named wanted : Criterion) → isPair named wanted ≡ false → isPair named wanted ≡ true → wanted ≡ named
+not-a-pair named wanted n t = absurd (false≢true (sym n ∙ t))
+
+pub pram-pair : (w : Criterion) → isPair Pram w ≡ true → w ≡ Pram
+pram-pair Pram t = refl
+pram-pair Weak t = absurd (false≢true t)
+pram-pair Causal t = absurd (false≢true t)
+pram-pair Converge t = absurd (false≢true t)
+pram-pair Sequential t = absurd (false≢true t)
+pram-pair Strict t = absurd (false≢true t)
+
+pub weak-pair : (w : Criterion) → isPair Weak w ≡ true → w ≡ Weak
+weak-pair Pram t = absurd (false≢true t)
+weak-pair Weak t = refl
+weak-pair Causal t = absurd (false≢true t)
+weak-pair Converge t = absurd (false≢true t)
+weak-pair Sequential t = absurd (false≢true t)
+weak-pair Strict t = absurd (false≢true t)
+
+-- the criterion wanted is the one named, or the two are no pair
+pub only-itself : (named wanted : Criterion) (h : History) (c : Certificate) → c .criterion ≡ named → (isPair named wanted ≡ true → wanted ≡ named)
     → (d : Certificate) → weakened wanted h c ≡ some d → d ≡ c
 unfolding weakened
-only-itself wanted h c w q f d e = f d (ap (λ (x : Criterion). weakenedFrom x wanted h c) (sym q) ∙ e)
-
-same-some : (c d : Certificate) → some c ≡ some d → d ≡ c
-same-some c d e = cc
-
-same-none : (c d : Certificate) → none ≡ some d → d ≡ c
-same-none c d e = cc
-
-pub pram-itself : (wanted : Criterion) (h : History) (c : Certificate) → c .criterion ≡ Pram → (d : Certificate) → weakened wanted h c ≡ some d → d ≡ c
-pram-itself wanted h c q = only-itself wanted h c Pram q (go wanted)
+only-itself named wanted h c q same d e =
+    let pair = ap (λ (w : Criterion). isPair w wanted) (sym q) ∙ sym (pair-weakened wanted h c) ∙ ap isSome e in
+    same-some (sym (weakened-itself (c .criterion) h c) ∙ ap (λ (w : Criterion). weakenedFrom (c .criterion) w h c) (q ∙ sym (same pair)) ∙ e)
   where
-    go : (w : Criterion) (d : Certificate) → fromPram w c ≡ some d → d ≡ c
-    go Pram d e = same-some c d e
-    go Weak d e = same-none c d e
-    go Causal d e = same-none c d e
-    go Converge d e = same-none c d e
-    go Sequential d e = same-none c d e
-
-pub weak-itself : (wanted : Criterion) (h : History) (c : Certificate) → c .criterion ≡ Weak → (d : Certificate) → weakened wanted h c ≡ some d → d ≡ c
-weak-itself wanted h c q = only-itself wanted h c Weak q (go wanted)
-  where
-    go : (w : Criterion) (d : Certificate) → fromWeak w c ≡ some d → d ≡ c
-    go Pram d e = same-none c d e
-    go Weak d e = same-some c d e
-    go Causal d e = same-none c d e
-    go Converge d e = same-none c d e
-    go Sequential d e = same-none c d e
-
--- causal to neither weak nor pram, and converge not to weak
-abbrev pub causal-keeps : Criterion → Bool
-causal-keeps Pram = false
-causal-keeps Weak = false
-causal-keeps Causal = true
-causal-keeps Converge = true
-causal-keeps Sequential = true
-
-abbrev pub converge-keeps : Criterion → Bool
-converge-keeps Pram = true
-converge-keeps Weak = false
-converge-keeps Causal = true
-converge-keeps Converge = true
-converge-keeps Sequential = true
-
-pub causal-itself : (wanted : Criterion) (h : History) (c : Certificate) → causal-keeps wanted ≡ true → c .criterion ≡ Causal
-    → (d : Certificate) → weakened wanted h c ≡ some d → d ≡ c
-causal-itself wanted h c t q = only-itself wanted h c Causal q (go wanted t)
-  where
-    go : (w : Criterion) → causal-keeps w ≡ true → (d : Certificate) → fromCausal w h c ≡ some d → d ≡ c
-    go Pram k d e = absurd (false≢true k)
-    go Weak k d e = absurd (false≢true k)
-    go Causal k d e = same-some c d e
-    go Converge k d e = same-none c d e
-    go Sequential k d e = same-none c d e
-
-pub converge-itself : (wanted : Criterion) (h : History) (c : Certificate) → converge-keeps wanted ≡ true → c .criterion ≡ Converge
-    → (d : Certificate) → weakened wanted h c ≡ some d → d ≡ c
-converge-itself wanted h c t q = only-itself wanted h c Converge q (go wanted t)
-  where
-    go : (w : Criterion) → converge-keeps w ≡ true → (d : Certificate) → fromConverge w h c ≡ some d → d ≡ c
-    go Pram k d e = same-none c d e
-    go Weak k d e = absurd (false≢true k)
-    go Causal k d e = same-none c d e
-    go Converge k d e = same-some c d e
-    go Sequential k d e = same-none c d e
-
-pub sequential-itself : (wanted : Criterion) (h : History) (c : Certificate) → wanted ≡ Sequential → c .criterion ≡ Sequential
-    → (d : Certificate) → weakened wanted h c ≡ some d → d ≡ c
-sequential-itself wanted h c t q = only-itself wanted h c Sequential q (λ d e. same-some c d (ap (λ (w : Criterion). fromSequential w h c (getD (c .views) 0 [])) (sym t) ∙ e))
+    same-some : some c ≡ some d → d ≡ c
+    same-some e = cc
 
 -- ---- the records that are made
 -- the criterion of the lists is that of the record
@@ -156,7 +123,7 @@ wanted-as w x h c r rows q i = subst (λ (y : Criterion). IsRecordOf (weakened y
 module _ (h : written-history.History) (c : written-certificate.Certificate) (rows : List (List ℕ)) (passed : Passed h c rows) where
   own-record : IsRecordOf (some (certificateOf h c rows)) c rows
   unfolding certificateOf
-  own-record = (fits-passed h c rows passed .record-is, fits-passed h c rows passed .rows-are)
+  own-record = (fits-passed h c rows passed .record-is, rows-passed h c rows passed)
 
   pub itself-is : (o : Option Certificate) → ((d : Certificate) → o ≡ some d → d ≡ certificateOf h c rows) → IsRecordOf o c rows
   itself-is none f = tt
@@ -188,4 +155,14 @@ module _ (h : written-history.History) (c : written-certificate.Certificate) (ro
         is-record _ Converge _ _ _ made
         (converge-lists (historyOf h) (certificateOf h c rows) _ (h .count) (same-criterion h c rows Sequential is) (one-begins h c rows passed Sequential is refl) (sym (size-passed h c rows passed)))
         (record-parts Converge pasts lengths _ _ p b)
+        a
+
+    pub strict-is : (pasts : List EventList) (m : ℕ) → pasts ≡ pad 64 noList (map eventListOf (pastsOf (h .count) (precedes (take (h .count) (getD rows 0 [])))))
+        → m ≡ viewCount Strict (historyOf h)
+        → made ≡ rowsOf (table m (λ _. take (h .count) (getD rows 0 []))) → lengths ≡ lengthsOf (table m (λ _. take (h .count) (getD rows 0 [])))
+        → IsRecordOf (weakened Strict (historyOf h) (certificateOf h c rows)) (record { criterion = Strict; pasts = pasts; lengths = lengths }) made
+    strict-is pasts m p k a b =
+        is-record _ Strict _ _ _ made
+        (strict-lists (historyOf h) (certificateOf h c rows) _ (h .count) m (same-criterion h c rows Sequential is) (one-begins h c rows passed Sequential is refl) (sym (size-passed h c rows passed)) k)
+        (record-parts Strict pasts lengths _ _ p b)
         a

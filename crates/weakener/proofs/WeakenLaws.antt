@@ -21,7 +21,7 @@ use Rattle.certificate.specs.Readable.{fits}
 use Rattle.certificate_writer.specs.declared.write.CertificateWritten.{CertificateWritten}
 use Rattle.certificate_writer.specs.WriteCertificate.{certificateWritten, certificateAfter}
 use Rattle.criteria.specs.Certificate.{Certificate}
-use Rattle.criteria.specs.Check.{Fault, fault11, fault12, fault13, fault14, fault15, fault16, answerOf, check}
+use Rattle.criteria.specs.Check.{Fault, fault11, fault12, fault13, fault14, fault15, fault16, fault20, answerOf, check}
 use Rattle.criteria.specs.Weaken.{isPair, weakened}
 use Rattle.criteria.specs.Records.{historyOf, certificateOf}
 use Rattle.criteria.proofs.Weaken.{isSome, weaken-accepted, pair-weakened}
@@ -32,19 +32,20 @@ use Rattle.checker.specs.CheckText.{Verdict, checked, foundIn}
 use Rattle.checker.specs.Verdict.{checkedOf}
 use Rattle.checker.specs.WeakenText.{textOfLists, textIfSome, wantedOf}
 use Rattle.checker.proofs.ListTexts.{lists-fit, text-lists}
-use Rattle.weakener.proofs.PassedLaws.{few-events, readable-passed}
+use Rattle.weakener.proofs.PassedLaws.{few-events, processes-passed, readable-passed}
 use Rattle.weakener.specs.declared.weaken.Weakened.{Weakened}
 use Rattle.weakener.specs.Steps.{Passed, IsRecordOf}
 use Rattle.weakener.specs.Weakening.{refusalBy, weakenedOf, IsPair}
 
 -- ---- the criterion wanted
-pub wanted-none : (n : ℕ) → (n ≡ 0 → ⊥) → (n ≡ 1 → ⊥) → (n ≡ 2 → ⊥) → (n ≡ 3 → ⊥) → (n ≡ 4 → ⊥) → none ≡ wantedOf n
-wanted-none zero a b c d e = absurd (a refl)
-wanted-none (suc zero) a b c d e = absurd (b refl)
-wanted-none (suc (suc zero)) a b c d e = absurd (c refl)
-wanted-none (suc (suc (suc zero))) a b c d e = absurd (d refl)
-wanted-none (suc (suc (suc (suc zero)))) a b c d e = absurd (e refl)
-wanted-none (suc (suc (suc (suc (suc n))))) a b c d e = refl
+pub wanted-none : (n : ℕ) → (n ≡ 0 → ⊥) → (n ≡ 1 → ⊥) → (n ≡ 2 → ⊥) → (n ≡ 3 → ⊥) → (n ≡ 4 → ⊥) → (n ≡ 5 → ⊥) → none ≡ wantedOf n
+wanted-none zero a b c d e f = absurd (a refl)
+wanted-none (suc zero) a b c d e f = absurd (b refl)
+wanted-none (suc (suc zero)) a b c d e f = absurd (c refl)
+wanted-none (suc (suc (suc zero))) a b c d e f = absurd (d refl)
+wanted-none (suc (suc (suc (suc zero)))) a b c d e f = absurd (e refl)
+wanted-none (suc (suc (suc (suc (suc zero))))) a b c d e f = absurd (f refl)
+wanted-none (suc (suc (suc (suc (suc (suc n)))))) a b c d e f = refl
 
 -- ---- the answers
 -- what the code answers of texts that were read: with 17, 18 or 0, and with what was found
@@ -65,6 +66,7 @@ no-refusal c (some (fault13 e)) = refl
 no-refusal c (some (fault14 v)) = refl
 no-refusal c (some (fault15 v)) = refl
 no-refusal c (some (fault16 v e)) = refl
+no-refusal c (some (fault20 v)) = refl
 
 -- what was found, as an answer of the code
 faulty-back : (history : List ℕ) (declared : ℕ) (c : Criterion) (f : Finding)
@@ -80,6 +82,7 @@ found-number (some (fault12 e)) q z = omega arith
 found-number (some (fault13 e)) q z = omega arith
 found-number (some (fault14 v)) q z = omega arith
 found-number (some (fault15 v)) q z = omega arith
+found-number (some (fault20 v)) q z = omega arith
 found-number (some (fault16 v e)) q z = omega arith
 
 module _ (v : Verdict) (c : Criterion) (o : Option (List ℕ)) (buffer : List ℕ) where
@@ -90,7 +93,7 @@ module _ (v : Verdict) (c : Criterion) (o : Option (List ℕ)) (buffer : List �
     bytes = rw q refl;
   }
 
-  -- 11 to 16
+  -- 11 to 16, and 20
   pub pair-found : (history : List ℕ) (declared : ℕ) (t : List ℕ) (f : Finding) → o ≡ some t → v ≡ foundIn history declared c (findingOf f)
       → isFound (findingOf f) ≡ true → IsPair v c o buffer (faulty history declared c f) buffer
   pair-found history declared t f q e found =
@@ -173,7 +176,7 @@ module _ (history : List ℕ) (h : written-history.History) (c : written-certifi
           (answered (c .criterion) (wr .number) (wr .length)) then
       go none e = absurd (false≢true (sym (ap isSome e) ∙ pair-weakened w (historyOf h) (certificateOf h c rows) ∙ pair))
       go (some d) e =
-          let a = weaken-accepted (historyOf h) w (certificateOf h c rows) d (readable-passed h c rows p) (p .passes) e in
+          let a = weaken-accepted (historyOf h) w (certificateOf h c rows) d (processes-passed h c rows p) (readable-passed h c rows p) (p .passes) e in
           let fit = lists-fit h (few-events h c rows p) d (a .readable) in
           let says = text-lists h (few-events h c rows p) d (a .readable) in
           let same = subst (λ (o : Option Certificate). IsRecordOf o r made) e is in

@@ -3,12 +3,12 @@ ghost use mathlib.Core.Path.{_≡_};
 ghost use mathlib.Core.Bool.{true};
 ghost use mathlib.Core.Option.{some};
 ghost use lib.ListN.{replicate};
-ghost use Rattle.certificate.specs.declared.record.Criterion.the-variants.{Pram, Weak, Causal, Converge, Sequential};
+ghost use Rattle.certificate.specs.declared.record.Criterion.the-variants.{Pram, Weak, Causal, Converge, Sequential, Strict};
 ghost use Rattle.certificate.specs.Record.{noList};
 ghost use Rattle.criteria.specs.Certificate as lists;
 ghost use Rattle.criteria.specs.Weaken.{weakened};
 ghost use Rattle.criteria.specs.Records.{historyOf, certificateOf};
-ghost use Rattle.faults.specs.Steps.{eventEach};
+ghost use Rattle.certificate.specs.Steps.Numbers.{eventEach};
 ghost use Rattle.weakener.specs.Steps.{Passed, IsRecordOf};
 use certificate::list::no_list;
 use certificate::numbers::view_numbers;
@@ -23,6 +23,7 @@ use weakened::converge::cut_views;
 use weakened::sequential::preceding_pasts;
 use weakened::sequential::up_to_views;
 use weakened::sequential::whole_views;
+use weakened::strict::own_parts;
 
 // No pasts.
 fn no_pasts() -> [EventList; 64]
@@ -105,6 +106,32 @@ fn sequential_to_converge(
     }
 }
 
+// From sequential to strict: past(e) is what precedes e, and each view is the whole order.
+fn sequential_to_strict(
+    h: History,
+    c: Certificate,
+    views: [[u8; 64]; 64],
+    rows: &mut [[u8; 64]; 64],
+) -> Certificate
+    requires { ⌜ (c .criterion ≡ Sequential) × Passed h c views ⌝ }
+    ensures { λ r. ⌜ IsRecordOf (weakened Strict (historyOf h) (certificateOf h c views)) r (now (rows .exit)) ⌝ }
+{
+    let n = h.count;
+    let events = h.events;
+    let numbers = view_numbers(Criterion::Strict, events, n);
+    let m = numbers.count;
+    let view = views[0];
+    let pasts = preceding_pasts(view, n);
+    let mut lengths = [0u8; 64];
+    let made = whole_views(view, n, m, &mut lengths);
+    *rows = made;
+    Certificate {
+        criterion: Criterion::Strict,
+        pasts,
+        lengths,
+    }
+}
+
 // From converge to weak: the same pasts, and the view cut to past(e) and e.
 fn converge_to_weak(
     h: History,
@@ -177,6 +204,55 @@ fn causal_to_pram(
     }
 }
 
+// From strict to pram: the same views.
+fn strict_to_pram(
+    h: History,
+    c: Certificate,
+    views: [[u8; 64]; 64],
+    rows: &mut [[u8; 64]; 64],
+) -> Certificate
+    requires { ⌜ (c .criterion ≡ Strict) × Passed h c views ⌝ }
+    ensures { λ r. ⌜ IsRecordOf (weakened Pram (historyOf h) (certificateOf h c views)) r (now (rows .exit)) ⌝ }
+{
+    let lengths = c.lengths;
+    *rows = views;
+    let pasts = no_pasts();
+    Certificate {
+        criterion: Criterion::Pram,
+        pasts,
+        lengths,
+    }
+}
+
+// From strict to weak or causal: the same pasts, and each event's view is its process's view up to and with it.
+fn strict_to_events(
+    h: History,
+    c: Certificate,
+    views: [[u8; 64]; 64],
+    wanted: Criterion,
+    rows: &mut [[u8; 64]; 64],
+) -> Certificate
+    requires { ⌜ (c .criterion ≡ Strict) × Passed h c views × (eventEach wanted ≡ true) ⌝ }
+    ensures { λ r. ⌜ IsRecordOf (weakened wanted (historyOf h) (certificateOf h c views)) r (now (rows .exit)) ⌝ }
+{
+    let n = h.count;
+    let events = h.events;
+    let numbered = view_numbers(Criterion::Strict, events, n);
+    let m = numbered.count;
+    let numbers = numbered.numbers;
+    let processes = processes_of(events);
+    let sizes = c.lengths;
+    let mut lengths = [0u8; 64];
+    let made = own_parts(processes, n, &views, sizes, numbers, m, &mut lengths);
+    *rows = made;
+    let pasts = c.pasts;
+    Certificate {
+        criterion: wanted,
+        pasts,
+        lengths,
+    }
+}
+
 // To itself: the same certificate.
 fn itself(
     h: History,
@@ -208,6 +284,7 @@ fn from_sequential(
         Criterion::Causal => sequential_to_events(h, c, views, wanted, rows),
         Criterion::Converge => sequential_to_converge(h, c, views, rows),
         Criterion::Sequential => itself(h, c, views, wanted, rows),
+        Criterion::Strict => sequential_to_strict(h, c, views, rows),
     }
 }
 
@@ -227,6 +304,7 @@ fn from_causal(
         Criterion::Causal => itself(h, c, views, wanted, rows),
         Criterion::Converge => itself(h, c, views, wanted, rows),
         Criterion::Sequential => itself(h, c, views, wanted, rows),
+        Criterion::Strict => itself(h, c, views, wanted, rows),
     }
 }
 
@@ -246,6 +324,27 @@ fn from_converge(
         Criterion::Causal => itself(h, c, views, wanted, rows),
         Criterion::Converge => itself(h, c, views, wanted, rows),
         Criterion::Sequential => itself(h, c, views, wanted, rows),
+        Criterion::Strict => itself(h, c, views, wanted, rows),
+    }
+}
+
+fn from_strict(
+    h: History,
+    c: Certificate,
+    views: [[u8; 64]; 64],
+    wanted: Criterion,
+    rows: &mut [[u8; 64]; 64],
+) -> Certificate
+    requires { ⌜ (c .criterion ≡ Strict) × Passed h c views ⌝ }
+    ensures { λ r. ⌜ IsRecordOf (weakened wanted (historyOf h) (certificateOf h c views)) r (now (rows .exit)) ⌝ }
+{
+    match wanted {
+        Criterion::Pram => strict_to_pram(h, c, views, rows),
+        Criterion::Weak => strict_to_events(h, c, views, wanted, rows),
+        Criterion::Causal => strict_to_events(h, c, views, wanted, rows),
+        Criterion::Converge => itself(h, c, views, wanted, rows),
+        Criterion::Sequential => itself(h, c, views, wanted, rows),
+        Criterion::Strict => itself(h, c, views, wanted, rows),
     }
 }
 
@@ -267,5 +366,6 @@ pub(crate) fn weakened_record(
         Criterion::Causal => from_causal(h, c, views, wanted, rows),
         Criterion::Converge => from_converge(h, c, views, wanted, rows),
         Criterion::Sequential => from_sequential(h, c, views, wanted, rows),
+        Criterion::Strict => from_strict(h, c, views, wanted, rows),
     }
 }

@@ -1,9 +1,9 @@
-// Weakening a certificate text: reading refusals as in the check, 17, 11 to 16, 18, or the weakened text in the buffer's first bytes.
+// Weakening a certificate text: reading refusals as in the check, 17, its other faults, 18, or the weakened text in the buffer's first bytes.
 ghost use mathlib.Core.Path.{_≡_};
 ghost use mathlib.Core.Bool.{true};
 ghost use Rattle.history.specs.Record.{eventsIn};
 ghost use Rattle.history.specs.Readable.{within};
-ghost use Rattle.certificate.specs.declared.record.Criterion.the-variants.{Pram, Weak, Causal, Converge};
+ghost use Rattle.certificate.specs.declared.record.Criterion.the-variants.{Pram, Weak, Causal, Converge, Strict};
 ghost use Rattle.certificate.specs.Readable.{fits};
 ghost use Rattle.criteria.specs.Check.{check};
 ghost use Rattle.criteria.specs.Weaken.{isPair, weakened};
@@ -59,10 +59,13 @@ fn wanted_of(number: u32) -> Wanted
     if number == 4 {
         return Wanted::Named(Criterion::Sequential);
     }
+    if number == 5 {
+        return Wanted::Named(Criterion::Strict);
+    }
     Wanted::Nothing
 }
 
-// The criteria that a causal and a converge certificate are weakened to.
+// The criteria that a causal, a converge and a strict certificate are weakened to.
 fn below_causal(wanted: Criterion) -> bool
     ensures { λ r. ⌜ r ≡ isPair Causal wanted ⌝ }
 {
@@ -72,6 +75,7 @@ fn below_causal(wanted: Criterion) -> bool
         Criterion::Causal => true,
         Criterion::Converge => false,
         Criterion::Sequential => false,
+        Criterion::Strict => false,
     }
 }
 
@@ -84,6 +88,20 @@ fn below_converge(wanted: Criterion) -> bool
         Criterion::Causal => false,
         Criterion::Converge => true,
         Criterion::Sequential => false,
+        Criterion::Strict => false,
+    }
+}
+
+fn below_strict(wanted: Criterion) -> bool
+    ensures { λ r. ⌜ r ≡ isPair Strict wanted ⌝ }
+{
+    match wanted {
+        Criterion::Pram => true,
+        Criterion::Weak => true,
+        Criterion::Causal => true,
+        Criterion::Converge => false,
+        Criterion::Sequential => false,
+        Criterion::Strict => true,
     }
 }
 
@@ -96,6 +114,7 @@ fn is_pram(wanted: Criterion) -> bool
         Criterion::Causal => false,
         Criterion::Converge => false,
         Criterion::Sequential => false,
+        Criterion::Strict => false,
     }
 }
 
@@ -108,10 +127,11 @@ fn is_weak(wanted: Criterion) -> bool
         Criterion::Causal => false,
         Criterion::Converge => false,
         Criterion::Sequential => false,
+        Criterion::Strict => false,
     }
 }
 
-// Whether the two are a pair of document 01's list.
+// Whether the two are a pair of the documents' list.
 fn is_pair(named: Criterion, wanted: Criterion) -> bool
     ensures { λ r. ⌜ r ≡ isPair named wanted ⌝ }
 {
@@ -121,6 +141,7 @@ fn is_pair(named: Criterion, wanted: Criterion) -> bool
         Criterion::Causal => below_causal(wanted),
         Criterion::Converge => below_converge(wanted),
         Criterion::Sequential => true,
+        Criterion::Strict => below_strict(wanted),
     }
 }
 

@@ -54,7 +54,7 @@ pub fn wrong_at(e: usize) -> (u32, u32, u32) {
 pub fn wrong_by(criterion: Criterion, history: &History, e: usize) -> (u32, u32, u32) {
     match criterion {
         Criterion::Sequential | Criterion::Converge => wrong_at(e),
-        Criterion::Pram => (16, history.events[e].process as u32, e as u32),
+        Criterion::Pram | Criterion::Strict => (16, history.events[e].process as u32, e as u32),
         Criterion::Weak | Criterion::Causal => (16, e as u32, e as u32),
     }
 }

@@ -1,6 +1,6 @@
-//! Whether a small history meets a criterion, straight from document 01's five lines: all strict partial orders of the
-//! events that contain program order, and all views. A lost answer is visible in no view. Nothing here is shared
-//! with the check.
+//! Whether a small history meets a criterion, straight from document 01's five lines and T-06 of document 02: all strict
+//! partial orders of the events that contain program order, and all views. A lost answer is visible in no view. Nothing
+//! here is shared with the check.
 
 use std::collections::HashMap;
 
@@ -154,6 +154,22 @@ impl Brute {
                     })
                 })
             }),
+            Criterion::Strict => {
+                // For each process the views in which its answers are right; a causal order contains program order.
+                let mut of_process = vec![];
+                for p in history.processes() {
+                    let mut views = self.views(&all, &program);
+                    views.retain(|view| replays(history, view, |e| process(e) == p));
+                    of_process.push((p, views));
+                }
+                self.causal_orders(history).iter().any(|order| {
+                    // Before each event of the process only its past stands.
+                    let only_past = |view: &[usize], p: usize| {
+                        (0..n).all(|j| process(view[j]) != p || view[..j].iter().all(|f| order[view[j]] >> f & 1 == 1))
+                    };
+                    of_process.iter().all(|(p, views)| views.iter().any(|view| extends(view, order) && only_past(view, *p)))
+                })
+            }
             Criterion::Converge => self.causal_orders(history).iter().any(|order| {
                 self.views(&all, order).iter().any(|view| {
                     (0..n).all(|e| {

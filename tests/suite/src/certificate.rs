@@ -13,10 +13,12 @@ pub enum Criterion {
     Causal,
     Converge,
     Sequential,
+    Strict,
 }
 
-pub const CRITERIA: [Criterion; 5] =
-    [Criterion::Pram, Criterion::Weak, Criterion::Causal, Criterion::Converge, Criterion::Sequential];
+pub const CRITERIA: [Criterion; 6] = [
+    Criterion::Pram, Criterion::Weak, Criterion::Causal, Criterion::Converge, Criterion::Sequential, Criterion::Strict,
+];
 
 impl Criterion {
     pub fn number(self) -> u32 {
@@ -24,19 +26,19 @@ impl Criterion {
     }
 
     pub fn word(self) -> &'static str {
-        ["pram", "weak", "causal", "converge", "sequential"][self as usize]
+        ["pram", "weak", "causal", "converge", "sequential", "strict"][self as usize]
     }
 
-    /// weak, causal and converge have pasts.
+    /// weak, causal, converge and strict have pasts.
     pub fn has_pasts(self) -> bool {
-        matches!(self, Criterion::Weak | Criterion::Causal | Criterion::Converge)
+        !matches!(self, Criterion::Pram | Criterion::Sequential)
     }
 
     /// The numbers of the views that a certificate of this history has.
     pub fn view_numbers(self, history: &History) -> Vec<usize> {
         match self {
             Criterion::Sequential | Criterion::Converge => vec![0],
-            Criterion::Pram => history.processes(),
+            Criterion::Pram | Criterion::Strict => history.processes(),
             Criterion::Weak | Criterion::Causal => (0..history.events.len()).collect(),
         }
     }
@@ -54,7 +56,7 @@ pub struct View {
 #[derive(Clone, PartialEq, Eq, Debug)]
 pub struct Certificate {
     pub criterion: Criterion,
-    /// One an event for weak, causal and converge, none for the others.
+    /// One an event where the criterion has pasts, else none.
     pub pasts: Vec<List>,
     pub views: Vec<View>,
 }
@@ -92,7 +94,7 @@ enum Place {
     View(usize),
 }
 
-/// How a certificate text is read. A wrong checker overrides one of these; the defaults are document 01's.
+/// How a certificate text is read. A wrong checker overrides one of these; the defaults are those of the documents.
 pub trait CertificateRules: NumberRules {
     /// 3: an entry that isn't an event of the history, or more entries than the history has events.
     fn list_over(&self, list: &[u64], events: usize) -> bool {
@@ -129,6 +131,11 @@ pub trait CertificateRules: NumberRules {
         Ok(list.into_iter().map(|entry| entry as usize).collect())
     }
 
+    /// Do the lines of the pasts stand in the text, with their heading?
+    fn has_pasts(&self, criterion: Criterion, _: &History) -> bool {
+        criterion.has_pasts()
+    }
+
     /// The numbers that the view lines have.
     fn view_numbers(&self, criterion: Criterion, history: &History) -> Vec<usize> {
         criterion.view_numbers(history)
@@ -148,7 +155,7 @@ pub trait CertificateRules: NumberRules {
             _ => return Err(Refusal::faulty(2, Text::Certificate, first)),
         };
         let mut places = Vec::new();
-        if criterion.has_pasts() {
+        if self.has_pasts(criterion, history) {
             places.push(Place::Heading("event past"));
             places.extend((0..events).map(Place::Past));
         }

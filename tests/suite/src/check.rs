@@ -1,6 +1,6 @@
 //! The check of a certificate of a history, and what it answers.
 
-use crate::certificate::{Certificate, CertificateRules, Criterion, View};
+use crate::certificate::{Certificate, CertificateRules, Criterion, View, CRITERIA};
 use crate::history::{line_of_event, Event, History, HistoryRules};
 use crate::objects::{ObjectRules, State};
 use crate::texts::{Carried, Refusal, Text};
@@ -70,7 +70,7 @@ pub trait CheckRules: ObjectRules {
     /// Is the event in the set that the view orders? All events, or past(e) and e.
     fn in_set(&self, certificate: &Certificate, view: &View, event: usize) -> bool {
         match certificate.criterion {
-            Criterion::Sequential | Criterion::Pram | Criterion::Converge => true,
+            Criterion::Sequential | Criterion::Pram | Criterion::Converge | Criterion::Strict => true,
             Criterion::Weak | Criterion::Causal => event == view.number || certificate.pasts[view.number].contains(&event),
         }
     }
@@ -108,11 +108,32 @@ pub trait CheckRules: ObjectRules {
         Some((15, Some(view.number), None))
     }
 
+    /// Does an event outside the past stand before the event at this place of the view?
+    fn has_outside_past(&self, certificate: &Certificate, view: &View, place: usize) -> bool {
+        let past = &certificate.pasts[view.order[place]];
+        view.order[..place].iter().any(|event| !past.contains(event))
+    }
+
+    /// Has the view an own event with an event outside its past before it?
+    fn breaks_past(&self, history: &History, certificate: &Certificate, view: &View) -> bool {
+        let own = |place: &usize| history.events[view.order[*place]].process == view.number;
+        (0..view.order.len()).filter(own).any(|place| self.has_outside_past(certificate, view, place))
+    }
+
+    /// 20: the lowest view in which an event outside the past stands before an own event.
+    fn outside_past(&self, history: &History, certificate: &Certificate) -> Option<Fault> {
+        if certificate.criterion != Criterion::Strict {
+            return None;
+        }
+        let view = certificate.views.iter().find(|view| self.breaks_past(history, certificate, view))?;
+        Some((20, Some(view.number), None))
+    }
+
     /// Is the event's answer visible in the view?
     fn visible(&self, history: &History, certificate: &Certificate, view: &View, event: usize) -> bool {
         match certificate.criterion {
             Criterion::Sequential => true,
-            Criterion::Pram => history.events[event].process == view.number,
+            Criterion::Pram | Criterion::Strict => history.events[event].process == view.number,
             Criterion::Weak => event == view.number,
             Criterion::Causal => history.events[event].process == history.events[view.number].process,
             // The cuts of converge see one event each.
@@ -169,6 +190,7 @@ pub trait CheckRules: ObjectRules {
             .or_else(|| self.not_transitive(certificate))
             .or_else(|| self.not_its_set(history, certificate))
             .or_else(|| self.against(history, certificate))
+            .or_else(|| self.outside_past(history, certificate))
             .or_else(|| self.wrong_answer(history, certificate))
     }
 
@@ -206,9 +228,29 @@ pub trait Rules: HistoryRules + CertificateRules + CheckRules {
         let (answer, view, event) = fault;
         Verdict { answer, criterion: Some(certificate.criterion), carried, view, event }
     }
+
+    /// The criterion with the number wanted in weakening.
+    fn wanted(&self, number: u32) -> Option<Criterion> {
+        CRITERIA.get(number as usize).copied()
+    }
+
+    /// Are the two criteria a pair?
+    fn is_pair(&self, given: Criterion, wanted: Criterion) -> bool {
+        crate::weaken::is_pair(given, wanted)
+    }
+
+    /// The weakened certificate of a pair.
+    fn weakened(&self, history: &History, certificate: &Certificate, wanted: Criterion) -> Option<Certificate> {
+        crate::weaken::weakened(history, certificate, wanted)
+    }
+
+    /// The number by which weakening refuses what the check refuses, or 0.
+    fn refusal(&self, history: &History, certificate: &Certificate) -> u32 {
+        self.answer_to(history, certificate)
+    }
 }
 
-/// Document 01's rules with those that T-01 to T-05 of document 02 change: every default above.
+/// Document 01's rules with those that T-01 to T-06 of document 02 change: every default above.
 pub struct Document01;
 
 impl ObjectRules for Document01 {}

@@ -1,10 +1,23 @@
 //! Damage done to records and to texts.
 
-use crate::certificate::{Certificate, Criterion, View};
+use crate::certificate::{Certificate, Criterion, List, View};
 use crate::history::{History, CAPACITY_LIMIT};
 use crate::make::random_answer;
 use crate::objects::{Kind, Op, KINDS};
 use crate::random::Random;
+
+/// For each event, what stands before it in its process's view.
+fn pasts_in_views(history: &History, certificate: &Certificate) -> Vec<List> {
+    let past = |e: usize| {
+        let view = certificate.views.iter().find(|view| view.number == history.events[e].process);
+        let before = view.into_iter().flat_map(|view| view.order.iter().copied().take_while(|event| *event != e));
+        let mut past: List = before.collect();
+        past.sort_unstable();
+        past.dedup();
+        past
+    };
+    (0..history.events.len()).map(past).collect()
+}
 
 /// Changes one thing in a certificate's lists, so that it is still readable most of the time.
 pub fn damage_certificate(random: &mut Random, history: &History, certificate: &mut Certificate) {
@@ -73,13 +86,22 @@ pub fn damage_certificate(random: &mut Random, history: &History, certificate: &
             }
         }
         11 => {
-            // weak and causal have the same lists; the views of the others are turned into one another's.
+            // weak and causal have the same lists, pram and strict the same views; those of the others are turned into one
+            // another's.
             let (criterion, orders) = match certificate.criterion {
                 Criterion::Weak => (Criterion::Causal, None),
                 Criterion::Causal => (Criterion::Weak, None),
+                Criterion::Pram if random.once_in(2) => {
+                    certificate.pasts = pasts_in_views(history, certificate);
+                    (Criterion::Strict, None)
+                }
                 Criterion::Pram => (Criterion::Sequential, Some(1)),
                 Criterion::Sequential => (Criterion::Pram, Some(history.processes().len())),
                 Criterion::Converge => (Criterion::Sequential, Some(1)),
+                Criterion::Strict => {
+                    certificate.pasts.clear();
+                    (Criterion::Pram, None)
+                }
             };
             if let Some(count) = orders {
                 let order = certificate.views[0].order.clone();
@@ -281,7 +303,8 @@ pub fn damage_text(random: &mut Random, text: &mut Vec<u8>) {
 pub fn random_bytes(random: &mut Random, limit: usize) -> Vec<u8> {
     let length = random.under(limit + 1);
     let words = [
-        "object kind width\n", "event process object op value answer\n", "criterion weak\n", "criterion pram\n", "event past\n",
+        "object kind width\n", "event process object op value answer\n", "criterion weak\n", "criterion pram\n",
+        "criterion strict\n", "event past\n",
         "view order\n", "0 queue -\n", "0 0 0 push 7 -\n", "0 0 0 pop - ?\n", " ", "\n", ",", "-", "?", "0", "1",
         "read", "window", "0 channel 1\n", "0 0 0 push 7 7\n",
     ];

@@ -1,4 +1,4 @@
-//! The line that a fault carries (document 02, T-05): 16 and 11 to 13 carry the line of their event, 14 and 15 none.
+//! The line that a fault carries (document 02, T-05): 16 and 11 to 13 carry the line of their event, 14, 15 and 20 none.
 //! Each fault is put into accepted pairs of histories with any number of objects, at the lowest place where it can
 //! stand, at the highest and at one between; and pairs are damaged at random. What is carried is held to the bytes of
 //! the history text.
@@ -6,7 +6,7 @@
 use std::collections::BTreeMap;
 
 use crate::answers::{given, wrong_by, ACCEPTED};
-use crate::certificate::{Certificate, List, CRITERIA};
+use crate::certificate::{Certificate, Criterion, List, View, CRITERIA};
 use crate::check::{CheckRules, Document01, NONE};
 use crate::compare::{Call, Comparer};
 use crate::damage::{damage_certificate, damage_history};
@@ -29,7 +29,8 @@ fn accepted(random: &mut Random, objects: usize) -> Pair {
     };
     let size = Size { events, objects, processes: 1 + random.under(8), values: 65_536, width: 8 };
     let mut history = shape(random, size);
-    let criterion = *random.pick(&CRITERIA);
+    // Strict alone has 20.
+    let criterion = if random.once_in(4) { Criterion::Strict } else { *random.pick(&CRITERIA) };
     let certificate = certified(random, &mut history, criterion);
     lose_now_and_then(random, &mut history);
     (history, certificate)
@@ -72,13 +73,13 @@ fn with_order(certificate: &Certificate, place: usize, order: List) -> Certifica
 }
 
 /// 14: a view without its first event.
-fn without_first(certificate: &Certificate, place: usize) -> Option<Certificate> {
+pub fn without_first(certificate: &Certificate, place: usize) -> Option<Certificate> {
     let (_, rest) = certificate.views[place].order.split_first()?;
     Some(with_order(certificate, place, rest.to_vec()))
 }
 
 /// 15: two events of a view in each other's place, one of which comes before the other.
-fn turned(history: &History, certificate: &Certificate, place: usize) -> Option<Certificate> {
+pub fn turned(history: &History, certificate: &Certificate, place: usize) -> Option<Certificate> {
     let mut order = certificate.views[place].order.clone();
     let mut pairs = (0..order.len()).flat_map(|j| (0..j).map(move |i| (i, j)));
     let (i, j) = pairs.find(|(i, j)| Document01.before(history, certificate, order[*i], order[*j]))?;
@@ -87,7 +88,7 @@ fn turned(history: &History, certificate: &Certificate, place: usize) -> Option<
 }
 
 /// 16: another answer of e that is not lost, of a length that its op can give.
-fn answering_otherwise(history: &History, e: usize) -> Option<History> {
+pub fn answering_otherwise(history: &History, e: usize) -> Option<History> {
     let mut changed = history.clone();
     let event = &mut changed.events[e];
     let one = history.objects[event.object].answer_lengths(event.op).contains(&1);
@@ -100,11 +101,26 @@ fn answering_otherwise(history: &History, e: usize) -> Option<History> {
     Some(changed)
 }
 
-/// How many places there are for a fault: events that have a past, views, events.
+/// 20: an own event of the view and the next one in each other's place, where the next one does not come behind it.
+pub fn outside_past(history: &History, certificate: &Certificate, place: usize) -> Option<Certificate> {
+    let View { number, order } = &certificate.views[place];
+    let own = |event: usize| history.events[event].process == *number;
+    let next = order.windows(2).position(|two| own(two[0]) && !certificate.pasts[two[1]].contains(&two[0]))?;
+    let mut changed = order.clone();
+    changed.swap(next, next + 1);
+    Some(with_order(certificate, place, changed))
+}
+
+/// The faults of the check.
+const FAULTS: [u32; 7] = [11, 12, 13, 14, 15, 16, 20];
+
+/// How many places there are for a fault: events that have a past, views, views of strict, events.
 fn places_for(fault: u32, (history, certificate): &Pair) -> usize {
     match fault {
         11..=13 => certificate.pasts.len(),
         14 | 15 => certificate.views.len(),
+        20 if certificate.criterion == Criterion::Strict => certificate.views.len(),
+        20 => 0,
         _ => history.events.len(),
     }
 }
@@ -120,6 +136,7 @@ fn put(fault: u32, (history, certificate): &Pair, place: usize) -> Option<(Pair,
         13 => with_gap(history, certificate, place).map(|changed| with(changed, at_event)),
         14 => without_first(certificate, place).map(|changed| with(changed, at_view())),
         15 => turned(history, certificate, place).map(|changed| with(changed, at_view())),
+        20 => outside_past(history, certificate, place).map(|changed| with(changed, at_view())),
         _ => {
             let stated = wrong_by(certificate.criterion, history, place);
             answering_otherwise(history, place).map(|changed| ((changed, certificate.clone()), stated))
@@ -198,7 +215,7 @@ impl Seen {
     /// Each fault was there many times at each kind of place, and often enough with every count of objects that a history
     /// with events can have.
     fn hold(&self, comparer: &mut Comparer) {
-        for fault in 11..=16 {
+        for fault in FAULTS {
             for name in ["first", "middle", "last"] {
                 let seen = self.places.get(&(fault, name)).copied().unwrap_or(0);
                 comparer.note(seen >= 30, || format!("{fault} at the {name} place: only {seen} times"));
@@ -213,7 +230,7 @@ impl Seen {
 
 /// Puts each fault into the pair, at up to three places, and holds the checker to it.
 fn each_fault(comparer: &mut Comparer, random: &mut Random, pair: &Pair, seen: &mut Seen) {
-    for fault in 11..=16 {
+    for fault in FAULTS {
         let count = places_for(fault, pair);
         let from = random.under(count.max(1));
         let lowest = (0..count).find_map(|place| Some((place, put(fault, pair, place)?)));

@@ -194,7 +194,7 @@ pub fn crowds(comparer: &mut Comparer, random: &mut Random, rounds: usize) {
             let mut history = crowded(random, capacity);
             let certificate = certified(random, &mut history, criterion).text();
             hold(comparer, "made to be accepted", &history, &certificate, ACCEPTED);
-            for wanted in 0..=5 {
+            for wanted in 0..=6 {
                 comparer.compare(Call::Weaken { wanted, buffer: 25_000 }, &history.text(), &certificate);
             }
             for _ in 0..4 {

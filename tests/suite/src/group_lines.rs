@@ -174,7 +174,7 @@ pub fn certificates(comparer: &mut Comparer, _: &mut Random, _: usize) {
     for criterion in CRITERIA {
         let pasts: [&[usize]; 3] = [&[], &[0], &[0, 1]];
         let views: &[&[usize]] = match criterion {
-            Criterion::Pram => &[&[0, 1, 2], &[0, 1, 2]],
+            Criterion::Pram | Criterion::Strict => &[&[0, 1, 2], &[0, 1, 2]],
             Criterion::Weak | Criterion::Causal => &[&[0], &[0, 1], &[0, 1, 2]],
             _ => &[&[0, 1, 2]],
         };

@@ -34,8 +34,9 @@ pub fn events(comparer: &mut Comparer, _: &mut Random, _: usize) {
         pasts.push(past);
         let views = vec![vec![0]; 64];
         for certificate in [
+            Certificate::new(&history, Criterion::Weak, pasts.clone(), views),
+            Certificate::new(&history, Criterion::Strict, pasts, vec![view.clone(); 8]),
             Certificate::new(&history, Criterion::Sequential, vec![], vec![view]),
-            Certificate::new(&history, Criterion::Weak, pasts, views),
         ] {
             let certificate = certificate.text();
             hold(comparer, &certificate, |buffer| Call::RewriteCertificate { buffer }, &text, &certificate);

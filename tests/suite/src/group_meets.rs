@@ -13,7 +13,8 @@ use crate::make::{answers_of, certified, lose_now_and_then, lose_some, random_an
 use crate::objects::{Kind, Object, Op, KINDS, OPS};
 use crate::random::Random;
 use crate::samples::{
-    certificate, channel, claims, claims_of_channels, claims_of_lost, claims_of_windows, figure_3, updates_lost, window,
+    certificate, channel, claims, claims_of_channels, claims_of_lost, claims_of_strict, claims_of_windows, figure_3,
+    updates_lost, window,
 };
 use crate::search::find;
 use crate::weaken::is_pair;
@@ -36,46 +37,59 @@ fn any_choice(lists: &[Vec<List>], suits: &mut dyn FnMut(&[List]) -> bool) -> bo
     go(lists, &mut vec![], suits)
 }
 
-/// Is some certificate accepted, of all those built from the causal orders and all orderings of the views' sets?
+/// For each view all orderings of its set: past(e) and e under weak and causal, else all events.
+fn lists_of_views(history: &History, criterion: Criterion, pasts: &[List]) -> Vec<Vec<List>> {
+    let all: List = (0..history.events.len()).collect();
+    match criterion {
+        Criterion::Weak | Criterion::Causal => all.iter().map(|e| orderings(&[&pasts[*e][..], &[*e]].concat())).collect(),
+        _ => vec![orderings(&all); criterion.view_numbers(history).len()],
+    }
+}
+
+/// Is some certificate accepted? Where there are too many of them, they are tried by turns.
 fn some_accepted(comparer: &mut Comparer, brute: &mut Brute, history: &History, criterion: Criterion) -> bool {
+    // Strict has as many views as pram for each causal order.
+    let most = if criterion == Criterion::Strict { 3 } else { 4 };
+    if history.events.len() > most {
+        some_accepted_by_turns(comparer, brute, history, criterion)
+    } else {
+        some_accepted_of_all(comparer, brute, history, criterion)
+    }
+}
+
+/// Is some certificate accepted, of all those built from the causal orders and all orderings of the views' sets?
+fn some_accepted_of_all(comparer: &mut Comparer, brute: &mut Brute, history: &History, criterion: Criterion) -> bool {
     let events = history.events.len();
-    let all: List = (0..events).collect();
     let text = history.text();
     let mut accepted = |pasts: &[List], orders: &[List]| {
         let certificate = Certificate::new(history, criterion, pasts.to_vec(), orders.to_vec());
         comparer.compare(Call::Check, &text, &certificate.text()) == 0
     };
     if !criterion.has_pasts() {
-        let lists = vec![orderings(&all); criterion.view_numbers(history).len()];
-        return any_choice(&lists, &mut |orders| accepted(&[], orders));
+        return any_choice(&lists_of_views(history, criterion, &[]), &mut |orders| accepted(&[], orders));
     }
     brute.causal_orders(history).iter().any(|order| {
         let pasts: Vec<List> = (0..events).map(|e| (0..events).filter(|f| order[e] >> f & 1 == 1).collect()).collect();
-        let lists: Vec<Vec<List>> = if criterion == Criterion::Converge {
-            vec![orderings(&all)]
-        } else {
-            let set = |e: usize| [&pasts[e][..], &[e]].concat();
-            (0..events).map(|e| orderings(&set(e))).collect()
-        };
-        any_choice(&lists, &mut |orders| accepted(&pasts, orders))
+        any_choice(&lists_of_views(history, criterion, &pasts), &mut |orders| accepted(&pasts, orders))
     })
 }
 
-/// The same for five events, where the certificates are too many: the views are judged each by itself, so a view that is refused
+/// The same where the certificates are too many: the views are judged each by itself, so a view that is refused
 /// makes way for its set's next ordering, and the views below it stay. A refusal of the pasts can't come: they are a causal order.
 fn some_accepted_by_turns(comparer: &mut Comparer, brute: &mut Brute, history: &History, criterion: Criterion) -> bool {
     let events = history.events.len();
-    let all: List = (0..events).collect();
     let text = history.text();
     let numbers = criterion.view_numbers(history);
     let orders = if criterion.has_pasts() { brute.causal_orders(history) } else { vec![vec![]] };
     orders.iter().any(|order| {
         let past = |e: usize| -> List { (0..events).filter(|f| order[e] >> f & 1 == 1).collect() };
-        let pasts: Vec<List> = if criterion.has_pasts() { all.iter().map(|e| past(*e)).collect() } else { vec![] };
-        let lists: Vec<Vec<List>> = match criterion {
-            Criterion::Weak | Criterion::Causal => all.iter().map(|e| orderings(&[&pasts[*e][..], &[*e]].concat())).collect(),
-            _ => vec![orderings(&all); numbers.len()],
-        };
+        let pasts: Vec<List> = if criterion.has_pasts() { (0..events).map(past).collect() } else { vec![] };
+        let mut lists = lists_of_views(history, criterion, &pasts);
+        if criterion == Criterion::Strict {
+            // Still too many: those against program order, which every causal order contains, are left out.
+            let against = |order: &List| (0..events).any(|j| (0..j).any(|i| history.program_order(order[j], order[i])));
+            lists.iter_mut().for_each(|list| list.retain(|order| !against(order)));
+        }
         let mut turns = vec![0; lists.len()];
         loop {
             let views = turns.iter().zip(&lists).map(|(turn, list)| list[*turn].clone()).collect();
@@ -212,11 +226,7 @@ fn has_short_read(history: &History) -> bool {
 /// Whether the history meets the criterion by the brute force; some certificate must be accepted exactly then.
 fn meets_as_accepted(comparer: &mut Comparer, brute: &mut Brute, history: &History, criterion: Criterion) -> bool {
     let meets = brute.meets(history, criterion);
-    let accepted = if history.events.len() == 5 {
-        some_accepted_by_turns(comparer, brute, history, criterion)
-    } else {
-        some_accepted(comparer, brute, history, criterion)
-    };
+    let accepted = some_accepted(comparer, brute, history, criterion);
     if !comparer.done() {
         comparer.note(meets == accepted, || {
             let text = String::from_utf8_lossy(&history.text()).into_owned();
@@ -227,7 +237,7 @@ fn meets_as_accepted(comparer: &mut Comparer, brute: &mut Brute, history: &Histo
 }
 
 /// How many histories broke and met each criterion.
-type Outcomes = [[usize; 2]; 5];
+type Outcomes = [[usize; 2]; CRITERIA.len()];
 
 /// Each criterion was met by some of the histories and broken by some, or the group says nothing.
 fn both_came(comparer: &mut Comparer, outcomes: Outcomes, which: &str) {
@@ -309,14 +319,17 @@ pub fn short_reads(comparer: &mut Comparer, random: &mut Random, rounds: usize) 
     as_wanted(comparer, random, rounds, small_window, (has_short_read, "with a short read"));
 }
 
+/// The pairs of two criteria, the stronger one first.
+fn pairs() -> Vec<(Criterion, Criterion)> {
+    let all = CRITERIA.into_iter().flat_map(|given| CRITERIA.map(|wanted| (given, wanted)));
+    all.filter(|(given, wanted)| given != wanted && is_pair(*given, *wanted)).collect()
+}
+
 /// For each pair of criteria there are histories of four events, drawn in this way, that meet the weaker criterion and
 /// break the stronger one, and some certificate is accepted of the one and none of the other.
 fn apart(comparer: &mut Comparer, random: &mut Random, rounds: usize, draw: fn(&mut Random, usize) -> History) {
     let mut brute = Brute::default();
-    for (stronger, weaker) in CRITERIA.into_iter().flat_map(|given| CRITERIA.map(|wanted| (given, wanted))) {
-        if stronger == weaker || !is_pair(stronger, weaker) {
-            continue;
-        }
+    for (stronger, weaker) in pairs() {
         for _ in 0..rounds.div_ceil(800) {
             let suits = |history: &History, brute: &mut Brute| {
                 !brute.meets(history, stronger) && brute.meets(history, weaker)
@@ -343,9 +356,31 @@ pub fn lost_apart(comparer: &mut Comparer, random: &mut Random, rounds: usize) {
     apart(comparer, random, rounds, small_with_lost);
 }
 
+/// A channel of one slot or two onto which each of two processes pushes, and at which it then mostly peeks; or any small
+/// one. Where each peeks at what the other one pushed, the history is causal and not strict: few drawn at random are.
+fn peeked_channel(random: &mut Random, events: usize) -> History {
+    let mut history = small_channel(random, events);
+    if random.once_in(2) {
+        return history;
+    }
+    let values: Vec<u64> = (1..=events as u64).collect();
+    for e in 0..events {
+        history.events[e].process = random.under(2);
+        let first = !(0..e).any(|f| history.program_order(f, e));
+        let event = &mut history.events[e];
+        if first {
+            (event.op, event.value, event.answer) = (Op::Push, Some(values[e]), Some(vec![]));
+        } else {
+            let op = if random.once_in(4) { Op::Pop } else { Op::Peek };
+            (event.op, event.value, event.answer) = (op, None, Some(vec![*random.pick(&values)]));
+        }
+    }
+    history
+}
+
 /// One channel tells the criteria apart.
 pub fn channels_apart(comparer: &mut Comparer, random: &mut Random, rounds: usize) {
-    apart(comparer, random, rounds, small_channel);
+    apart(comparer, random, rounds, peeked_channel);
 }
 
 /// One window tells the criteria apart.
@@ -388,14 +423,21 @@ pub fn every_list(comparer: &mut Comparer, random: &mut Random, rounds: usize) {
     }
 }
 
-/// The search agrees with the brute force on small histories, and what it finds is accepted.
+/// The search agrees with the brute force on small histories, and what it finds is accepted. A history that meets a
+/// criterion meets those that it can be weakened to.
 pub fn searched(comparer: &mut Comparer, random: &mut Random, rounds: usize) {
     let mut brute = Brute::default();
     for round in 0..rounds {
         let events = if round % 100 == 99 { 5 } else { random.under(5) };
         let history = small_of_each(random, events);
-        for criterion in CRITERIA {
-            let meets = brute.meets(&history, criterion);
+        let met = CRITERIA.map(|criterion| brute.meets(&history, criterion));
+        for (stronger, weaker) in pairs() {
+            comparer.note(!met[stronger as usize] || met[weaker as usize], || {
+                let text = String::from_utf8_lossy(&history.text()).into_owned();
+                format!("by the brute force {stronger:?} is met and {weaker:?} is not\n{text}")
+            });
+        }
+        for (criterion, meets) in CRITERIA.into_iter().zip(met) {
             let found = find(&history, criterion);
             comparer.note(meets == found.is_some(), || {
                 let text = String::from_utf8_lossy(&history.text()).into_owned();
@@ -423,12 +465,12 @@ fn accept(comparer: &mut Comparer, history: &History, certificate: &Certificate,
     });
 }
 
-/// What document 01 says of its samples, what follows where some of their answers are lost and of channels, and what
-/// document 004 says of Figure 3.
+/// What document 01 says of its samples, what follows where some of their answers are lost and of channels, what document
+/// 001 says of its stack, and what document 004 says of Figure 3.
 pub fn claimed(comparer: &mut Comparer, _: &mut Random, _: usize) {
     use Criterion::{Causal, Pram};
     let mut brute = Brute::default();
-    let stated: Vec<_> = claims().into_iter().chain(figure_3()).collect();
+    let stated: Vec<_> = claims().into_iter().chain(claims_of_strict()).chain(figure_3()).collect();
     let of_lost = claims_of_lost().into_iter().chain(updates_lost(&stated));
     let of_objects = claims_of_channels().into_iter().chain(claims_of_windows());
     for (name, history, met, broken) in stated.clone().into_iter().chain(of_lost).chain(of_objects) {
@@ -439,17 +481,14 @@ pub fn claimed(comparer: &mut Comparer, _: &mut Random, _: usize) {
                 if let Some(certificate) = found {
                     accept(comparer, &history, &certificate, name);
                 }
+                // Without causal orders there are fewer to try.
                 let events = history.events.len();
-                if events <= 5 {
+                if events <= if criterion.has_pasts() { 5 } else { 8 } {
                     let meets = brute.meets(&history, criterion);
                     comparer.note(meets == claim, || format!("{name}, {criterion:?}: claimed {claim}, the brute force says {meets}"));
                 }
                 if events <= 5 {
-                    let accepted = if events == 5 {
-                        some_accepted_by_turns(comparer, &mut brute, &history, criterion)
-                    } else {
-                        some_accepted(comparer, &mut brute, &history, criterion)
-                    };
+                    let accepted = some_accepted(comparer, &mut brute, &history, criterion);
                     comparer.note(accepted == claim, || format!("{name}, {criterion:?}: claimed {claim}, accepted {accepted}"));
                 }
                 if comparer.done() {
@@ -488,7 +527,7 @@ fn answers_in_views(history: &History, certificate: &Certificate) -> Vec<(usize,
             (0, in_order(&cut, e))
         }
         Criterion::Weak | Criterion::Causal => (e, in_order(&certificate.views[e].order, e)),
-        Criterion::Pram => {
+        Criterion::Pram | Criterion::Strict => {
             let process = history.events[e].process;
             let view = certificate.views.iter().find(|view| view.number == process).expect("the process has a view");
             (process, in_order(&view.order, e))

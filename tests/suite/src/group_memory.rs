@@ -121,7 +121,7 @@ pub fn nulls(comparer: &mut Comparer, random: &mut Random, rounds: usize) {
             for buffer in [0, 1, 25_000] {
                 comparer.compare(Call::RewriteHistory { buffer }, history, certificate);
                 comparer.compare(Call::RewriteCertificate { buffer }, history, certificate);
-                for wanted in 0..=5 {
+                for wanted in 0..=6 {
                     comparer.compare(Call::Weaken { wanted, buffer }, history, certificate);
                 }
             }

@@ -75,7 +75,7 @@ pub fn lines(comparer: &mut Comparer, random: &mut Random, _: usize) {
 
 /// 11 to 13 at each event of a long certificate, alone and with a later one.
 pub fn events(comparer: &mut Comparer, random: &mut Random, _: usize) {
-    for criterion in [Criterion::Weak, Criterion::Causal, Criterion::Converge] {
+    for criterion in CRITERIA.into_iter().filter(|criterion| criterion.has_pasts()) {
         let (history, certificate) = full(random, criterion);
         let texts = two_texts(random, &history);
         for e in 0..64 {

@@ -1,14 +1,15 @@
 //! What document 01 states outright: the sample dispensers with their answers and places, and texts whose fault its
-//! words name; and the same of lost answers, of channels, of windows and of the lines that faults carry, by T-01, T-02,
-//! T-04 and T-05 of document 02. The numbers are written here by hand, so that the model is held to them as well. The
-//! line of an event is found from its heading (`carried`), and written by hand in the group of the lines.
+//! words name; and the same of lost answers, of channels, of windows, of the lines that faults carry and of strict, by
+//! T-01, T-02, T-04, T-05 and T-06 of document 02. The numbers are written here by hand, so that the model is held to
+//! them as well. The line of an event is found from its heading (`carried`), and written by hand in the group of the
+//! lines.
 
 use crate::certificate::Criterion;
 use crate::check::{Document01, Rules, NONE};
 use crate::compare::{crop, Call, Comparer};
-use crate::history::History;
+use crate::history::{History, HistoryRules};
 use crate::random::Random;
-use crate::samples::{c, certificate, m, one_slot, q, r, w, with_lost};
+use crate::samples::{c, certificate, m, one_slot, q, r, stack, stack_certificate, w, with_lost};
 
 /// Holds the checker and the model to a stated answer and its places: criterion, text, line, view, event, start, length.
 fn stated(comparer: &mut Comparer, name: &str, history: &[u8], certificate: &[u8], answer: u32, places: [u32; 7]) {
@@ -25,6 +26,7 @@ fn stated(comparer: &mut Comparer, name: &str, history: &[u8], certificate: &[u8
         Call::RewriteCertificate { buffer: certificate.len() },
         Call::Weaken { wanted: 1, buffer: certificate.len() + 30 },
         Call::Weaken { wanted: 4, buffer: certificate.len() },
+        Call::Weaken { wanted: 5, buffer: certificate.len() + 30 },
     ] {
         comparer.compare(call, history, certificate);
     }
@@ -258,6 +260,83 @@ pub fn windows(comparer: &mut Comparer, _: &mut Random, _: usize) {
     say("a width changed", wider.as_bytes(), Sequential, whole, 16, Some((0, 4)));
 }
 
+/// Strict: what T-06 states of it, and what follows from its words.
+pub fn strict(comparer: &mut Comparer, _: &mut Random, _: usize) {
+    let mut say = |name: &str, history: &[u8], pasts: &[&str], views: &[(u32, &str)], answer: u32, at: Option<u32>, event| {
+        let rows = |rows: Vec<String>| rows.concat();
+        let pasts = rows(pasts.iter().enumerate().map(|(e, past)| format!("{e} {past}\n")).collect());
+        let views = rows(views.iter().map(|(number, order)| format!("{number} {order}\n")).collect());
+        let text = format!("criterion strict\nevent past\n{pasts}view order\n{views}");
+        let places = carried(Criterion::Strict, history, at, event);
+        stated(comparer, name, history, text.as_bytes(), answer, places);
+    };
+    let q = &q().text();
+    say("Q", q, &["-", "0"], &[(0, "0,1"), (1, "0,1")], 0, None, None);
+    // With no pasts, event 1 may have nothing before it in its process's view, and then it finds nothing.
+    say("Q, 0 before 1 and not in its past", q, &["-", "-"], &[(0, "0,1"), (1, "0,1")], 20, Some(1), None);
+    say("Q, 1 before 0 and not in its past", q, &["-", "-"], &[(0, "1,0"), (1, "1,0")], 20, Some(0), None);
+    say("Q, both", q, &["-", "-"], &[(0, "1,0"), (1, "0,1")], 20, Some(0), None);
+    say("Q, neither", q, &["-", "-"], &[(0, "0,1"), (1, "1,0")], 16, Some(1), Some(1));
+    say("Q, the past behind", q, &["-", "0"], &[(0, "0,1"), (1, "1,0")], 15, Some(1), None);
+    say("Q, the past behind in the other's view", q, &["-", "0"], &[(0, "1,0"), (1, "0,1")], 15, Some(0), None);
+    say("Q, not its set", q, &["-", "0"], &[(0, "0,1"), (1, "0")], 14, Some(1), None);
+    say("Q, in its own past", q, &["-", "0,1"], &[(0, "0,1"), (1, "0,1")], 12, None, Some(1));
+    // With the pop's answer lost nothing is asked of it, but where it stands is.
+    let lost = &with_lost(crate::samples::q(), &[1]).text();
+    say("Q lost, neither", lost, &["-", "-"], &[(0, "0,1"), (1, "1,0")], 0, None, None);
+    say("Q lost, 0 before 1", lost, &["-", "-"], &[(0, "0,1"), (1, "0,1")], 20, Some(1), None);
+
+    // W's pasts: under causal each read has the other's write before its own process's write.
+    let w = &w().text();
+    let pasts = ["-", "0,2", "-", "0,2"];
+    say("W", w, &pasts, &[(0, "2,0,1,3"), (1, "0,2,3,1")], 20, Some(0), None);
+    say("W, 16 early and 20 late", w, &pasts, &[(0, "0,2,1,3"), (1, "0,2,3,1")], 20, Some(1), None);
+    say("W, 16 in both", w, &pasts, &[(0, "0,2,1,3"), (1, "2,0,3,1")], 16, Some(0), Some(1));
+    say("W, 20 early and 16 late", w, &pasts, &[(0, "2,0,1,3"), (1, "2,0,3,1")], 20, Some(0), None);
+    say("W, 20 early and 15 late", w, &pasts, &[(0, "2,0,1,3"), (1, "0,3,2,1")], 15, Some(1), None);
+    say("W, 20 early and 14 late", w, &pasts, &[(0, "2,0,1,3"), (1, "0,2,3")], 14, Some(1), None);
+    say("W, 15 and 20 in one view", w, &pasts, &[(0, "2,1,0,3"), (1, "2,0,3,1")], 15, Some(0), None);
+    say("W, past of 1 as 2 only", w, &["-", "2", "-", "0,2"], &[(0, "2,0,1,3"), (1, "0,2,3,1")], 11, None, Some(1));
+    say("W, a past of 3 that 1 lacks", w, &["-", "0,3", "-", "2"], &[(0, "2,0,1,3"), (1, "0,2,3,1")], 13, None, Some(1));
+    // 2 in the past of 0: then 0 can't be in that of 2, and process 1 finds 4 behind 9.
+    let pasts = ["2", "0,2", "-", "0,2"];
+    say("W, 2 in the past of 0", w, &pasts, &[(0, "2,0,1,3"), (1, "2,0,3,1")], 16, Some(1), Some(3));
+    say("W, and 0 before 2", w, &pasts, &[(0, "2,0,1,3"), (1, "0,2,3,1")], 15, Some(1), None);
+
+    // Processes 2 and 5. What stands before another process's event isn't asked; before each own event it is.
+    let three = TWO_AND_FIVE.as_bytes();
+    let pasts = ["-", "-", "1"];
+    say("processes 2 and 5", three, &pasts, &[(2, "0,1,2"), (5, "1,2,0")], 0, None, None);
+    say("0 before 1 in its view", three, &pasts, &[(2, "0,1,2"), (5, "0,1,2")], 20, Some(5), None);
+    say("1 before 0 in its view", three, &pasts, &[(2, "1,0,2"), (5, "1,2,0")], 20, Some(2), None);
+    say("1 before 0, and 0 before 1", three, &pasts, &[(2, "1,0,2"), (5, "0,1,2")], 20, Some(2), None);
+    say("1, and then 2 before 0", three, &pasts, &[(2, "1,2,0"), (5, "1,2,0")], 20, Some(2), None);
+    // 0 in the past of the last own event, which then reads 3, and not of the one before it; the reverse can't be.
+    let pasts = ["-", "-", "0,1"];
+    say("0 before 2 alone", three, &pasts, &[(2, "0,1,2"), (5, "1,0,2")], 16, Some(5), Some(2));
+    say("0 before 1 too", three, &pasts, &[(2, "0,1,2"), (5, "0,1,2")], 20, Some(5), None);
+    say("1 in the past of 0", three, &["1", "-", "1"], &[(2, "1,0,2"), (5, "1,2,0")], 0, None, None);
+    say("2 before 0 besides", three, &["1", "-", "1"], &[(2, "1,2,0"), (5, "1,2,0")], 20, Some(2), None);
+    // What is outside the past need not stand right before the own event.
+    let five = format!("{TWO_AND_FIVE}3 2 0 read - 9\n4 6 0 write 9 -\n");
+    let pasts = ["-", "-", "1", "0,4", "-"];
+    let others = [(5, "1,2,0,4,3"), (6, "4,0,1,2,3")];
+    say("before 3 its past", five.as_bytes(), &pasts, &[(2, "0,4,3,1,2"), others[0], others[1]], 0, None, None);
+    say("1 among its past", five.as_bytes(), &pasts, &[(2, "0,1,4,3,2"), others[0], others[1]], 20, Some(2), None);
+
+    // The stack of document 001, and its view of process 2 with the push of 3 before the last pop.
+    let stack = &stack().text();
+    let sample = String::from_utf8(stack_certificate().text()).expect("it is ASCII");
+    let pasts: Vec<&str> = sample.lines().skip(2).take(8).map(|line| &line[2..]).collect();
+    let (first, second) = ((0, "0,1,2,3,4,5,6,7"), (1, "0,3,4,5,6,7,1,2"));
+    say("the stack", stack, &pasts, &[first, second, (2, "0,6,3,4,7,5,1,2")], 0, None, None);
+    say("3 pushed before 7", stack, &pasts, &[first, second, (2, "0,6,3,4,1,7,5,2")], 20, Some(2), None);
+    say("5 before 7", stack, &pasts, &[first, second, (2, "0,6,3,4,5,7,1,2")], 20, Some(2), None);
+    say("3 before 6", stack, &pasts, &[first, second, (2, "0,3,6,4,7,5,1,2")], 20, Some(2), None);
+    let wider = ["-", "0", "0,1", "0", "0,3", "0,3,4", "0", "0,3,4,5,6"];
+    say("5 in the past of 7", stack, &wider, &[first, second, (2, "0,6,3,4,5,7,1,2")], 16, Some(2), Some(7));
+}
+
 /// What T-02 states of channels, and what follows from its words. A history is written by its capacity and its lines.
 pub fn channels(comparer: &mut Comparer, _: &mut Random, _: usize) {
     use Criterion::{Causal, Converge, Pram, Sequential, Weak};
@@ -394,6 +473,13 @@ pub fn lines(comparer: &mut Comparer, _: &mut Random, _: usize) {
     say(&w, &gap, 13, [2, 1, 6, NONE, 2, 99, 15], "2 1 0 write 9 -");
     say(&w, &causal.replace("3 0,2,3\n", "3 0,3,2\n"), 15, [2, 0, NONE, 3, NONE, 0, 0], "");
     say(&w, &causal.replace("3 0,2,3\n", "3 2,0,3\n"), 16, [2, 1, 7, 3, 3, 115, 16], "3 1 0 read - 4,9");
+    // As strict: 20 at each view, and 16.
+    let strict = "criterion strict\nevent past\n0 -\n1 0,2\n2 -\n3 0,2\nview order\n0 2,0,1,3\n1 0,2,3,1\n";
+    say(&w, strict, 20, [5, 0, NONE, 0, NONE, 0, 0], "");
+    let second = strict.replace("0 2,0,1,3\n", "0 0,2,1,3\n");
+    say(&w, &second, 20, [5, 0, NONE, 1, NONE, 0, 0], "");
+    let neither = second.replace("1 0,2,3,1\n", "1 2,0,3,1\n");
+    say(&w, &neither, 16, [5, 1, 5, 0, 1, 82, 16], "1 0 0 read - 9,4");
     // R: 12.
     let writes = "0 0 0 write 3 -\n1 1 0 write 8 -\n";
     let r = format!("{HEAD}0 register -\n{EVENTS}{writes}2 2 0 read - 3\n3 2 0 read - 8\n4 2 0 read - 3\n");
@@ -418,6 +504,10 @@ pub fn lines(comparer: &mut Comparer, _: &mut Random, _: usize) {
 
 const HEAD: &str = "object kind width\n";
 const EVENTS: &str = "event process object op value answer\n";
+
+/// A register that processes 2 and 5 write and process 5 reads.
+const TWO_AND_FIVE: &str = "object kind width\n0 register -\nevent process object op value answer\n\
+    0 2 0 write 3 -\n1 5 0 write 4 -\n2 5 0 read - 4\n";
 
 /// History texts with the answer, the line and the part that document 01's words give.
 fn history_cases() -> Vec<(String, u32, u32, String)> {
@@ -621,6 +711,24 @@ fn certificate_cases() -> Vec<(String, u32, u32, String)> {
     add(&weak.replace("event past\n", ""), 2, 2, "0 -");
     add(&weak.replace("weak", "pram"), 2, 2, "event past");
     add("criterion converge\nevent past\n0 -\n1 -\n2 1\nview order\n0 0,1,2\n", 0, NONE, "");
+    // Strict has pasts, and pram's views.
+    let strict = "criterion strict\nevent past\n0 -\n1 -\n2 1\nview order\n2 0,1,2\n5 1,2,0\n";
+    add(strict, 0, NONE, "");
+    add(&strict.replace("5 1,2,0\n", ""), 2, 8, "");
+    add(&strict.replace("5 1,2,0\n", "5 1,2,0\n6 0,1,2\n"), 2, 9, "6 0,1,2");
+    add(&strict.replace("5 1,2,0\n", "5 1,2,3\n"), 3, 8, "5 1,2,3");
+    add(&strict.replace("5 1,2,0\n", "5 1,2,0,0\n"), 3, 8, "5 1,2,0,0");
+    add(&strict.replace("5 1,2,0\n", "1 1,2,0\n"), 2, 8, "1 1,2,0");
+    add(&strict.replace("2 0,1,2\n", "0 0,1,2\n"), 2, 7, "0 0,1,2");
+    add(&strict.replace("2 1\n", "2 1,0\n"), 6, 5, "2 1,0");
+    add(&strict.replace("2 1\n", ""), 2, 5, "view order");
+    add(&strict.replace("event past\n", ""), 2, 2, "0 -");
+    add(&strict.replace("strict", "pram"), 2, 2, "event past");
+    add(&strict.replace("strict", "stric"), 2, 1, "criterion stric");
+    add(&strict.replace("strict", "Strict"), 2, 1, "criterion Strict");
+    add(&strict.replace("strict", "stricter"), 2, 1, "criterion stricter");
+    add(&weak.replace("weak", "strict"), 2, 7, "0 0");
+    add("criterion strict\nview order\n2 0,1,2\n5 1,2,0\n", 2, 2, "view order");
     add(&"x".repeat(32_768), 2, 1, &"x".repeat(32_768));
     add(&"x".repeat(32_769), 1, 0, "");
     cases
@@ -649,11 +757,10 @@ pub fn texts(comparer: &mut Comparer, _: &mut Random, _: usize) {
         let (answer, places) = if places[1] == 2 { (1, [NONE, 2, 0, NONE, NONE, 0, 0]) } else { (answer, places) };
         stated(comparer, "a history text", text.as_bytes(), &too_long, answer, places);
     }
-    let three = format!("{HEAD}0 register -\n{EVENTS}0 2 0 write 3 -\n1 5 0 write 4 -\n2 5 0 read - 4\n");
     for (text, answer, line, part) in certificate_cases() {
-        let verdict = Document01.check_texts(three.as_bytes(), text.as_bytes());
+        let verdict = Document01.check_texts(TWO_AND_FIVE.as_bytes(), text.as_bytes());
         let places = if answer == 0 { verdict.places() } else { refused(&text, 2, line, &part) };
-        stated(comparer, "a certificate text", three.as_bytes(), text.as_bytes(), answer, places);
+        stated(comparer, "a certificate text", TWO_AND_FIVE.as_bytes(), text.as_bytes(), answer, places);
     }
     // A history with no events: views and pasts there are none of, but for the one view 0.
     let none = format!("{HEAD}{EVENTS}");
@@ -663,6 +770,11 @@ pub fn texts(comparer: &mut Comparer, _: &mut Random, _: usize) {
         ("criterion weak\nevent past\nview order\n", 0, 0, ""),
         ("criterion causal\nevent past\nview order\n", 0, 0, ""),
         ("criterion pram\nview order\n", 0, 0, ""),
+        ("criterion strict\nevent past\nview order\n", 0, 0, ""),
+        ("criterion strict\nevent past\nview order\n0 -\n", 2, 4, "0 -"),
+        ("criterion strict\nevent past\n0 -\nview order\n", 2, 3, "0 -"),
+        ("criterion strict\nevent past\n", 2, 3, ""),
+        ("criterion strict\nview order\n", 2, 2, "view order"),
         ("criterion pram\nview order\n0 -\n", 2, 3, "0 -"),
         ("criterion weak\nevent past\nview order\n0 -\n", 2, 4, "0 -"),
         ("criterion weak\nevent past\n0 -\nview order\n", 2, 3, "0 -"),
@@ -675,9 +787,47 @@ pub fn texts(comparer: &mut Comparer, _: &mut Random, _: usize) {
     }
 }
 
+/// A weakening is added by its history, certificate text, wanted number, and the answer or the text.
+type Adds<'a> = dyn FnMut(&History, &str, u32, Result<&str, u32>) + 'a;
+
+/// Weakenings from strict, written down by hand.
+fn strict_weakenings(add: &mut Adds) {
+    // The stack: each event's view is its process's view up to and with it.
+    let pasts = "event past\n0 -\n1 0\n2 0,1\n3 0\n4 0,3\n5 0,3,4\n6 0\n7 0,3,4,6\n";
+    let views = "view order\n0 0,1,2,3,4,5,6,7\n1 0,3,4,5,6,7,1,2\n2 0,6,3,4,7,5,1,2\n";
+    let parts = "view order\n0 0\n1 0,1\n2 0,1,2\n3 0,3\n4 0,3,4\n5 0,3,4,5\n6 0,6\n7 0,6,3,4,7\n";
+    let strict = format!("criterion strict\n{pasts}{views}");
+    add(&stack(), &strict, 0, Ok(&format!("criterion pram\n{views}")));
+    add(&stack(), &strict, 1, Ok(&format!("criterion weak\n{pasts}{parts}")));
+    add(&stack(), &strict, 2, Ok(&format!("criterion causal\n{pasts}{parts}")));
+    add(&stack(), &strict, 5, Ok(&strict));
+    for wanted in [3, 4, 6, 7, 255, 261, NONE] {
+        add(&stack(), &strict, wanted, Err(17));
+    }
+    // Processes 2 and 5: views are found by their process's number, which is no place of a list and no event's number.
+    let three = HistoryRules::read_history(&Document01, TWO_AND_FIVE.as_bytes()).expect("it reads");
+    let pasts = "event past\n0 -\n1 -\n2 1\n";
+    let strict = format!("criterion strict\n{pasts}view order\n2 0,1,2\n5 1,2,0\n");
+    add(&three, &strict, 0, Ok("criterion pram\nview order\n2 0,1,2\n5 1,2,0\n"));
+    add(&three, &strict, 1, Ok(&format!("criterion weak\n{pasts}view order\n0 0\n1 1\n2 1,2\n")));
+    add(&three, &strict, 2, Ok(&format!("criterion causal\n{pasts}view order\n0 0\n1 1\n2 1,2\n")));
+    add(&three, &strict, 5, Ok(&strict));
+    // 20: W's writes. To converge and sequential there is no pair.
+    let pasts = "event past\n0 -\n1 0,2\n2 -\n3 0,2\n";
+    let outside = format!("criterion strict\n{pasts}view order\n0 2,0,1,3\n1 0,2,3,1\n");
+    // 16 at view 0, and 20 at view 1: 20 comes first. 15 comes before both.
+    let both = format!("criterion strict\n{pasts}view order\n0 0,2,1,3\n1 0,2,3,1\n");
+    let against = format!("criterion strict\n{pasts}view order\n0 2,0,1,3\n1 0,3,2,1\n");
+    for (wanted, pair) in [(0, true), (1, true), (2, true), (3, false), (4, false), (5, true), (6, false)] {
+        add(&w(), &outside, wanted, Err(if pair { 20 } else { 17 }));
+        add(&w(), &both, wanted, Err(if pair { 20 } else { 17 }));
+        add(&w(), &against, wanted, Err(if pair { 15 } else { 17 }));
+    }
+}
+
 /// Weakenings written down by hand: history, certificate text, wanted, and the answer or the text.
 fn weakening_cases() -> Vec<(History, String, u32, Result<String, u32>)> {
-    use Criterion::{Causal, Converge, Pram, Weak};
+    use Criterion::{Causal, Converge, Pram, Sequential, Strict, Weak};
     let mut cases = vec![];
     let mut add = |history: &History, certificate: &str, wanted: u32, expected: Result<&str, u32>| {
         cases.push((history.clone(), certificate.to_string(), wanted, expected.map(str::to_string)));
@@ -689,6 +839,7 @@ fn weakening_cases() -> Vec<(History, String, u32, Result<String, u32>)> {
     add(&q(), sequential, 2, Ok(&format!("criterion causal\n{both}0 0\n1 0,1\n")));
     add(&q(), sequential, 3, Ok(&format!("criterion converge\n{both}0 0,1\n")));
     add(&q(), sequential, 4, Ok(sequential));
+    add(&q(), sequential, 5, Ok(&format!("criterion strict\n{both}0 0,1\n1 0,1\n")));
     // past(e) rises, whatever the order is.
     let mut three = q();
     three.events.swap(0, 1);
@@ -701,6 +852,7 @@ fn weakening_cases() -> Vec<(History, String, u32, Result<String, u32>)> {
     add(&three, order, 2, Ok(&format!("criterion causal\n{pasts}0 2,1,0\n1 2,1\n2 2\n")));
     add(&three, order, 3, Ok(&format!("criterion converge\n{pasts}0 2,1,0\n")));
     add(&three, order, 4, Ok(order));
+    add(&three, order, 5, Ok(&format!("criterion strict\n{pasts}0 2,1,0\n2 2,1,0\n5 2,1,0\n")));
     // W: the view of the process's last event, then all other events rising.
     let lists = "event past\n0 -\n1 0,2\n2 -\n3 0,2\nview order\n0 0\n1 2,0,1\n2 2\n3 0,2,3\n";
     let causal = format!("criterion causal\n{lists}");
@@ -719,6 +871,12 @@ fn weakening_cases() -> Vec<(History, String, u32, Result<String, u32>)> {
     add(&none, empty, 2, Ok("criterion causal\nevent past\nview order\n"));
     add(&none, empty, 3, Ok("criterion converge\nevent past\nview order\n0 -\n"));
     add(&none, empty, 4, Ok(empty));
+    let strict = "criterion strict\nevent past\nview order\n";
+    add(&none, empty, 5, Ok(strict));
+    for criterion in [Pram, Weak, Causal, Strict] {
+        let pasts = if criterion == Pram { "" } else { "event past\n" };
+        add(&none, strict, criterion.number(), Ok(&format!("criterion {}\n{pasts}view order\n", criterion.word())));
+    }
     // Lost answers: the same texts are made, where the check accepts what it would refuse else.
     let lost = with_lost(q(), &[1]);
     let pasts = "event past\n0 1\n1 -\nview order\n";
@@ -728,6 +886,7 @@ fn weakening_cases() -> Vec<(History, String, u32, Result<String, u32>)> {
     add(&lost, turned, 2, Ok(&format!("criterion causal\n{pasts}0 1,0\n1 1\n")));
     add(&lost, turned, 3, Ok(&format!("criterion converge\n{pasts}0 1,0\n")));
     add(&lost, turned, 4, Ok(turned));
+    add(&lost, turned, 5, Ok(&format!("criterion strict\n{pasts}0 1,0\n1 1,0\n")));
     add(&lost, "criterion sequential\nview order\n0 1\n", 0, Err(14));
     add(&with_lost(q(), &[0]), turned, 0, Err(16));
     let other = causal.replace("1 2,0,1\n", "1 0,2,1\n");
@@ -743,6 +902,7 @@ fn weakening_cases() -> Vec<(History, String, u32, Result<String, u32>)> {
     add(&one_slot(), order, 2, Ok(&format!("criterion causal\n{pasts}0 0\n1 0,1\n2 0,1,2\n")));
     add(&one_slot(), order, 3, Ok(&format!("criterion converge\n{pasts}0 0,1,2\n")));
     add(&one_slot(), order, 4, Ok(order));
+    add(&one_slot(), order, 5, Ok(&format!("criterion strict\n{pasts}0 0,1,2\n1 0,1,2\n")));
     add(&one_slot(), "criterion sequential\nview order\n0 1,0,2\n", 0, Err(16));
     // Neither push knows of the other: each has the one slot in its own view, and so it is in the weakened ones.
     let mut both = one_slot();
@@ -754,7 +914,8 @@ fn weakening_cases() -> Vec<(History, String, u32, Result<String, u32>)> {
     let cut = "criterion converge\nevent past\n0 -\n1 -\nview order\n0 1,0\n";
     add(&both, cut, 1, Ok(&format!("criterion weak\n{apart}")));
     add(&both, cut, 0, Err(17));
-    // 17: not a pair, and none is wanted by a number past 4.
+    strict_weakenings(&mut add);
+    // 17: not a pair, and none is wanted by a number past 5.
     let weak = format!("criterion weak\n{lists}");
     let pram = "criterion pram\nview order\n0 0,1\n1 0,1\n";
     for wanted in [1, 2, 3, 4, 5, 6, 256, NONE] {
@@ -764,7 +925,7 @@ fn weakening_cases() -> Vec<(History, String, u32, Result<String, u32>)> {
         add(&w(), &weak, wanted, Err(17));
     }
     for (criterion, text) in [(Causal, &causal), (Converge, &converge)] {
-        for other in [Pram, Causal, Converge, Criterion::Sequential] {
+        for other in [Pram, Causal, Converge, Sequential, Strict] {
             if other != criterion && (criterion, other) != (Causal, Pram) {
                 let history = if criterion == Causal { w() } else { c() };
                 add(&history, text, other.number(), Err(17));
@@ -773,18 +934,18 @@ fn weakening_cases() -> Vec<(History, String, u32, Result<String, u32>)> {
     }
     add(&w(), &weak, Weak.number(), Ok(&weak));
     // 1: too long, whatever is wanted.
-    for wanted in [0, 4, 5, NONE] {
+    for wanted in [0, 4, 5, 6, NONE] {
         add(&q(), &"x".repeat(32_769), wanted, Err(1));
         add(&q(), &"x".repeat(32_768), wanted, Err(2));
     }
-    // 17 comes before 11 to 16, and these before 18; reading refusals come first.
+    // 17 comes before 11 to 16 and 20, and these before 18; reading refusals come first.
     let turned = "criterion sequential\nview order\n0 1,0\n";
-    for wanted in 0..5 {
+    for wanted in 0..6 {
         add(&q(), turned, wanted, Err(16));
         add(&q(), "criterion sequential\nview order\n0 0\n", wanted, Err(14));
         add(&q(), "criterion sequential\nview order\n0 0,2\n", wanted, Err(3));
     }
-    for wanted in [5, 6, 255, 65_536] {
+    for wanted in [6, 7, 255, 65_536] {
         add(&q(), turned, wanted, Err(17));
         add(&q(), sequential, wanted, Err(17));
         add(&q(), "criterion sequential\nview order\n0 0,2\n", wanted, Err(3));

@@ -10,7 +10,7 @@ use crate::group_memory::lengths_around;
 use crate::group_random::pair;
 use crate::history::HISTORY_LIMIT;
 use crate::random::Random;
-use crate::weaken::{is_pair, weakened};
+use crate::weaken::{is_pair, weaken_texts, weakened};
 
 /// The model's weakened texts are accepted.
 pub fn accepted(comparer: &mut Comparer, random: &mut Random, rounds: usize) {
@@ -31,22 +31,25 @@ pub fn accepted(comparer: &mut Comparer, random: &mut Random, rounds: usize) {
     }
 }
 
-/// The numbers wanted: the five, and others that must not be taken for them.
-const WANTED: [u32; 13] = [0, 1, 2, 3, 4, 5, 6, 255, 256, 260, 65_536, 0x8000_0000, 0xFFFF_FFFF];
+/// The numbers wanted: the six, and others that must not be taken for them.
+const WANTED: [u32; 15] = [0, 1, 2, 3, 4, 5, 6, 7, 255, 256, 260, 261, 65_536, 0x8000_0000, 0xFFFF_FFFF];
+
+/// One certificate weakened to each wanted number, into buffers of every length around the text's.
+pub fn into_buffers(comparer: &mut Comparer, history: &[u8], certificate: &[u8]) {
+    for wanted in 0..=7 {
+        // On a refusal the lengths around the given text are tried.
+        let length = weaken_texts(&Document01, history, certificate, wanted).map_or(certificate.len(), |text| text.len());
+        for buffer in lengths_around(length) {
+            comparer.compare(Call::Weaken { wanted, buffer }, history, certificate);
+        }
+    }
+}
 
 /// Accepted certificates weakened to each wanted number, into buffers of every length around the text's.
 pub fn buffers(comparer: &mut Comparer, random: &mut Random, rounds: usize) {
-    use crate::weaken::weaken_texts;
     for _ in 0..rounds.div_ceil(16) {
         let (history, certificate) = pair(random);
-        let (history, certificate) = (history.text(), certificate.text());
-        for wanted in 0..=6 {
-            // On a refusal the lengths around the given text are tried.
-            let length = weaken_texts(&Document01, &history, &certificate, wanted).map_or(certificate.len(), |text| text.len());
-            for buffer in lengths_around(length) {
-                comparer.compare(Call::Weaken { wanted, buffer }, &history, &certificate);
-            }
-        }
+        into_buffers(comparer, &history.text(), &certificate.text());
         if comparer.done() {
             return;
         }
@@ -56,13 +59,7 @@ pub fn buffers(comparer: &mut Comparer, random: &mut Random, rounds: usize) {
         let history = crate::make::register_history(64, processes);
         let all: Vec<usize> = (0..64).collect();
         let certificate = crate::certificate::Certificate::new(&history, crate::certificate::Criterion::Sequential, vec![], vec![all]);
-        let (history, certificate) = (history.text(), certificate.text());
-        for wanted in 0..=6 {
-            let length = weaken_texts(&Document01, &history, &certificate, wanted).map_or(certificate.len(), |text| text.len());
-            for buffer in lengths_around(length) {
-                comparer.compare(Call::Weaken { wanted, buffer }, &history, &certificate);
-            }
-        }
+        into_buffers(comparer, &history.text(), &certificate.text());
     }
 }
 

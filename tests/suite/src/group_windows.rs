@@ -188,7 +188,7 @@ pub fn scans(comparer: &mut Comparer, random: &mut Random, rounds: usize) {
             let mut history = scanned(random, width);
             let certificate = certified(random, &mut history, criterion).text();
             hold(comparer, "made to be accepted", &history, &certificate, ACCEPTED);
-            for wanted in 0..=5 {
+            for wanted in 0..=6 {
                 comparer.compare(Call::Weaken { wanted, buffer: 25_000 }, &history.text(), &certificate);
             }
             let reads: List = (0..history.events.len()).filter(|e| history.events[*e].op == Op::Read).collect();

@@ -116,6 +116,74 @@ pub fn random_pasts(random: &mut Random, history: &History) -> Vec<List> {
     pasts
 }
 
+/// What each process with events applies in a random run of a broadcast, all events in an order: a process does its next
+/// event, which then has in its past what the process has applied, or applies another's event when it has applied that
+/// event's past. Gives the pasts and the orders.
+pub fn broadcast(random: &mut Random, history: &History) -> (Vec<List>, Vec<List>) {
+    let events = history.events.len();
+    let processes = history.processes();
+    let rarity = 1 + random.under(6);
+    let mut pasts: Vec<Option<List>> = vec![None; events];
+    let mut applied: Vec<List> = vec![vec![]; processes.len()];
+    while applied.iter().any(|order| order.len() < events) {
+        let turn = random.under(processes.len());
+        let order = &applied[turn];
+        let own = (0..events).find(|e| history.events[*e].process == processes[turn] && pasts[*e].is_none());
+        let comes = |e: &usize| match &pasts[*e] {
+            Some(past) => !order.contains(e) && past.iter().all(|f| order.contains(f)),
+            None => false,
+        };
+        let come: List = (0..events).filter(comes).collect();
+        let e = match own {
+            Some(e) if come.is_empty() || random.once_in(rarity) => {
+                let mut past = order.clone();
+                past.sort_unstable();
+                pasts[e] = Some(past);
+                e
+            }
+            _ if !come.is_empty() => *random.pick(&come),
+            // The process waits for the others.
+            _ => continue,
+        };
+        applied[turn].push(e);
+    }
+    (pasts.into_iter().map(|past| past.expect("every event is done")).collect(), applied)
+}
+
+/// Gives the process's events the answers of a replay of the order.
+fn answer_own(history: &mut History, process: usize, order: &[usize]) {
+    for (e, answer) in order.iter().zip(answers_of(history, order)) {
+        if history.events[*e].process == process {
+            history.events[*e].answer = Some(answer);
+        }
+    }
+}
+
+/// A random view of the last of a process's events, cut to the past of each earlier one: others' events may then stand
+/// before an own one that they are not in the past of. Gives the events the answers of the whole view, unless a cut has
+/// other ones.
+fn cut_views(random: &mut Random, history: &mut History, pasts: &[List], own: &[usize], orders: &mut [List]) -> bool {
+    let last = *own.last().expect("the process has events");
+    let set: List = pasts[last].iter().copied().chain([last]).collect();
+    let whole = random_order(random, &set, &|a, b| pasts[b].contains(&a));
+    let own_answers = |order: &[usize]| -> Vec<(usize, Vec<u64>)> {
+        order.iter().copied().zip(answers_of(history, order)).filter(|(e, _)| own.contains(e)).collect()
+    };
+    let answers = own_answers(&whole);
+    let cut = |e: usize| -> List { whole.iter().copied().filter(|f| *f == e || pasts[e].contains(f)).collect() };
+    let cuts: Vec<List> = own.iter().map(|e| cut(*e)).collect();
+    if !cuts.iter().all(|order| answers.starts_with(&own_answers(order))) {
+        return false;
+    }
+    for (e, order) in own.iter().zip(cuts) {
+        orders[*e] = order;
+    }
+    for (e, answer) in answers {
+        history.events[e].answer = Some(answer);
+    }
+    true
+}
+
 /// Gives the history answers that meet the criterion, none of them lost, and the certificate that says so.
 pub fn certified(random: &mut Random, history: &mut History, criterion: Criterion) -> Certificate {
     let all: List = (0..history.events.len()).collect();
@@ -132,11 +200,7 @@ pub fn certified(random: &mut Random, history: &mut History, criterion: Criterio
         Criterion::Pram => {
             for process in history.processes() {
                 let order = random_order(random, &all, &|a, b| history.program_order(a, b));
-                for (e, answer) in order.iter().zip(answers_of(history, &order)) {
-                    if history.events[*e].process == process {
-                        history.events[*e].answer = Some(answer);
-                    }
-                }
+                answer_own(history, process, &order);
                 orders.push(order);
             }
         }
@@ -161,14 +225,24 @@ pub fn certified(random: &mut Random, history: &mut History, criterion: Criterio
                 orders = vec![whole];
             }
         }
+        Criterion::Strict => {
+            (pasts, orders) = broadcast(random, history);
+            for (process, order) in history.processes().into_iter().zip(&orders) {
+                answer_own(history, process, order);
+            }
+        }
         Criterion::Causal => {
             pasts = random_pasts(random, history);
             let before = |a: usize, b: usize| pasts[b].contains(&a);
             orders = vec![vec![]; all.len()];
             for process in history.processes() {
+                let own: List = all.iter().copied().filter(|e| history.events[*e].process == process).collect();
+                if random.once_in(2) && cut_views(random, history, &pasts, &own, &mut orders) {
+                    continue;
+                }
                 // The view of a process grows by what is new in the past of each of its events.
                 let mut order: List = vec![];
-                for e in all.iter().copied().filter(|e| history.events[*e].process == process).collect::<List>() {
+                for e in own {
                     let new: List = pasts[e].iter().copied().filter(|event| !order.contains(event)).collect();
                     order.extend(random_order(random, &new, &before));
                     order.push(e);

@@ -1,7 +1,7 @@
-//! The sample dispensers of document 01 (C as T-04 of document 02 has it), the same with lost answers, small histories of
-//! channels and of windows, and the histories of Figure 3 of document 004.
+//! The sample dispensers of document 01 (C as T-04 of document 02 has it), the stack of document 001, the same with lost
+//! answers, small histories of channels and of windows, and the histories of Figure 3 of document 004.
 
-use crate::certificate::{Certificate, Criterion, List};
+use crate::certificate::{Certificate, Criterion, List, CRITERIA};
 use crate::history::{Event, History};
 use crate::objects::{Kind, Object, Op};
 
@@ -93,29 +93,82 @@ pub type Claim = (&'static str, History, Vec<Criterion>, Vec<Criterion>);
 
 /// What document 01 says of the criteria of each sample: those met, and those not met.
 pub fn claims() -> Vec<Claim> {
-    use Criterion::{Causal, Converge, Pram, Sequential, Weak};
+    use Criterion::{Causal, Converge, Pram, Sequential, Strict, Weak};
     vec![
         // Q's certificates of sequential and pram are accepted; sequential can be weakened to all.
-        ("Q", q(), vec![Pram, Weak, Causal, Converge, Sequential], vec![]),
-        // W: causal accepted (so weak and pram too), "never converge or sequential".
-        ("W", w(), vec![Causal, Weak, Pram], vec![Converge, Sequential]),
-        // C: converge accepted (so weak too), "never pram" (so neither causal nor sequential).
-        ("C", c(), vec![Converge, Weak], vec![Pram, Causal, Sequential]),
+        ("Q", q(), CRITERIA.to_vec(), vec![]),
+        // W: causal accepted (so weak and pram too), "never converge or sequential". Each read has the other's write before
+        // its own process's write, so under strict each write would be in the other's past.
+        ("W", w(), vec![Causal, Weak, Pram], vec![Converge, Sequential, Strict]),
+        // C: converge accepted (so weak too), "never pram" (so neither causal nor strict nor sequential).
+        ("C", c(), vec![Converge, Weak], vec![Pram, Causal, Sequential, Strict]),
         // R: "weak; none of the others".
-        ("R", r(), vec![Weak], vec![Pram, Causal, Converge, Sequential]),
+        ("R", r(), vec![Weak], vec![Pram, Causal, Converge, Sequential, Strict]),
         // M: "pram; not weak" (so none of those that can be weakened to weak).
-        ("M", m(), vec![Pram], vec![Weak, Causal, Converge, Sequential]),
-        // "The empty history meets all five."
-        ("empty", History::default(), vec![Pram, Weak, Causal, Converge, Sequential], vec![]),
+        ("M", m(), vec![Pram], vec![Weak, Causal, Converge, Sequential, Strict]),
+        // "The empty history meets all five", and strict.
+        ("empty", History::default(), CRITERIA.to_vec(), vec![]),
+    ]
+}
+
+/// The stack of source document 001, section 4: both other processes pop the first value, each in its own order.
+pub fn stack() -> History {
+    let events = vec![
+        push(0, 1), push(0, 3), pop(0, &[3]), pop(1, &[1]), push(1, 2), pop(1, &[2]), pop(2, &[1]), pop(2, &[2]),
+    ];
+    History { objects: vec![object(Kind::Stack)], events }
+}
+
+/// A strict certificate of the stack that is accepted: the sample of `samples/stack`.
+pub fn stack_certificate() -> Certificate {
+    let pasts: [&[usize]; 8] = [&[], &[0], &[0, 1], &[0], &[0, 3], &[0, 3, 4], &[0], &[0, 3, 4, 6]];
+    let views: [&[usize]; 3] = [&[0, 1, 2, 3, 4, 5, 6, 7], &[0, 3, 4, 5, 6, 7, 1, 2], &[0, 6, 3, 4, 7, 5, 1, 2]];
+    certificate(&stack(), Criterion::Strict, &pasts, &views)
+}
+
+/// Histories that tell strict from its neighbours, by the words of T-06 of document 02.
+pub fn claims_of_strict() -> Vec<Claim> {
+    use Criterion::{Causal, Converge, Pram, Sequential, Strict, Weak};
+    let of = |kind: Kind, events: Vec<Event>| History { objects: vec![object(kind)], events };
+    vec![
+        // 1 is pushed once and popped twice. The view of process 2, cut to each event's past, explains all answers.
+        ("the stack of document 001", stack(), vec![Strict, Causal, Weak, Pram, Converge], vec![Sequential]),
+        // Each reads its own write, and neither needs to know of the other's.
+        (
+            "each reads its own",
+            of(Kind::Register, vec![write(0, 1), read(0, &[1]), write(1, 2), read(1, &[2])]),
+            CRITERIA.to_vec(),
+            vec![],
+        ),
+        // W with a register, `samples/S`: each reads the other's write behind its own, of which it comes to know in between.
+        (
+            "S",
+            of(Kind::Register, vec![write(0, 4), read(0, &[9]), write(1, 9), read(1, &[4])]),
+            vec![Strict, Causal, Weak, Pram],
+            vec![Sequential, Converge],
+        ),
+        // Each pops its own value before it comes to know of the other's push. Each value is popped twice.
+        (
+            "each pops the other's too",
+            of(Kind::Stack, vec![push(0, 1), pop(0, &[1]), pop(0, &[2]), push(1, 2), pop(1, &[2]), pop(1, &[1])]),
+            vec![Strict, Causal, Weak, Pram],
+            vec![Sequential],
+        ),
+        // Each finds the other's push before its own in the queue: under strict each push would be in the other's past.
+        (
+            "each peeks the other's in a queue",
+            of(Kind::Queue, vec![push(0, 1), peek(0, &[2]), push(1, 2), peek(1, &[1])]),
+            vec![Causal, Weak, Pram],
+            vec![Strict, Converge, Sequential],
+        ),
     ]
 }
 
 /// The samples with lost answers, and small histories of one process in which an op whose answer is lost takes effect.
 /// Each with the criteria that it meets and breaks, by the words of documents 01 and 02.
 pub fn claims_of_lost() -> Vec<Claim> {
-    use Criterion::{Causal, Converge, Pram, Sequential, Weak};
-    let all = || vec![Pram, Weak, Causal, Converge, Sequential];
-    // One process: the view of each event has all earlier ones before it, so a history meets all five criteria or none.
+    let all = || CRITERIA.to_vec();
+    // One process: the view of each event has all earlier ones before it, so a history meets all criteria or none.
     let alone = |object: Object, events: Vec<Event>| History { objects: vec![object], events };
     let queue = || object(Kind::Queue);
     let register = || object(Kind::Register);
@@ -160,8 +213,8 @@ pub fn one_slot() -> History {
 
 /// Small histories of one channel, each with the criteria that it meets and breaks by the words of documents 01 and 02.
 pub fn claims_of_channels() -> Vec<Claim> {
-    use Criterion::{Causal, Converge, Pram, Sequential, Weak};
-    let all = || vec![Pram, Weak, Causal, Converge, Sequential];
+    use Criterion::{Causal, Converge, Pram, Sequential, Strict, Weak};
+    let all = || CRITERIA.to_vec();
     let of = |capacity: usize, events: Vec<Event>| History { objects: vec![channel(capacity)], events };
     let lost_push = |value: u64| lost(push(0, value));
     // A push of 5, another one of 6 by the same process, and two pops.
@@ -170,7 +223,7 @@ pub fn claims_of_channels() -> Vec<Claim> {
     };
     vec![
         ("one slot", one_slot(), all(), vec![]),
-        // One process: the view of each event has all earlier ones before it, so a history meets all five or none.
+        // One process: the view of each event has all earlier ones before it, so a history meets all criteria or none.
         ("the last slot", of(1, vec![push(0, 5)]), all(), vec![]),
         ("the last slot refused", of(1, vec![refused(0, 5)]), vec![], all()),
         ("the second slot", of(2, vec![push(0, 5), push(0, 6), refused(0, 7)]), all(), vec![]),
@@ -196,7 +249,7 @@ pub fn claims_of_channels() -> Vec<Claim> {
         (
             "two for one slot",
             of(1, vec![push(0, 5), push(1, 6)]),
-            vec![Pram, Weak, Causal, Converge],
+            vec![Pram, Weak, Causal, Converge, Strict],
             vec![Sequential],
         ),
         // Both refused: each has the other before it in its process's view, and no causal order has both.
@@ -204,41 +257,41 @@ pub fn claims_of_channels() -> Vec<Claim> {
             "none for one slot",
             of(1, vec![refused(0, 5), refused(1, 6)]),
             vec![Pram],
-            vec![Weak, Causal, Converge, Sequential],
+            vec![Weak, Causal, Converge, Sequential, Strict],
         ),
-        // As W, with lost pushes: each process has the other's push in the one slot.
+        // As W, with lost pushes: each process has the other's push in the one slot, so before its own.
         (
             "each peeks the other's",
             of(1, vec![lost_push(4), peek(0, &[9]), lost(push(1, 9)), peek(1, &[4])]),
             vec![Causal, Weak, Pram],
-            vec![Converge, Sequential],
+            vec![Converge, Sequential, Strict],
         ),
         // As C: process 1 comes to know late of a push that then stands before its own and has the one slot.
         (
             "an earlier push known late",
             of(1, vec![push(0, 4), push(1, 9), peek(1, &[9]), peek(1, &[4])]),
             vec![Converge, Weak],
-            vec![Pram, Causal, Sequential],
+            vec![Pram, Causal, Sequential, Strict],
         ),
         // As R: with no pop the slot keeps what it has, so no one view has both.
         (
             "the slot changes twice",
             of(1, vec![push(0, 3), push(1, 8), peek(2, &[3]), peek(2, &[8]), peek(2, &[3])]),
             vec![Weak],
-            vec![Pram, Causal, Converge, Sequential],
+            vec![Pram, Causal, Converge, Sequential, Strict],
         ),
     ]
 }
 
 /// Small histories of one window, each with the criteria that it meets and breaks by the words of documents 01 and 02.
 pub fn claims_of_windows() -> Vec<Claim> {
-    use Criterion::{Causal, Converge, Pram, Sequential, Weak};
-    let all = || vec![Pram, Weak, Causal, Converge, Sequential];
+    use Criterion::{Causal, Converge, Pram, Sequential, Strict, Weak};
+    let all = || CRITERIA.to_vec();
     let of = |width: usize, events: Vec<Event>| History { objects: vec![window(width)], events };
     // Writes of 4, 9 and 7 by one process, and a read with this answer.
     let three = |width: usize, answer: &[u64]| of(width, vec![write(0, 4), write(0, 9), write(0, 7), read(0, answer)]);
     vec![
-        // One process: the view of each event has all earlier ones before it, so a history meets all five or none.
+        // One process: the view of each event has all earlier ones before it, so a history meets all criteria or none.
         ("a window holds nothing at first", of(1, vec![read(0, &[])]), all(), vec![]),
         ("a window of 8 holds nothing at first", of(8, vec![read(0, &[])]), all(), vec![]),
         ("a zero at first", of(1, vec![read(0, &[0])]), vec![], all()),
@@ -267,7 +320,7 @@ pub fn claims_of_windows() -> Vec<Claim> {
         (
             "each reads its own alone",
             of(2, vec![write(0, 4), read(0, &[4]), write(1, 9), read(1, &[9])]),
-            vec![Pram, Weak, Causal, Converge],
+            vec![Pram, Weak, Causal, Converge, Strict],
             vec![Sequential],
         ),
     ]
@@ -295,7 +348,7 @@ pub fn certificate(history: &History, criterion: Criterion, pasts: &[&[usize]], 
 /// where an event or a claim is ours the comment says so. Its windows start as zeros and ours are empty (T-04 of document 02), so the
 /// zeros in front are left out of their answers.
 pub fn figure_3() -> Vec<Claim> {
-    use Criterion::{Causal, Converge, Pram, Sequential, Weak};
+    use Criterion::{Causal, Converge, Pram, Sequential, Strict, Weak};
     let memory = |process: usize, register: char, value: Option<u64>, answer: &[u64]| {
         let op = if value.is_some() { Op::Write } else { Op::Read };
         event(process, register as usize - 'a' as usize, op, value, answer)
@@ -334,27 +387,27 @@ pub fn figure_3() -> Vec<Claim> {
                 write(0, 1), read(0, &[1]), read(0, &[1, 2]), write(1, 2), read(1, &[2]), read(1, &[1, 2]),
             ]),
             vec![Weak, Converge],
-            vec![Pram, Causal, Sequential],
+            vec![Pram, Causal, Sequential, Strict],
         ),
         // "not weak causally consistent"; "not causally consistent". That it is pipelined consistent is ours.
         (
             "b",
             window_2(vec![write(0, 1), read(0, &[2, 1]), read(1, &[1]), write(1, 2)]),
             vec![Pram],
-            vec![Weak, Causal, Converge, Sequential],
+            vec![Weak, Causal, Converge, Sequential, Strict],
         ),
-        // "causally consistent"; "not causally convergent".
+        // "causally consistent"; "not causally convergent". It isn't strict, as W.
         (
             "c",
             window_2(vec![write(0, 1), read(0, &[2, 1]), write(1, 2), read(1, &[1, 2])]),
             vec![Causal, Weak, Pram],
-            vec![Converge, Sequential],
+            vec![Converge, Sequential, Strict],
         ),
         // "sequentially consistent".
         (
             "d",
             window_2(vec![write(0, 1), read(0, &[1]), write(1, 2), read(1, &[1, 2])]),
-            vec![Sequential, Converge, Causal, Weak, Pram],
+            CRITERIA.to_vec(),
             vec![],
         ),
         // "both pipelined consistent and weakly causally consistent, it is not causally consistent".
@@ -364,27 +417,29 @@ pub fn figure_3() -> Vec<Claim> {
                 push(0, 1), pop(0, &[1]), pop(0, &[1]), push(0, 3), push(1, 2), pop(1, &[3]), push(1, 1),
             ]),
             vec![Pram, Weak],
-            vec![Causal, Sequential],
+            vec![Causal, Sequential, Strict],
         ),
         // "causally consistent": both pop in the state 1, 2 and get 1; at their next pop the queue is empty. The text leaves open
-        // who pushes: both ways. That it isn't sequential is ours: 1 is pushed once and popped twice.
+        // who pushes: both ways. That it isn't sequential is ours: 1 is pushed once and popped twice. So is that it is
+        // strict: each process knows of what it needs before it does its next event.
         (
             "f, a push each",
             queue(vec![push(0, 1), pop(0, &[1]), pop(0, &[]), push(1, 2), pop(1, &[1]), pop(1, &[])]),
-            vec![Causal, Weak, Pram],
+            vec![Causal, Weak, Pram, Strict],
             vec![Sequential],
         ),
         (
             "f, one pushes",
             queue(vec![push(0, 1), push(0, 2), pop(0, &[1]), pop(0, &[]), pop(1, &[1]), pop(1, &[])]),
-            vec![Causal, Weak, Pram],
+            vec![Causal, Weak, Pram, Strict],
             vec![Sequential],
         ),
         // g has a queue with "remove head if it is v", which document 01 has not.
         // "In order to satisfy causal consistency, the register c must be set to 3 for the first and to 2 for the second in the
-        // end, which cannot be reconciled with causal convergence." The second history, where both read 3, is ours.
-        ("h, c read as 3 and 2", h(3, 2), vec![Causal, Weak, Pram], vec![Converge, Sequential]),
-        ("h, c read as 3 and 3", h(3, 3), vec![Converge, Weak], vec![Causal, Sequential]),
+        // end, which cannot be reconciled with causal convergence." The second history, where both read 3, is ours. So is
+        // that the first one is strict: each process writes first and comes to know of the other's writes then.
+        ("h, c read as 3 and 2", h(3, 2), vec![Causal, Weak, Pram, Strict], vec![Converge, Sequential]),
+        ("h, c read as 3 and 3", h(3, 3), vec![Converge, Weak], vec![Causal, Sequential, Strict]),
         // "correct for causal memory" (with a linearization for each process), not causally consistent.
         (
             "i",
@@ -406,7 +461,7 @@ pub fn figure_3() -> Vec<Claim> {
                 ],
             ),
             vec![Pram],
-            vec![Causal, Sequential],
+            vec![Causal, Sequential, Strict],
         ),
     ]
 }

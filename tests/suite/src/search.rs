@@ -3,7 +3,8 @@
 //!
 //! A write, or a push onto a queue or a stack, always gives the empty answer, so it needs no more in its past than its
 //! process's earlier events and their pasts: a smaller past puts fewer demands on every other event. The same holds of
-//! an event whose answer is lost. All other events try every past there is, the pushes onto channels too.
+//! an event whose answer is lost. All other events try every past there is, the pushes onto channels too. Under strict
+//! every event does: the past of an update says where it stands in its process's view.
 
 use std::collections::HashSet;
 
@@ -72,7 +73,7 @@ impl Causal<'_> {
         let own = placed.iter().filter(|f| self.history.program_order(**f, e)).fold(0, |set, f| set | closure(*f));
         let event = &self.history.events[e];
         let always_empty = self.history.objects[event.object].answer_lengths(event.op) == [0];
-        if always_empty || event.answer.is_none() {
+        if self.criterion != Criterion::Strict && (always_empty || event.answer.is_none()) {
             return vec![own];
         }
         let mut found = vec![own];
@@ -97,12 +98,27 @@ impl Causal<'_> {
             let Some(recorded) = &self.history.events[e].answer else { return true };
             return crate::make::answers_of(self.history, &cut).last() == Some(recorded);
         }
-        view_of(self.history, set, &before, &|f| self.visible(e, f)).is_some()
+        self.view(e, set, &before).is_some()
+    }
+
+    /// A view of the set that has the answers visible for e. Under strict, each event of e's process comes before all that
+    /// is not in its past.
+    fn view(&self, e: usize, set: Set, past: &dyn Fn(usize) -> Set) -> Option<List> {
+        let process = |f: usize| self.history.events[f].process;
+        let own: List = members(set).into_iter().filter(|f| process(*f) == process(e)).collect();
+        let before = |f: usize| match self.criterion {
+            Criterion::Strict => {
+                let unknown = own.iter().filter(|g| **g != f && past(**g) >> f & 1 == 0);
+                unknown.fold(past(f), |set, g| set | 1 << g)
+            }
+            _ => past(f),
+        };
+        view_of(self.history, set, &before, &|f| self.visible(e, f))
     }
 
     fn visible(&self, e: usize, f: usize) -> bool {
         match self.criterion {
-            Criterion::Causal => self.history.events[e].process == self.history.events[f].process,
+            Criterion::Causal | Criterion::Strict => self.history.events[e].process == self.history.events[f].process,
             _ => e == f,
         }
     }
@@ -159,11 +175,15 @@ pub fn find(history: &History, criterion: Criterion) -> Option<Certificate> {
                 return None;
             }
             let sets: Vec<Set> = pasts.into_iter().map(|past| past.expect("every event is placed")).collect();
-            let views = if criterion == Criterion::Converge {
-                vec![placed]
-            } else {
-                let view = |e: usize| view_of(history, sets[e] | 1 << e, &|f| sets[f], &|f| search.visible(e, f));
-                (0..events).map(|e| view(e).expect("it was found before")).collect()
+            let view = |e: usize, set: Set| search.view(e, set, &|f| sets[f]).expect("it was found before");
+            let first = |process: usize| history.events.iter().position(|event| event.process == process);
+            let views = match criterion {
+                Criterion::Converge => vec![placed],
+                Criterion::Strict => {
+                    let of = |process: usize| view(first(process).expect("the process has events"), all);
+                    history.processes().into_iter().map(of).collect()
+                }
+                _ => (0..events).map(|e| view(e, sets[e] | 1 << e)).collect(),
             };
             Some(Certificate::new(history, criterion, sets.iter().map(|set| members(*set)).collect(), views))
         }

@@ -1,7 +1,7 @@
 //! Wrong checkers, each with one thing spoilt, to show that the comparisons find it. Those of the check and of reading are the model
 //! with one rule overridden; the others wrap the archive and spoil what it gives.
 
-use crate::certificate::{Certificate, CertificateRules, Criterion, View};
+use crate::certificate::{Certificate, CertificateRules, Criterion, List, View, CERTIFICATE_LIMIT};
 use crate::check::{CheckRules, Document01, Fault, Rules, NONE};
 use crate::checker::{Archive, Checker, Lent, Model};
 use crate::history::{line_of_event, Event, EventFields, History, HistoryRules, ObjectFields, CAPACITY_LIMIT};
@@ -100,14 +100,22 @@ wrong_rules!(EmptyAnswersZero ObjectRules {
 
 // Other checks.
 
+/// The first of these faults that there is, in this order.
+fn first_of(rules: &dyn CheckRules, order: &[u32], history: &History, certificate: &Certificate) -> Option<Fault> {
+    order.iter().find_map(|number| match number {
+        11 => rules.lacks_own(history, certificate),
+        12 => rules.in_own_past(certificate),
+        13 => rules.not_transitive(certificate),
+        14 => rules.not_its_set(history, certificate),
+        15 => rules.against(history, certificate),
+        16 => rules.wrong_answer(history, certificate),
+        _ => rules.outside_past(history, certificate),
+    })
+}
+
 wrong_rules!(FifteenFirst CheckRules {
     fn fault(&self, history: &History, certificate: &Certificate) -> Option<Fault> {
-        None.or_else(|| self.lacks_own(history, certificate))
-            .or_else(|| self.in_own_past(certificate))
-            .or_else(|| self.not_transitive(certificate))
-            .or_else(|| self.against(history, certificate))
-            .or_else(|| self.not_its_set(history, certificate))
-            .or_else(|| self.wrong_answer(history, certificate))
+        first_of(self, &[11, 12, 13, 15, 14, 20, 16], history, certificate)
     }
 });
 
@@ -160,9 +168,7 @@ wrong_rules!(ViewByView CheckRules {
         // Each view gets all its faults before the next view is looked at.
         certificate.views.iter().find_map(|view| {
             let only = Certificate { views: vec![view.clone()], ..certificate.clone() };
-            None.or_else(|| self.not_its_set(history, &only))
-                .or_else(|| self.against(history, &only))
-                .or_else(|| self.wrong_answer(history, &only))
+            first_of(self, &[14, 15, 20, 16], history, &only)
         })
     }
 });
@@ -310,7 +316,7 @@ wrong_rules!(ViewsOfPramCounted CertificateRules {
 
 wrong_rules!(CertificateFirst Rules {
     fn read_both(&self, history: &[u8], certificate: &[u8]) -> Result<(History, Certificate), Refusal> {
-        if certificate.len() > crate::certificate::CERTIFICATE_LIMIT {
+        if certificate.len() > CERTIFICATE_LIMIT {
             return Err(Refusal::too_long(Text::Certificate));
         }
         Document01.read_both(history, certificate)
@@ -883,9 +889,10 @@ wrong_line!(NoLineOnEleven, |_, _, fault, right| right.filter(|_| fault.0 != 11)
 wrong_line!(NoLineOnTwelve, |_, _, fault, right| right.filter(|_| fault.0 != 12));
 wrong_line!(NoLineOnThirteen, |_, _, fault, right| right.filter(|_| fault.0 != 13));
 wrong_line!(NoLineAtTheLastEvent, |_, history, fault, right| right.filter(|_| fault.2 != history.events.len().checked_sub(1)));
-// 14 and 15 have a view and no event.
+// 14, 15 and 20 have a view and no event.
 wrong_line!(LineOnFourteen, |text, history, fault, right| if fault.0 == 14 { line_of(text, history, fault.1?) } else { right });
 wrong_line!(LineOnFifteen, |text, history, fault, right| if fault.0 == 15 { line_of(text, history, fault.1?) } else { right });
+wrong_line!(LineOnTwenty, |text, history, fault, right| if fault.0 == 20 { line_of(text, history, fault.1?) } else { right });
 wrong_line!(LineOfTheNextEvent, |text, history, fault, right| line_of(text, history, fault.2? + 1).or(right));
 wrong_line!(LineOfTheEventBefore, |text, history, fault, right| line_of(text, history, fault.2?.wrapping_sub(1)).or(right));
 wrong_line!(LineOfTheObject, |text, history, fault, right| {
@@ -924,6 +931,335 @@ changed_line!(PartWithoutObjects, |text, history, line| {
     (line.start, line.length) = (other.start, other.length);
 });
 
+// Strict, read, checked and weakened wrongly.
+
+/// The rules of strict, each an entry that a wrong checker replaces.
+struct StrictRules {
+    /// The faults of the check, in their order.
+    faults: &'static [u32],
+    /// The same in weakening.
+    refusals: &'static [u32],
+    /// Is 20 asked under the criterion?
+    asked: fn(Criterion) -> bool,
+    /// The views in the order in which 20 looks at them.
+    views: fn(&[View]) -> Vec<View>,
+    /// Is the event one of those of the view that 20 asks about?
+    own: fn(&History, &View, usize) -> bool,
+    /// Of the places of these events in the view, those that 20 looks at.
+    places: fn(&[usize]) -> &[usize],
+    /// Is something wrong with what stands before this place of the view?
+    outside: fn(&Certificate, &View, usize) -> bool,
+    /// The view and the event that 20 carries, for the view with this number.
+    carried: fn(&History, &Certificate, usize) -> (Option<usize>, Option<usize>),
+    /// Does one event come before another in the order that the views of strict extend?
+    before: fn(&History, &Certificate, usize, usize) -> bool,
+    /// Is an answer visible in a view of strict, by whether it is one of the view's process?
+    visible: fn(bool) -> bool,
+    /// The numbers of the views of strict.
+    numbers: fn(&History) -> Vec<usize>,
+    /// Has strict the heading and the lines of the pasts?
+    pasts: fn(&History) -> bool,
+    /// The number for which a wanted one is taken.
+    wanted: fn(u32) -> Option<u32>,
+    /// A pair that there is, or is not.
+    pair: Option<(Criterion, Criterion, bool)>,
+    /// The view of an event that strict is weakened to, by the history and the views that were given.
+    part: fn(&History, &[View], usize) -> List,
+    /// What becomes of a weakened certificate, by the history and the one that was given.
+    weakened: fn(&History, &Certificate, &mut Certificate),
+}
+
+const RIGHT: StrictRules = StrictRules {
+    faults: &[11, 12, 13, 14, 15, 20, 16],
+    refusals: &[11, 12, 13, 14, 15, 20, 16],
+    asked: |criterion| criterion == Criterion::Strict,
+    views: |views| views.to_vec(),
+    own: |history, view, event| history.events[event].process == view.number,
+    places: |places| places,
+    outside: |certificate, view, place| Document01.has_outside_past(certificate, view, place),
+    carried: |_, _, number| (Some(number), None),
+    before: |history, certificate, a, b| Document01.before(history, certificate, a, b),
+    visible: |own| own,
+    numbers: |history| history.processes(),
+    pasts: |_| true,
+    wanted: Some,
+    pair: None,
+    part: |history, views, e| up_to(&view_of(history, views, e).order, e),
+    weakened: |_, _, _| {},
+};
+
+impl ObjectRules for StrictRules {}
+impl NumberRules for StrictRules {}
+impl HistoryRules for StrictRules {}
+
+impl CertificateRules for StrictRules {
+    fn has_pasts(&self, criterion: Criterion, history: &History) -> bool {
+        criterion.has_pasts() && (criterion != Criterion::Strict || (self.pasts)(history))
+    }
+
+    fn view_numbers(&self, criterion: Criterion, history: &History) -> Vec<usize> {
+        if criterion == Criterion::Strict { (self.numbers)(history) } else { criterion.view_numbers(history) }
+    }
+}
+
+impl CheckRules for StrictRules {
+    fn before(&self, history: &History, certificate: &Certificate, a: usize, b: usize) -> bool {
+        let strict = certificate.criterion == Criterion::Strict;
+        if strict { (self.before)(history, certificate, a, b) } else { Document01.before(history, certificate, a, b) }
+    }
+
+    fn breaks_past(&self, history: &History, certificate: &Certificate, view: &View) -> bool {
+        let own = |place: &usize| (self.own)(history, view, view.order[*place]);
+        let places: List = (0..view.order.len()).filter(own).collect();
+        (self.places)(&places).iter().any(|place| (self.outside)(certificate, view, *place))
+    }
+
+    fn outside_past(&self, history: &History, certificate: &Certificate) -> Option<Fault> {
+        if !(self.asked)(certificate.criterion) {
+            return None;
+        }
+        let views = (self.views)(&certificate.views);
+        let view = views.iter().find(|view| self.breaks_past(history, certificate, view))?;
+        let (view, event) = (self.carried)(history, certificate, view.number);
+        Some((20, view, event))
+    }
+
+    fn visible(&self, history: &History, certificate: &Certificate, view: &View, event: usize) -> bool {
+        let right = Document01.visible(history, certificate, view, event);
+        if certificate.criterion == Criterion::Strict { (self.visible)(right) } else { right }
+    }
+
+    fn fault(&self, history: &History, certificate: &Certificate) -> Option<Fault> {
+        first_of(self, self.faults, history, certificate)
+    }
+}
+
+impl Rules for StrictRules {
+    fn wanted(&self, number: u32) -> Option<Criterion> {
+        Document01.wanted((self.wanted)(number)?)
+    }
+
+    fn is_pair(&self, given: Criterion, wanted: Criterion) -> bool {
+        match self.pair {
+            Some((from, to, pair)) if (from, to) == (given, wanted) => pair,
+            _ => Document01.is_pair(given, wanted),
+        }
+    }
+
+    /// What isn't a pair of the list is left as it is.
+    fn weakened(&self, history: &History, certificate: &Certificate, wanted: Criterion) -> Option<Certificate> {
+        let mut weaker = Document01.weakened(history, certificate, wanted).unwrap_or(certificate.clone());
+        if certificate.criterion == Criterion::Strict && matches!(weaker.criterion, Criterion::Causal | Criterion::Weak) {
+            weaker.views.iter_mut().for_each(|view| view.order = (self.part)(history, &certificate.views, view.number));
+        }
+        (self.weakened)(history, certificate, &mut weaker);
+        Some(weaker)
+    }
+
+    fn refusal(&self, history: &History, certificate: &Certificate) -> u32 {
+        first_of(self, self.refusals, history, certificate).map_or(0, |fault| fault.0)
+    }
+}
+
+/// The same faults in another order, in the check and in weakening.
+const fn in_order(order: &'static [u32]) -> StrictRules {
+    StrictRules { faults: order, refusals: order, ..RIGHT }
+}
+
+/// One pair more, or less.
+const fn with_pair(given: Criterion, wanted: Criterion, pair: bool) -> StrictRules {
+    StrictRules { pair: Some((given, wanted, pair)), ..RIGHT }
+}
+
+/// Other lists where strict is weakened.
+const fn weakened_to(weakened: fn(&History, &Certificate, &mut Certificate)) -> StrictRules {
+    StrictRules { weakened, ..RIGHT }
+}
+
+/// The order up to and with the event, or all of it if it lacks the event.
+fn up_to(order: &[usize], e: usize) -> List {
+    let end = order.iter().position(|event| *event == e).map_or(order.len(), |place| place + 1);
+    order[..end].to_vec()
+}
+
+/// The view of the event's process.
+fn view_of<'v>(history: &History, views: &'v [View], e: usize) -> &'v View {
+    views.iter().find(|view| view.number == history.events[e].process).expect("the process has a view")
+}
+
+/// The first event of a process.
+fn first_event(history: &History, process: usize) -> Option<usize> {
+    history.events.iter().position(|event| event.process == process)
+}
+
+/// Wrong checkers of strict with what is wrong with them.
+fn wrong_of_strict() -> Vec<(&'static str, StrictRules)> {
+    use Criterion::{Causal, Converge, Pram, Sequential, Strict, Weak};
+    let of_twenty = |carried| StrictRules { carried, ..RIGHT };
+    let numbered = |numbers| StrictRules { numbers, ..RIGHT };
+    let own = |own| StrictRules { own, ..RIGHT };
+    let outside = |outside| StrictRules { outside, ..RIGHT };
+    let asking = |places| StrictRules { places, ..RIGHT };
+    let seeing = |visible| StrictRules { visible, ..RIGHT };
+    let wanting = |wanted| StrictRules { wanted, ..RIGHT };
+    let part = |part| StrictRules { part, ..RIGHT };
+    vec![
+        ("there is no 20", in_order(&[11, 12, 13, 14, 15, 16])),
+        ("20 after 16", in_order(&[11, 12, 13, 14, 15, 16, 20])),
+        ("20 before 15", in_order(&[11, 12, 13, 14, 20, 15, 16])),
+        ("20 before 14", in_order(&[11, 12, 13, 20, 14, 15, 16])),
+        ("20 before 11", in_order(&[20, 11, 12, 13, 14, 15, 16])),
+        ("weakening has no 20", StrictRules { refusals: &[11, 12, 13, 14, 15, 16], ..RIGHT }),
+        ("weakening has 20 after 16", StrictRules { refusals: &[11, 12, 13, 14, 15, 16, 20], ..RIGHT }),
+        ("weakening has 20 before 15", StrictRules { refusals: &[11, 12, 13, 14, 20, 15, 16], ..RIGHT }),
+        ("20 under every criterion that has pasts", StrictRules { asked: |criterion| criterion.has_pasts(), ..RIGHT }),
+        ("20 names the highest view", StrictRules { views: |views| views.iter().rev().cloned().collect(), ..RIGHT }),
+        ("20 looks at the first view only", StrictRules { views: |views| views.iter().take(1).cloned().collect(), ..RIGHT }),
+        ("20 asks what stands before every event of the view", own(|_, _, _| true)),
+        (
+            "20 asks what stands before the other processes' events",
+            own(|history, view, event| history.events[event].process != view.number),
+        ),
+        ("20 asks only what stands before the first own event", asking(|places| &places[..places.len().min(1)])),
+        ("20 asks only what stands before the last own event", asking(|places| &places[places.len().saturating_sub(1)..])),
+        (
+            "20 asks only for the event right before",
+            outside(|certificate, view, place| {
+                place > 0 && !certificate.pasts[view.order[place]].contains(&view.order[place - 1])
+            }),
+        ),
+        (
+            "20 asks only for the event that stands first",
+            outside(|certificate, view, place| {
+                place > 0 && !certificate.pasts[view.order[place]].contains(&view.order[0])
+            }),
+        ),
+        (
+            "20 carries the place of the view and not its process",
+            of_twenty(|_, certificate, number| (certificate.views.iter().position(|view| view.number == number), None)),
+        ),
+        (
+            "20 carries the number of an event as its view",
+            of_twenty(|history, _, number| (first_event(history, number), None)),
+        ),
+        ("20 carries an event", of_twenty(|history, _, number| (Some(number), first_event(history, number)))),
+        ("20 carries no view", of_twenty(|_, _, _| (None, None))),
+        (
+            "the views of strict need only extend program order",
+            StrictRules { before: |history, _, a, b| history.program_order(a, b), ..RIGHT },
+        ),
+        ("all answers are visible in the views of strict", seeing(|_| true)),
+        ("no answer is visible in the views of strict", seeing(|_| false)),
+        (
+            "the views of strict are counted and not numbered by process",
+            numbered(|history| (0..history.processes().len()).collect()),
+        ),
+        ("strict has a view an event", numbered(|history| Causal.view_numbers(history))),
+        ("strict has one view", numbered(|_| vec![0])),
+        ("strict has a view for processes without events", numbered(|_| (0..8).collect())),
+        (
+            "strict without events has a view line",
+            numbered(|history| if history.events.is_empty() { vec![0] } else { history.processes() }),
+        ),
+        (
+            "strict without events lacks the heading of the pasts",
+            StrictRules { pasts: |history| !history.events.is_empty(), ..RIGHT },
+        ),
+        (
+            "weakening takes the view at the event's number",
+            part(|_, views, e| up_to(&views[e.min(views.len() - 1)].order, e)),
+        ),
+        (
+            "weakening takes the view at the process's number",
+            part(|history, views, e| up_to(&views[history.events[e].process.min(views.len() - 1)].order, e)),
+        ),
+        ("weakening takes the first view of strict", part(|_, views, e| up_to(&views[0].order, e))),
+        (
+            "weakening cuts the view before the event",
+            part(|history, views, e| {
+                let mut part = up_to(&view_of(history, views, e).order, e);
+                part.pop();
+                part
+            }),
+        ),
+        (
+            "weakening takes the whole view for its part",
+            part(|history, views, e| view_of(history, views, e).order.clone()),
+        ),
+        (
+            "weakening makes the part of the view rise",
+            part(|history, views, e| {
+                let mut part = up_to(&view_of(history, views, e).order, e);
+                part.sort_unstable();
+                part
+            }),
+        ),
+        (
+            "weakening cuts the pasts of strict to program order",
+            weakened_to(|history, given, weaker| {
+                if given.criterion == Strict {
+                    weaker.pasts.iter_mut().enumerate().for_each(|(e, past)| past.retain(|f| history.program_order(*f, e)));
+                }
+            }),
+        ),
+        (
+            "weakening from sequential to strict takes parts of the order",
+            weakened_to(|history, given, weaker| {
+                if (given.criterion, weaker.criterion) == (Sequential, Strict) {
+                    for view in &mut weaker.views {
+                        let own = |event: &usize| history.events[*event].process == view.number;
+                        let end = view.order.iter().rposition(own).map_or(0, |place| place + 1);
+                        view.order.truncate(end);
+                    }
+                }
+            }),
+        ),
+        (
+            "weakening from strict to pram makes the others rise",
+            weakened_to(|history, given, weaker| {
+                if (given.criterion, weaker.criterion) == (Strict, Pram) {
+                    for view in &mut weaker.views {
+                        let own = |event: &usize| history.events[*event].process == view.number;
+                        let end = view.order.iter().rposition(own).map_or(0, |place| place + 1);
+                        view.order[end..].sort_unstable();
+                    }
+                }
+            }),
+        ),
+        ("strict is not weakened to itself", with_pair(Strict, Strict, false)),
+        ("sequential is not weakened to strict", with_pair(Sequential, Strict, false)),
+        ("strict is not weakened to causal", with_pair(Strict, Causal, false)),
+        ("strict is not weakened to weak", with_pair(Strict, Weak, false)),
+        ("strict is not weakened to pram", with_pair(Strict, Pram, false)),
+        ("strict is weakened to converge", with_pair(Strict, Converge, true)),
+        ("strict is weakened to sequential", with_pair(Strict, Sequential, true)),
+        ("causal is weakened to strict", with_pair(Causal, Strict, true)),
+        ("pram is weakened to strict", with_pair(Pram, Strict, true)),
+        ("17 for 5", wanting(|number| (number < 5).then_some(number))),
+        ("6 is wanted for strict", wanting(|number| Some(if number == 6 { 5 } else { number }))),
+        ("5 is wanted for sequential", wanting(|number| Some(if number == 5 { 4 } else { number }))),
+    ]
+}
+
+wrong_rules!(TwentyOfEachViewBeforeFifteenOfTheNext CheckRules {
+    fn against(&self, history: &History, certificate: &Certificate) -> Option<Fault> {
+        certificate.views.iter().find_map(|view| {
+            let only = Certificate { views: vec![view.clone()], ..certificate.clone() };
+            first_of(&Document01, &[15, 20], history, &only)
+        })
+    }
+});
+
+wrong_rules!(StrictUnknown CertificateRules {
+    fn read_certificate(&self, history: &History, text: &[u8]) -> Result<Certificate, Refusal> {
+        let first = lines_of(text).into_iter().next().filter(|line| line.of(text) == b"criterion strict");
+        match first {
+            Some(line) if text.len() <= CERTIFICATE_LIMIT => Err(Refusal::faulty(2, Text::Certificate, &line)),
+            _ => Document01.read_certificate(history, text),
+        }
+    }
+});
+
 /// What is spoilt of what the archive gives.
 #[derive(Clone, Copy, PartialEq, Eq, Debug)]
 enum Spoil {
@@ -947,6 +1283,9 @@ enum Spoil {
     RestCleared,
     LineInSevenPlacesOnly,
     PartOfTheCertificate,
+    StrictNumberedSix,
+    NoCriterionOnTwenty,
+    CheckForgetsTwenty,
     WeakenCopies,
     WeakenWantedByte,
     WeakenEighteenAtExactLength,
@@ -1020,7 +1359,7 @@ impl Spoilt {
 impl Checker for Spoilt {
     fn check(&self, history: &[u8], certificate: &[u8]) -> u32 {
         match (self.0, Archive.check(history, certificate)) {
-            (Spoil::CheckForgetsSixteen, 16) => 0,
+            (Spoil::CheckForgetsSixteen, 16) | (Spoil::CheckForgetsTwenty, 20) => 0,
             (_, answer) => answer,
         }
     }
@@ -1057,6 +1396,8 @@ impl Checker for Spoilt {
                 (part[1], part[2]) = (2, line.number as u32);
                 (part[5], part[6]) = (line.start as u32, line.length as u32);
             }
+            Spoil::StrictNumberedSix if part[0] == 5 => part[0] = 6,
+            Spoil::NoCriterionOnTwenty if answer == 20 => part[0] = NONE,
             Spoil::SixPlaces => part[6] = lent.all[lent.start + 6],
             Spoil::EightPlaces if places.length > 7 => places.part()[7] = 0,
             _ => {}
@@ -1175,7 +1516,7 @@ pub fn wrong_checkers() -> Vec<(&'static str, Box<dyn Checker>)> {
     fn spoilt(name: &'static str, spoil: Spoil) -> (&'static str, Box<dyn Checker>) {
         (name, Box::new(Spoilt(spoil)))
     }
-    vec![
+    let mut checkers = vec![
         model("a replay ends one event early", EndsEarly),
         model("another process's pop is left out", LeavesOutPops),
         model("converge is replayed over the whole order", ConvergeWhole),
@@ -1235,7 +1576,7 @@ pub fn wrong_checkers() -> Vec<(&'static str, Box<dyn Checker>)> {
         spoilt("weakening takes 256 for 0", Spoil::WeakenWantedByte),
         spoilt("weakening has 18 for a buffer of exactly the length", Spoil::WeakenEighteenAtExactLength),
         spoilt("weakening writes a byte on 18", Spoil::WeakenByteOnRefusal),
-        spoilt("weakening has 11 to 16 before 17", Spoil::WeakenFaultsBeforeSeventeen),
+        spoilt("weakening has the check's faults before 17", Spoil::WeakenFaultsBeforeSeventeen),
         spoilt("weakening knows more pairs", Spoil::WeakenMorePairs),
         spoilt("weakening to pram ends in another order", Spoil::WeakenOthersFalling),
         model("a lost answer isn't read", LostRefused),
@@ -1324,6 +1665,7 @@ pub fn wrong_checkers() -> Vec<(&'static str, Box<dyn Checker>)> {
         model("a fault at the last event carries no line", NoLineAtTheLastEvent),
         model("14 carries the line of the event with the view's number", LineOnFourteen),
         model("15 carries the line of the event with the view's number", LineOnFifteen),
+        model("20 carries the line of the event with the view's number", LineOnTwenty),
         model("a fault carries the line of the next event", LineOfTheNextEvent),
         model("a fault carries the line of the event before", LineOfTheEventBefore),
         model("a fault carries the line of the event and the next one", LineWithTheNext),
@@ -1346,5 +1688,12 @@ pub fn wrong_checkers() -> Vec<(&'static str, Box<dyn Checker>)> {
         model("the part is counted without the lines of the objects", PartWithoutObjects),
         spoilt("a fault carries its list of the certificate", Spoil::PartOfTheCertificate),
         spoilt("the event's line is left out of a slice of fewer places", Spoil::LineInSevenPlacesOnly),
-    ]
+        model("20 of a view before 15 of the next", TwentyOfEachViewBeforeFifteenOfTheNext),
+        model("strict is not read", StrictUnknown),
+        spoilt("the number of strict is 6", Spoil::StrictNumberedSix),
+        spoilt("20 carries no criterion", Spoil::NoCriterionOnTwenty),
+        spoilt("the check forgets 20 and only the verdict has it", Spoil::CheckForgetsTwenty),
+    ];
+    checkers.extend(wrong_of_strict().into_iter().map(|(name, rules)| model(name, rules)));
+    checkers
 }

@@ -75,7 +75,8 @@ is-word-requires-5 c κs = search needs
 returns-5 : tie.Need-returns-5
 unfolding wordRead isCriterion criterionOf
 returns-5 c =
-    let f4 = c .before .before in
+    let e5 = sym (c .before .is-word5 .ensures) ∙ c .if5 .taken in
+    let f4 = c .before .before .before in
     let e4 = sym (f4 .before .is-word4 .ensures) ∙ f4 .if4 .left in
     let f3 = f4 .before .before .before in
     let e3 = sym (f3 .before .is-word3 .ensures) ∙ f3 .if3 .left in
@@ -83,7 +84,28 @@ returns-5 c =
     let e2 = sym (f2 .before .is-word2 .ensures) ∙ f2 .if2 .left in
     let f1 = f2 .before .before .before in
     let e1 = sym (f1 .before .is-word .ensures) ∙ f1 .if1 .left in
-    rw (e1, e2, e3, e4, ← c .is-word5 .ensures) (pram-or-none (c .is-word5 .result))
+    rw (e1, e2, e3, e4, e5)
+
+slice-aggregate-is-word-6 : tie.Need-slice-aggregate-is-word-6
+slice-aggregate-is-word-6 c = search needs
+
+is-word-requires-6 : tie.Need-is-word-requires-6
+is-word-requires-6 c κs = search needs
+
+returns-6 : tie.Need-returns-6
+unfolding wordRead isCriterion criterionOf
+returns-6 c =
+    let f5 = c .before .before in
+    let e5 = sym (f5 .before .is-word5 .ensures) ∙ f5 .if5 .left in
+    let f4 = f5 .before .before .before in
+    let e4 = sym (f4 .before .is-word4 .ensures) ∙ f4 .if4 .left in
+    let f3 = f4 .before .before .before in
+    let e3 = sym (f3 .before .is-word3 .ensures) ∙ f3 .if3 .left in
+    let f2 = f3 .before .before .before in
+    let e2 = sym (f2 .before .is-word2 .ensures) ∙ f2 .if2 .left in
+    let f1 = f2 .before .before .before in
+    let e1 = sym (f1 .before .is-word .ensures) ∙ f1 .if1 .left in
+    rw (e1, e2, e3, e4, e5, ← c .is-word6 .ensures) (pram-or-none (c .is-word6 .result))
 
 pub read-word-spec : {M : Type 1} → statement M
 read-word-spec =
@@ -103,4 +125,7 @@ read-word-spec =
     returns-4
     slice-aggregate-is-word-5
     is-word-requires-5
-    returns-5)
+    returns-5
+    slice-aggregate-is-word-6
+    is-word-requires-6
+    returns-6)

@@ -1,7 +1,7 @@
--- `view_numbers` meets its contract: each criterion has its numbers. Assumes nothing.
-use mathlib.Core.Path.{_≡_}
+-- `view_numbers` meets its contract: by processes, by events, or the one view. Assumes nothing.
+use mathlib.Core.Path.{_≡_, sym, _∙_}
 use lib.ListN.{length}
-use Rattle.certificate.proofs.NumberingLaws.{process-views, weak-views, causal-views, converge-view, sequential-view}
+use Rattle.certificate.proofs.NumberingLaws.{process-views, event-views, one-view}
 use borrow.Author.Needs.{needs}
 use Rattle.certificate.proofs.numbers.view_numbers.Statement.{statement}
 use Rattle.certificate.proofs.numbers.view_numbers.Tie as tie
@@ -9,77 +9,50 @@ use Rattle.certificate.proofs.numbers.view_numbers.Tie as tie
 events-long : (c : tie.Start) → length (c .args .events) ≡ 64
 events-long c = search needs
 
-enum-told : tie.Need-enum-told
-enum-told c = search needs
+process-each-requires : tie.Need-process-each-requires
+process-each-requires c κs = search needs
 
 process-numbers-requires : tie.Need-process-numbers-requires
 process-numbers-requires c κs = search needs
 
-enum-told-2 : tie.Need-enum-told-2
-enum-told-2 c = search needs
+returns : tie.Need-returns
+returns c =
+    let s = c .before .before .before in
+    process-views _ (s .args .events) (s .args .n) (s .pre) (events-long s) _
+    (sym (c .before .before .process-each .ensures) ∙ c .before .if1 .taken) (c .process-numbers .ensures)
+
+event-each-requires : tie.Need-event-each-requires
+event-each-requires c κs = search needs
 
 event-numbers-requires : tie.Need-event-numbers-requires
 event-numbers-requires c κs = search needs
 
-enum-told-3 : tie.Need-enum-told-3
-enum-told-3 c = search needs
-
-event-numbers-requires-2 : tie.Need-event-numbers-requires-2
-event-numbers-requires-2 c κs = search needs
-
-enum-told-4 : tie.Need-enum-told-4
-enum-told-4 c = search needs
+returns-2 : tie.Need-returns-2
+returns-2 c =
+    let s = c .before .before .before .before .before in
+    event-views _ (s .args .events) (s .args .n) (s .pre) (events-long s) _
+    (sym (c .before .before .event-each .ensures) ∙ c .before .if2 .taken) (c .event-numbers .ensures)
 
 one-number-requires : tie.Need-one-number-requires
 one-number-requires c κs = search needs
 
-enum-told-5 : tie.Need-enum-told-5
-enum-told-5 c = search needs
-
-one-number-requires-2 : tie.Need-one-number-requires-2
-one-number-requires-2 c κs = search needs
-
-returns : tie.Need-returns
-returns c =
-    let s = c .before .before .before in
-    process-views _ (s .args .events) (s .args .n) (s .pre) (events-long s) _ (c .before .enum-told .given .1) (c .process-numbers .ensures)
-
-returns-2 : tie.Need-returns-2
-returns-2 c =
-    let s = c .before .before .before in
-    weak-views _ (s .args .events) (s .args .n) (s .pre) (events-long s) _ (c .before .enum-told2 .given .1) (c .event-numbers .ensures)
-
 returns-3 : tie.Need-returns-3
 returns-3 c =
-    let s = c .before .before .before in
-    causal-views _ (s .args .events) (s .args .n) (s .pre) (events-long s) _ (c .before .enum-told3 .given .1) (c .event-numbers2 .ensures)
-
-returns-4 : tie.Need-returns-4
-returns-4 c =
-    let s = c .before .before .before in
-    converge-view _ (s .args .events) (s .args .n) (s .pre) (events-long s) _ (c .before .enum-told4 .given .1) (c .one-number .ensures)
-
-returns-5 : tie.Need-returns-5
-returns-5 c =
-    let s = c .before .before .before in
-    sequential-view _ (s .args .events) (s .args .n) (s .pre) (events-long s) _ (c .before .enum-told5 .given .1) (c .one-number2 .ensures)
+    let e = c .before .before .before in
+    let s = e .before .before in
+    one-view _ (s .args .events) (s .args .n) (s .pre) (events-long s) _
+    (sym (e .before .process-each .ensures) ∙ e .if1 .left)
+    (sym (c .before .before .event-each .ensures) ∙ c .before .if2 .left) (c .one-number .ensures)
 
 pub view-numbers-spec : {M : Type 1} → statement M
 view-numbers-spec =
     tie.close
     (tie.spec
-    enum-told
+    process-each-requires
     process-numbers-requires
-    enum-told-2
-    event-numbers-requires
-    enum-told-3
-    event-numbers-requires-2
-    enum-told-4
-    one-number-requires
-    enum-told-5
-    one-number-requires-2
     returns
+    event-each-requires
+    event-numbers-requires
     returns-2
-    returns-3
-    returns-4
-    returns-5)
+    one-number-requires
+    returns-3)

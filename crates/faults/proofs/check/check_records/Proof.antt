@@ -4,6 +4,7 @@ use Rattle.faults.proofs.check.check_records.Statement.{statement}
 use Rattle.faults.proofs.check.check_records.Tie as tie
 use Rattle.faults.proofs.check.check_records.Reads as reads
 use Rattle.faults.proofs.check.check_records.Lts as lts
+use Rattle.certificate.proofs.numbers.event_each.Reads as event-each-reads
 use Rattle.certificate.proofs.numbers.view_numbers.Reads as view-numbers-reads
 use Rattle.faults.proofs.finding.is_found.Reads as is-found-reads
 use Rattle.faults.proofs.order.order_fault.Reads as order-fault-reads
@@ -11,21 +12,23 @@ use Rattle.faults.proofs.order.order_rows.Reads as order-rows-reads
 use Rattle.faults.proofs.order.past_count.Reads as past-count-reads
 use Rattle.faults.proofs.order.processes_of.Reads as processes-of-reads
 use Rattle.faults.proofs.replayed.replay_fault.Reads as replay-fault-reads
-use Rattle.faults.proofs.viewed.event_each.Reads as event-each-reads
+use Rattle.faults.proofs.viewed.strict_count.Reads as strict-count-reads
 use Rattle.faults.proofs.viewed.view_fault.Reads as view-fault-reads
 use Rattle.orders.proofs.listed.program_rows.Reads as program-rows-reads
 use Prim.Native.Nat.{ℕ, _≤_}
 use native.Mathlib.Omega.{arith}
-use mathlib.Core.Path.{_≡_, sym, ap, _∙_}
+use mathlib.Core.Path.{_≡_, sym, ap, ap₂, _∙_}
 use mathlib.Core.Bool.{Bool, true, false, cond}
 use lib.ListN.{length}
 use Rattle.history.specs.Record.{eventsIn}
 use Rattle.certificate.specs.Criteria.{hasPasts, viewNumbers}
+use Rattle.certificate.specs.Steps.Numbers.{eventEach}
 use Rattle.criteria.specs.History.{programOrder}
+use Rattle.criteria.specs.Certificate.{isStrict}
 use Rattle.criteria.specs.Records.{historyOf}
 use Rattle.orders.specs.Rows.{IsOrder}
 use Rattle.faults.specs.Finding.{findingOf, isFound}
-use Rattle.faults.specs.Steps.{orderFault, viewFault, eventEach}
+use Rattle.faults.specs.Steps.{orderFault, viewFault}
 use Rattle.faults.proofs.RecordFacts.{process-small}
 use Rattle.faults.proofs.CheckLaws.{few-of, program-of, number-count, number-at, short-past, short-views, event-views, order-answers, view-answers, replay-answers}
 
@@ -57,14 +60,22 @@ order-found c =
 none-found : (c : tie.Else1) → isFound (findingOf (c .before .before .order-fault .result)) ≡ false
 none-found c = search needs
 
+abbrev ordered : tie.After-view-fault → tie.After-order-fault
+ordered c = c .before .before .before .before .before .before
+
+abbrev numbered : tie.After-view-fault → tie.After-view-numbers
+numbered c = ordered c .before .before .before .before .before .before .before .before
+
 view-found : (c : tie.After-view-fault)
     → findingOf (c .view-fault .result)
-    ≡ viewFault (eventEach (begin (c .before .before .before .before .before) .args .c .criterion)) (begin (c .before .before .before .before .before) .args .views .now) (begin (c .before .before .before .before .before) .args .c .lengths)
-    (c .before .before .before .before .before .before .before .before .before .before .before .before .before .view-numbers .result .numbers)
-    (c .before .before .before .before .before .before .before .before .before .order-rows .result)
-    (c .before .before .before .before .before .before .before .before .before .before .before .before .before .view-numbers .result .count)
-    (begin (c .before .before .before .before .before) .args .h .count)
-view-found c = c .view-fault .ensures ∙ ap (λ (b : Bool). viewFault b (begin (c .before .before .before .before .before) .args .views .now) (begin (c .before .before .before .before .before) .args .c .lengths) (c .before .before .before .before .before .before .before .before .before .before .before .before .before .view-numbers .result .numbers) (c .before .before .before .before .before .before .before .before .before .order-rows .result) (c .before .before .before .before .before .before .before .before .before .before .before .before .before .view-numbers .result .count) (begin (c .before .before .before .before .before) .args .h .count)) (c .before .before .event-each .ensures)
+    ≡ viewFault (eventEach (begin (ordered c) .args .c .criterion)) (begin (ordered c) .args .views .now) (begin (ordered c) .args .c .lengths)
+    (numbered c .view-numbers .result .numbers) (ordered c .before .before .before .before .order-rows .result)
+    (ordered c .before .before .before .before .before .before .processes-of .result) (numbered c .view-numbers .result .count)
+    (cond (isStrict (begin (ordered c) .args .c .criterion)) (numbered c .view-numbers .result .count) 0) (begin (ordered c) .args .h .count)
+view-found c =
+    c .view-fault .ensures
+    ∙ ap₂ (λ (b : Bool) (n : ℕ). viewFault b (begin (ordered c) .args .views .now) (begin (ordered c) .args .c .lengths) (numbered c .view-numbers .result .numbers) (ordered c .before .before .before .before .order-rows .result) (ordered c .before .before .before .before .before .before .processes-of .result) (numbered c .view-numbers .result .count) n (begin (ordered c) .args .h .count))
+    (c .before .before .before .event-each .ensures) (c .before .before .strict-count .ensures)
 
 no-view : (c : tie.Else2) → isFound (findingOf (c .before .before .view-fault .result)) ≡ false
 no-view c = search needs
@@ -111,20 +122,29 @@ returns c =
     let v = r .before .before .before .before in
     order-answers (s .args .h) (s .pre .0) (s .args .c) (s .args .views .now) (s .pre .1) (few-views v)
     (r .before .program-rows .result) (r .order-rows .result) (is-program (r .before)) (r .order-rows .ensures)
-    (v .view-numbers .result) (v .view-numbers .ensures .0)
+    (v .view-numbers .result) (v .view-numbers .ensures .0) (r .before .before .processes-of .result) (r .before .before .processes-of .ensures)
     (findingOf (o .order-fault .result)) (order-found o) (search needs)
 
 event-each-requires : tie.Need-event-each-requires
 event-each-requires c κs = search needs
 
+strict-count-requires : tie.Need-strict-count-requires
+strict-count-requires c κs = search needs
+
+no-more-views : (p : Bool) (m : ℕ) → cond p m 0 ≤ m
+no-more-views true m = omega arith
+no-more-views false m = omega arith
+
 view-fault-requires : tie.Need-view-fault-requires
 view-fault-requires c κs =
-    let o = c .before .before .before .before in
+    let o = c .before .before .before .before .before in
+    let t = c .before in
     let s = begin o in
     let v = o .before .before .before .before .before .before .before .before in (
       v .view-numbers .ensures .1,
       few-of (s .args .h) (s .pre .0),
       short-views (s .args .h) (s .pre .0) (s .args .c) (s .args .views .now) (s .pre .1) (few-views v) (v .view-numbers .result .count) (v .view-numbers .ensures .1),
+      omega (arith, t .strict-count .ensures, no-more-views (isStrict (s .args .c .criterion)) (v .view-numbers .result .count)),
     )
 
 is-found-requires-2 : tie.Need-is-found-requires-2
@@ -133,18 +153,18 @@ is-found-requires-2 c κs = search needs
 returns-2 : tie.Need-returns-2
 returns-2 c =
     let f = c .before .before in
-    let o = f .before .before .before .before .before in
+    let o = ordered f in
     let s = begin o in
     let r = o .before .before .before .before in
     let v = r .before .before .before .before in
     view-answers (s .args .h) (s .pre .0) (s .args .c) (s .args .views .now) (s .pre .1) (few-views v)
     (r .before .program-rows .result) (r .order-rows .result) (is-program (r .before)) (r .order-rows .ensures)
-    (v .view-numbers .result) (v .view-numbers .ensures .0)
-    (findingOf (o .order-fault .result)) (findingOf (f .view-fault .result)) (order-found o) (none-found (f .before .before .before)) (view-found f) (sym (c .before .is-found2 .ensures) ∙ c .if2 .taken)
+    (v .view-numbers .result) (v .view-numbers .ensures .0) (r .before .before .processes-of .result) (r .before .before .processes-of .ensures)
+    (findingOf (o .order-fault .result)) (findingOf (f .view-fault .result)) (order-found o) (none-found (f .before .before .before .before)) (view-found f) (sym (c .before .is-found2 .ensures) ∙ c .if2 .taken)
 
 replay-fault-requires : tie.Need-replay-fault-requires
 replay-fault-requires c κs =
-    let o = c .before .before .before .before .before .before .before .before in
+    let o = c .before .before .before .before .before .before .before .before .before in
     let s = begin o in
     let v = o .before .before .before .before .before .before .before .before in (
       s .pre .0,
@@ -157,14 +177,14 @@ replay-fault-requires c κs =
 returns-3 : tie.Need-returns-3
 returns-3 c =
     let f = c .before .before .before .before in
-    let o = f .before .before .before .before .before in
+    let o = ordered f in
     let s = begin o in
     let r = o .before .before .before .before in
     let v = r .before .before .before .before in
     replay-answers (s .args .h) (s .pre .0) (s .args .c) (s .args .views .now) (s .pre .1) (few-views v)
     (r .before .program-rows .result) (r .order-rows .result) (is-program (r .before)) (r .order-rows .ensures)
-    (v .view-numbers .result) (v .view-numbers .ensures .0)
-    (findingOf (o .order-fault .result)) (findingOf (f .view-fault .result)) (findingOf (c .replay-fault .result)) (order-found o) (none-found (f .before .before .before)) (view-found f) (no-view (c .before .before)) (c .replay-fault .ensures)
+    (v .view-numbers .result) (v .view-numbers .ensures .0) (r .before .before .processes-of .result) (r .before .before .processes-of .ensures)
+    (findingOf (o .order-fault .result)) (findingOf (f .view-fault .result)) (findingOf (c .replay-fault .result)) (order-found o) (none-found (f .before .before .before .before)) (view-found f) (no-view (c .before .before)) (c .replay-fault .ensures)
 
 pub check-records-spec : {M : Type 1} → statement M
 check-records-spec =
@@ -179,6 +199,7 @@ check-records-spec =
     is-found-requires
     returns
     event-each-requires
+    strict-count-requires
     view-fault-requires
     is-found-requires-2
     returns-2

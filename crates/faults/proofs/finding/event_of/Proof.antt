@@ -38,6 +38,9 @@ enum-known-f-4 c = search needs
 cast-result-4 : tie.Need-cast-result-4
 cast-result-4 c = search needs
 
+enum-told-4 : tie.Need-enum-told-4
+enum-told-4 c = search needs
+
 returns : tie.Need-returns
 returns c = search needs
 
@@ -59,6 +62,9 @@ returns-6 c = search needs
 returns-7 : tie.Need-returns-7
 returns-7 c = event-at _ _ _ (c .before .before .f4 .given .1) refl (search needs)
 
+returns-8 : tie.Need-returns-8
+returns-8 c = search needs
+
 pub event-of-spec : {M : Type 1} → statement M
 event-of-spec =
     tie.close
@@ -74,10 +80,12 @@ event-of-spec =
     enum-told-3
     enum-known-f-4
     cast-result-4
+    enum-told-4
     returns
     returns-2
     returns-3
     returns-4
     returns-5
     returns-6
-    returns-7)
+    returns-7
+    returns-8)

@@ -35,6 +35,12 @@ enum-known-f-3 c = search needs
 cast-result-3 : tie.Need-cast-result-3
 cast-result-3 c = search needs
 
+enum-known-f-4 : tie.Need-enum-known-f-4
+enum-known-f-4 c = search needs
+
+cast-result-4 : tie.Need-cast-result-4
+cast-result-4 c = search needs
+
 returns : tie.Need-returns
 returns c = search needs
 
@@ -56,6 +62,9 @@ returns-6 c = view-at _ _ _ (c .before .f2 .given .1) refl (search needs)
 returns-7 : tie.Need-returns-7
 returns-7 c = view-at _ _ _ (c .before .f3 .given .1) refl (search needs)
 
+returns-8 : tie.Need-returns-8
+returns-8 c = view-at _ _ _ (c .before .f4 .given .1) refl (search needs)
+
 pub view-of-spec : {M : Type 1} → statement M
 view-of-spec =
     tie.close
@@ -70,10 +79,13 @@ view-of-spec =
     cast-result-2
     enum-known-f-3
     cast-result-3
+    enum-known-f-4
+    cast-result-4
     returns
     returns-2
     returns-3
     returns-4
     returns-5
     returns-6
-    returns-7)
+    returns-7
+    returns-8)

@@ -3,10 +3,10 @@ use borrow.Author.Needs.{needs}
 use Rattle.weakener.proofs.records.from_sequential.Statement.{statement}
 use Rattle.weakener.proofs.records.from_sequential.Tie as tie
 use mathlib.Core.Path.{ap}
-use Rattle.certificate.specs.declared.record.Criterion.the-variants.{Pram, Converge, Sequential}
+use Rattle.certificate.specs.declared.record.Criterion.the-variants.{Pram, Converge, Sequential, Strict}
 use Rattle.criteria.specs.Records.{historyOf, certificateOf}
-use Rattle.faults.specs.Steps.{eventEach}
-use Rattle.weakener.proofs.RecordLaws.{sequential-itself, same-criterion, wanted-as}
+use Rattle.certificate.specs.Steps.Numbers.{eventEach}
+use Rattle.weakener.proofs.RecordLaws.{only-itself, same-criterion, wanted-as}
 
 enum-told : tie.Need-enum-told
 enum-told c = search needs
@@ -41,9 +41,15 @@ itself-requires : tie.Need-itself-requires
 itself-requires c κs =
     let s = c .before .before .before in (
       s .pre .1,
-      sequential-itself (s .args .wanted) (historyOf (s .args .h)) (certificateOf (s .args .h) (s .args .c) (s .args .views)) (c .before .enum-told5 .given .1)
-          (same-criterion (s .args .h) (s .args .c) (s .args .views) Sequential (s .pre .0)),
+      only-itself Sequential (s .args .wanted) (historyOf (s .args .h)) (certificateOf (s .args .h) (s .args .c) (s .args .views))
+          (same-criterion (s .args .h) (s .args .c) (s .args .views) Sequential (s .pre .0)) (λ _. c .before .enum-told5 .given .1),
     )
+
+enum-told-6 : tie.Need-enum-told-6
+enum-told-6 c = search needs
+
+sequential-to-strict-requires : tie.Need-sequential-to-strict-requires
+sequential-to-strict-requires c κs = search needs
 
 returns : tie.Need-returns
 returns c =
@@ -66,6 +72,12 @@ returns-4 c =
 returns-5 : tie.Need-returns-5
 returns-5 c = search needs
 
+returns-6 : tie.Need-returns-6
+returns-6 c =
+    let s = c .before .before .before .before in
+    wanted-as (s .args .wanted) Strict (historyOf (s .args .h)) (certificateOf (s .args .h) (s .args .c) (s .args .views)) _ _
+    (c .before .before .enum-told6 .given .1) (c .sequential-to-strict .ensures)
+
 pub from-sequential-spec : {M : Type 1} → statement M
 from-sequential-spec =
     tie.close
@@ -80,8 +92,11 @@ from-sequential-spec =
     sequential-to-converge-requires
     enum-told-5
     itself-requires
+    enum-told-6
+    sequential-to-strict-requires
     returns
     returns-2
     returns-3
     returns-4
-    returns-5)
+    returns-5
+    returns-6)

@@ -4,7 +4,7 @@ use Rattle.weakener.proofs.records.weakened_record.Statement.{statement
 use Rattle.weakener.proofs.records.weakened_record.Tie as tie
 use Rattle.certificate.specs.declared.record.Criterion.the-variants.{Pram, Weak}
 use Rattle.criteria.specs.Records.{historyOf, certificateOf}
-use Rattle.weakener.proofs.RecordLaws.{pram-itself, weak-itself, same-criterion}
+use Rattle.weakener.proofs.RecordLaws.{pram-pair, weak-pair, only-itself, same-criterion}
 
 enum-told : tie.Need-enum-told
 enum-told c = search needs
@@ -13,8 +13,8 @@ itself-requires : tie.Need-itself-requires
 itself-requires c κs =
     let s = c .before .before .before in (
       s .pre,
-      pram-itself (s .args .wanted) (historyOf (s .args .h)) (certificateOf (s .args .h) (s .args .c) (s .args .views))
-          (same-criterion (s .args .h) (s .args .c) (s .args .views) Pram (c .before .enum-told .given .1)),
+      only-itself Pram (s .args .wanted) (historyOf (s .args .h)) (certificateOf (s .args .h) (s .args .c) (s .args .views))
+          (same-criterion (s .args .h) (s .args .c) (s .args .views) Pram (c .before .enum-told .given .1)) (pram-pair (s .args .wanted)),
     )
 
 enum-told-2 : tie.Need-enum-told-2
@@ -24,8 +24,8 @@ itself-requires-2 : tie.Need-itself-requires-2
 itself-requires-2 c κs =
     let s = c .before .before .before in (
       s .pre,
-      weak-itself (s .args .wanted) (historyOf (s .args .h)) (certificateOf (s .args .h) (s .args .c) (s .args .views))
-          (same-criterion (s .args .h) (s .args .c) (s .args .views) Weak (c .before .enum-told2 .given .1)),
+      only-itself Weak (s .args .wanted) (historyOf (s .args .h)) (certificateOf (s .args .h) (s .args .c) (s .args .views))
+          (same-criterion (s .args .h) (s .args .c) (s .args .views) Weak (c .before .enum-told2 .given .1)) (weak-pair (s .args .wanted)),
     )
 
 enum-told-3 : tie.Need-enum-told-3
@@ -46,6 +46,12 @@ enum-told-5 c = search needs
 from-sequential-requires : tie.Need-from-sequential-requires
 from-sequential-requires c κs = search needs
 
+enum-told-6 : tie.Need-enum-told-6
+enum-told-6 c = search needs
+
+from-strict-requires : tie.Need-from-strict-requires
+from-strict-requires c κs = search needs
+
 returns : tie.Need-returns
 returns c = search needs
 
@@ -61,6 +67,9 @@ returns-4 c = search needs
 returns-5 : tie.Need-returns-5
 returns-5 c = search needs
 
+returns-6 : tie.Need-returns-6
+returns-6 c = search needs
+
 pub weakened-record-spec : {M : Type 1} → statement M
 weakened-record-spec =
     tie.close
@@ -75,8 +84,11 @@ weakened-record-spec =
     from-converge-requires
     enum-told-5
     from-sequential-requires
+    enum-told-6
+    from-strict-requires
     returns
     returns-2
     returns-3
     returns-4
-    returns-5)
+    returns-5
+    returns-6)

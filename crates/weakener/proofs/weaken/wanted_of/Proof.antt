@@ -1,4 +1,4 @@
--- `wanted_of` meets its contract: a number below 5 is a criterion's. Assumes nothing.
+-- `wanted_of` meets its contract: a number below 6 is a criterion's. Assumes nothing.
 use Rattle.weakener.proofs.weaken.wanted_of.Statement.{statement}
 use Rattle.weakener.proofs.weaken.wanted_of.Tie as tie
 use Rattle.weakener.proofs.weaken.wanted_of.Reads as reads
@@ -24,7 +24,10 @@ returns-5 : tie.Need-returns-5
 returns-5 c = let q : c .before .before .before .before .before .args .number ≡ 4 = search needs in sym (ap wantedOf q)
 
 returns-6 : tie.Need-returns-6
-returns-6 c = wanted-none (c .before .before .before .before .before .args .number) (search needs) (search needs) (search needs) (search needs) (search needs)
+returns-6 c = let q : c .before .before .before .before .before .before .args .number ≡ 5 = search needs in sym (ap wantedOf q)
+
+returns-7 : tie.Need-returns-7
+returns-7 c = wanted-none (c .before .before .before .before .before .before .args .number) (search needs) (search needs) (search needs) (search needs) (search needs) (search needs)
 
 pub wanted-of-spec : {M : Type 1} → statement M
-wanted-of-spec = tie.close (tie.spec returns returns-2 returns-3 returns-4 returns-5 returns-6)
+wanted-of-spec = tie.close (tie.spec returns returns-2 returns-3 returns-4 returns-5 returns-6 returns-7)
