@@ -1176,11 +1176,7 @@ fn wrong_of_strict() -> Vec<(&'static str, StrictRules)> {
         ("weakening takes the first view of strict", part(|_, views, e| up_to(&views[0].order, e))),
         (
             "weakening cuts the view before the event",
-            part(|history, views, e| {
-                let mut part = up_to(&view_of(history, views, e).order, e);
-                part.pop();
-                part
-            }),
+            part(|history, views, e| (RIGHT.part)(history, views, e).into_iter().filter(|event| *event != e).collect()),
         ),
         (
             "weakening takes the whole view for its part",
@@ -1189,7 +1185,7 @@ fn wrong_of_strict() -> Vec<(&'static str, StrictRules)> {
         (
             "weakening makes the part of the view rise",
             part(|history, views, e| {
-                let mut part = up_to(&view_of(history, views, e).order, e);
+                let mut part = (RIGHT.part)(history, views, e);
                 part.sort_unstable();
                 part
             }),
