@@ -100,7 +100,8 @@ bench: archive
 	cc $(CC_FLAGS) -O2 bench/bench.c $(BENCH) $(ARCHIVE) -o target/tests/bench
 	target/tests/bench
 
-# The plain check of the benchmark and the archive's give the same numbers, on the samples and on damaged texts.
+# The plain check of the benchmark and the archive's give the same numbers, and one line the same bytes, on the samples and on damaged
+# texts.
 agree: archive
 	mkdir -p target/tests
 	cc $(CC_FLAGS) -O2 bench/agree.c $(BENCH) $(ARCHIVE) -o target/tests/agree

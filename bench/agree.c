@@ -1,6 +1,7 @@
-/* Compares the two checks: on the sample folders that are named as arguments, on pairs of many seeds, as they are and
- * with some answers lost, and on damaged variants of all of them. Both must give the same number, and where both texts
- * are read the verdict of the archive must carry the line that goes with it. Prints how often each number came.
+/* Compares the two checks, and the two that write one line: on the sample folders that are named as arguments, on pairs of
+ * many seeds, as they are and with some answers lost, and on damaged variants of all of them. Both must give the same
+ * number, and the same bytes where a line is written; where both texts are read the verdict of the archive must carry the
+ * line that goes with it. Prints how often each number came.
  *
  * agree ROUNDS FOLDER...: so many damaged variants of each pair. */
 #include <stdbool.h>
@@ -15,6 +16,7 @@
 enum { SEEDS = 4, NUMBERS = 32 };
 
 static unsigned long counts[NUMBERS];
+static unsigned long written[NUMBERS]; /* of the writing of one line */
 static unsigned long differences;
 
 static uint64_t seed = 2;
@@ -52,6 +54,18 @@ static bool carries_its_line(const struct text *t, uint32_t answer, const uint32
     return a < t->length && places[1] == 1 && places[2] == line && places[5] == a && places[6] == end_of_line(t, a) - a;
 }
 
+/* Whether the two that write one line give the same number, length and bytes, in a buffer that often has no room. */
+static bool write_the_same(const uint8_t *h, size_t n, const uint8_t *c, size_t m) {
+    static uint8_t buffers[2][256];
+    uint64_t lengths[2] = {99, 99};
+    const size_t room = draw(2) == 0 ? sizeof buffers[0] : draw(sizeof buffers[0]);
+    memset(buffers, '.', sizeof buffers);
+    const uint32_t a = walnutgleam_sequential(h, n, c, m, buffers[0], room, &lengths[0]);
+    const uint32_t b = plain_sequential(h, n, c, m, buffers[1], room, &lengths[1]);
+    written[a < NUMBERS ? a : NUMBERS - 1]++;
+    return a == b && lengths[0] == lengths[1] && memcmp(buffers[0], buffers[1], sizeof buffers[0]) == 0;
+}
+
 static uint32_t compare(const struct pair *p) {
     /* Copies of exactly the texts' lengths, so that a tool that watches memory sees a read past an end. */
     uint8_t *h = malloc(p->history.length == 0 ? 1 : p->history.length);
@@ -63,16 +77,18 @@ static uint32_t compare(const struct pair *p) {
     const uint32_t b = plain_check(h, p->history.length, c, p->certificate.length);
     uint32_t places[7] = {99, 99, 99, 99, 99, 99, 99};
     const uint32_t verdict = walnutgleam_verdict(h, p->history.length, c, p->certificate.length, places, 7);
+    const bool same_line = write_the_same(h, p->history.length, c, p->certificate.length);
     free(h);
     free(c);
     counts[a < NUMBERS ? a : NUMBERS - 1]++;
     const bool its_line = carries_its_line(&p->history, verdict, places);
-    if (a != b || verdict != a || !its_line) {
+    if (a != b || verdict != a || !its_line || !same_line) {
         differences++;
         if (differences <= 3)
-            printf("walnutgleam %u, its verdict %u%s, plain %u on\n%.*s%.*s", (unsigned)a, (unsigned)verdict,
-                   its_line ? "" : " with another line", (unsigned)b, (int)p->history.length,
-                   (const char *)p->history.bytes, (int)p->certificate.length, (const char *)p->certificate.bytes);
+            printf("walnutgleam %u, its verdict %u%s, plain %u%s on\n%.*s%.*s", (unsigned)a, (unsigned)verdict,
+                   its_line ? "" : " with another line", (unsigned)b, same_line ? "" : ", and another answer or text of one line",
+                   (int)p->history.length, (const char *)p->history.bytes, (int)p->certificate.length,
+                   (const char *)p->certificate.bytes);
     }
     return a;
 }
@@ -355,6 +371,8 @@ int main(int argc, char **argv) {
         all += counts[i];
         if (counts[i] > 0) printf("answer %u: %lu\n", i, counts[i]);
     }
+    for (unsigned i = 0; i < NUMBERS; i++)
+        if (written[i] > 0) printf("one line, answer %u: %lu\n", i, written[i]);
     printf("%lu pairs of texts, %lu differences\n", all, differences);
     return differences == 0 ? 0 : 1;
 }

@@ -70,10 +70,10 @@ static void print_times(void) {
         }
     }
     printf("best of %d batches of about 5 ms each, in alternation; texts in bytes\n", (int)BATCHES);
-    printf("%-12s %8s %12s %15s %10s %7s\n", "pair", "history", "certificate", "walnutgleam us", "plain us", "ratio");
+    printf("%-18s %8s %12s %15s %10s %7s\n", "pair", "history", "certificate", "walnutgleam us", "plain us", "ratio");
     for (unsigned i = 0; i < PAIRS; i++) {
         const struct pair *p = &pairs[i];
-        printf("%-12s %8zu %12zu %15.2f %10.2f %7.2f\n", p->name, p->history.length, p->certificate.length, best[i][0] * 1e6,
+        printf("%-18s %8zu %12zu %15.2f %10.2f %7.2f\n", p->name, p->history.length, p->certificate.length, best[i][0] * 1e6,
                best[i][1] * 1e6, best[i][0] / best[i][1]);
     }
 }
@@ -127,6 +127,10 @@ static uint32_t weaken(const uint8_t *history, size_t n, const uint8_t *certific
     return answers;
 }
 
+static uint32_t sequential(const uint8_t *history, size_t n, const uint8_t *certificate, size_t m) {
+    return walnutgleam_sequential(history, n, certificate, m, buffer, sizeof buffer, &length);
+}
+
 static uint32_t rewrite_history(const uint8_t *history, size_t n, const uint8_t *certificate, size_t m) {
     (void)certificate;
     (void)m;
@@ -164,6 +168,7 @@ static void print_stacks(void) {
         {"walnutgleam_check", walnutgleam_check},
         {"walnutgleam_verdict", verdict},
         {"walnutgleam_weaken", weaken},
+        {"walnutgleam_sequential", sequential},
         {"walnutgleam_rewrite_history", rewrite_history},
         {"walnutgleam_rewrite_certificate", rewrite_certificate},
         {"plain_check", plain_check},

@@ -14,6 +14,7 @@
 enum { EVENTS = 64, OBJECTS = 16, PROCESSES = 8, WIDTH = 8 };
 enum kind { REGISTER, QUEUE, STACK, WINDOW, CHANNEL };
 enum op { WRITE, READ, PUSH, POP, PEEK };
+enum site { MIXED, CHANNELS, ONE_LOADER };
 
 static const char *const kinds[] = {"register", "queue", "stack", "window", "channel"};
 static const char *const ops[] = {"write", "read", "push", "pop", "peek"};
@@ -92,10 +93,11 @@ static struct answer answer_in(const struct run *r, const struct list *view) {
     return a;
 }
 
-/* The first four kinds in turn; or channels of one to three slots, onto which more is pushed than they hold. */
-static void draw_events(struct run *r, uint64_t *seed, bool channels) {
+/* The first four kinds in turn; or channels of one to three slots, onto which more is pushed than they hold; or all kinds
+ * in turn, with one process that does every update. */
+static void draw_events(struct run *r, uint64_t *seed, enum site site) {
     for (unsigned o = 0; o < r->objects; o++) {
-        r->kinds[o] = channels ? CHANNEL : (enum kind)(o % 4);
+        r->kinds[o] = site == CHANNELS ? CHANNEL : (enum kind)(o % (site == ONE_LOADER ? 5 : 4));
         r->widths[o] = r->kinds[o] == CHANNEL ? 1 + o % 3 : r->kinds[o] == WINDOW ? 2 + o % 7 : 0;
     }
     for (unsigned i = 0; i < EVENTS; i++) {
@@ -111,6 +113,7 @@ static void draw_events(struct run *r, uint64_t *seed, bool channels) {
         else
             e->op = which < 5 ? PUSH : which < 8 ? POP : PEEK;
         e->value = e->op == WRITE || e->op == PUSH ? below(seed, 65536) : 0;
+        if (site == ONE_LOADER && e->op != READ && e->op != PEEK) e->process = 0;
     }
 }
 
@@ -237,7 +240,7 @@ static void put_process_views(struct text *t, const struct run *r) {
 }
 
 static void make_pair(struct pair *pair, const char *name, const char *criterion, unsigned processes, unsigned objects,
-                      unsigned chance, bool channels, uint64_t *seed) {
+                      unsigned chance, enum site site, uint64_t *seed) {
     static struct run run;
     struct run *r = &run;
     memset(r, 0, sizeof *r);
@@ -248,7 +251,7 @@ static void make_pair(struct pair *pair, const char *name, const char *criterion
     const bool causal = strcmp(criterion, "causal") == 0;
     const bool converge = strcmp(criterion, "converge") == 0;
     const bool strict = strcmp(criterion, "strict") == 0;
-    draw_events(r, seed, channels);
+    draw_events(r, seed, site);
     draw_run(r, seed, chance, pram);
     if (weak) drawn_views(r, seed);
     if (converge) rising_views(r);
@@ -275,13 +278,17 @@ static void make_pair(struct pair *pair, const char *name, const char *criterion
 }
 
 void make_pairs(struct pair pairs[PAIRS], uint64_t seed) {
-    make_pair(&pairs[0], "sequential", "sequential", 4, 6, 100, false, &seed);
-    make_pair(&pairs[1], "pram", "pram", 4, 6, 40, false, &seed);
-    make_pair(&pairs[2], "weak", "weak", 4, 6, 40, false, &seed);
-    make_pair(&pairs[3], "causal", "causal", 4, 6, 40, false, &seed);
-    make_pair(&pairs[4], "converge", "converge", 4, 6, 40, false, &seed);
-    make_pair(&pairs[5], "causal-full", "causal", 8, 16, 100, false, &seed);
-    make_pair(&pairs[6], "channels", "causal", 4, 6, 40, true, &seed);
-    make_pair(&pairs[7], "strict", "strict", 4, 6, 40, false, &seed);
-    make_pair(&pairs[8], "strict-full", "strict", 8, 16, 100, false, &seed);
+    make_pair(&pairs[0], "sequential", "sequential", 4, 6, 100, MIXED, &seed);
+    make_pair(&pairs[1], "pram", "pram", 4, 6, 40, MIXED, &seed);
+    make_pair(&pairs[2], "weak", "weak", 4, 6, 40, MIXED, &seed);
+    make_pair(&pairs[3], "causal", "causal", 4, 6, 40, MIXED, &seed);
+    make_pair(&pairs[4], "converge", "converge", 4, 6, 40, MIXED, &seed);
+    make_pair(&pairs[5], "causal-full", "causal", 8, 16, 100, MIXED, &seed);
+    make_pair(&pairs[6], "channels", "causal", 4, 6, 40, CHANNELS, &seed);
+    make_pair(&pairs[7], "strict", "strict", 4, 6, 40, MIXED, &seed);
+    make_pair(&pairs[8], "strict-full", "strict", 8, 16, 100, MIXED, &seed);
+    make_pair(&pairs[9], "one-line", "causal", 8, 16, 40, ONE_LOADER, &seed);
+    make_pair(&pairs[10], "one-line-weak", "weak", 4, 6, 40, ONE_LOADER, &seed);
+    make_pair(&pairs[11], "one-line-strict", "strict", 8, 16, 100, ONE_LOADER, &seed);
+    make_pair(&pairs[12], "one-line-converge", "converge", 4, 6, 40, ONE_LOADER, &seed);
 }

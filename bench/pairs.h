@@ -5,7 +5,7 @@
 #include <stddef.h>
 #include <stdint.h>
 
-enum { PAIRS = 9, TEXT_BYTES = 33000 };
+enum { PAIRS = 13, TEXT_BYTES = 33000 };
 
 struct text {
     size_t length;

@@ -1,7 +1,7 @@
-/* A plain check in C, with no proof: the measure of the benchmark, and no part of the product.
+/* A plain check in C and the writing of one line, with no proof: the measure of the benchmark, and no part of the product.
  *
  * Each text is read in one pass, a byte at a time. A set of events is 64 bits. A replay keeps an array of values for each object.
- * Only the answer's number is given, so where a rule asks for the lowest event or view any one of them will do. */
+ * Of the check only the answer's number is given, so where a rule asks for the lowest event or view any one of them will do. */
 #include "plain.h"
 
 #include <stdbool.h>
@@ -452,31 +452,106 @@ static bool replays_well(const struct history *h, const struct certificate *c) {
     return true;
 }
 
+static uint32_t read_both(struct history *h, struct certificate *c, const uint8_t *history, size_t history_length,
+                          const uint8_t *certificate, size_t certificate_length) {
+    const uint32_t fault = read_history(h, history, history_length);
+    return fault != 0 ? fault : read_certificate(c, h, certificate, certificate_length);
+}
+
+static uint32_t check_records(const struct history *h, const struct certificate *c) {
+    const bool pasts = has_pasts(c->criterion);
+    if (pasts) {
+        const uint32_t fault = check_pasts(h, c->past);
+        if (fault != 0) return fault;
+    }
+    const uint64_t all = h->count == EVENTS ? ~UINT64_C(0) : bit(h->count) - 1;
+    const bool each = c->criterion == WEAK || c->criterion == CAUSAL;
+    for (unsigned k = 0; k < c->views; k++) {
+        const uint64_t wanted = each ? c->past[k] | bit(k) : all;
+        const unsigned size = (unsigned)__builtin_popcountll(wanted);
+        if (c->view[k].set != wanted || c->view[k].length != size) return 14;
+    }
+    const uint64_t *order = pasts ? c->past : h->earlier;
+    for (unsigned k = 0; k < c->views; k++)
+        if (is_against(&c->view[k], order)) return 15;
+    for (unsigned k = 0; c->criterion == STRICT && k < c->views; k++)
+        if (breaks_past(&c->view[k], c->past, h->of_process[c->numbers[k]])) return 20;
+    return replays_well(h, c) ? 0 : 16;
+}
+
 uint32_t plain_check(const uint8_t *history, size_t history_length,
                      const uint8_t *certificate, size_t certificate_length) {
     struct history h;
     struct certificate c;
-    uint32_t fault = read_history(&h, history, history_length);
-    if (fault != 0) return fault;
-    fault = read_certificate(&c, &h, certificate, certificate_length);
-    if (fault != 0) return fault;
+    const uint32_t fault = read_both(&h, &c, history, history_length, certificate, certificate_length);
+    return fault != 0 ? fault : check_records(&h, &c);
+}
 
-    const bool pasts = has_pasts(c.criterion);
-    if (pasts) {
-        fault = check_pasts(&h, c.past);
-        if (fault != 0) return fault;
+static bool is_update(const struct event *e) { return e->op != READ && e->op != PEEK; }
+
+/* The events in one line, or false where two updates are unordered. An update stands at the place that the count of
+ * updates in its past says; two at one place are unordered. A read or peek stands before the update of its place. */
+static bool line_up(const struct history *h, const uint64_t *past, struct view *line) {
+    uint64_t updates = 0;
+    for (unsigned e = 0; e < h->count; e++)
+        if (is_update(&h->events[e])) updates |= bit(e);
+    uint64_t at[EVENTS + 1] = {0}; /* the reads and peeks of each place */
+    uint8_t update[EVENTS];
+    uint64_t taken = 0; /* the places that have an update */
+    for (unsigned e = 0; e < h->count; e++) {
+        const unsigned place = (unsigned)__builtin_popcountll(past[e] & updates);
+        if (!(updates & bit(e))) {
+            at[place] |= bit(e);
+        } else if (taken & bit(place)) {
+            return false;
+        } else {
+            taken |= bit(place);
+            update[place] = (uint8_t)e;
+        }
     }
-    const uint64_t all = h.count == EVENTS ? ~UINT64_C(0) : bit(h.count) - 1;
-    const bool each = c.criterion == WEAK || c.criterion == CAUSAL;
-    for (unsigned k = 0; k < c.views; k++) {
-        const uint64_t wanted = each ? c.past[k] | bit(k) : all;
-        const unsigned size = (unsigned)__builtin_popcountll(wanted);
-        if (c.view[k].set != wanted || c.view[k].length != size) return 14;
+    line->length = 0;
+    for (unsigned place = 0; line->length < h->count; place++) {
+        for (uint64_t left = at[place]; left != 0; left &= left - 1)
+            line->events[line->length++] = (uint8_t)__builtin_ctzll(left);
+        if (place < EVENTS && taken & bit(place)) line->events[line->length++] = update[place];
     }
-    const uint64_t *order = pasts ? c.past : h.earlier;
-    for (unsigned k = 0; k < c.views; k++)
-        if (is_against(&c.view[k], order)) return 15;
-    for (unsigned k = 0; c.criterion == STRICT && k < c.views; k++)
-        if (breaks_past(&c.view[k], c.past, h.of_process[c.numbers[k]])) return 20;
-    return replays_well(&h, &c) ? 0 : 16;
+    return true;
+}
+
+/* Room for the sequential text: at most two digits and a comma an event. */
+enum { LINE_BYTES = 40 + 3 * EVENTS };
+
+/* Writes the sequential text of a line and gives its length. */
+static size_t put_line(uint8_t text[LINE_BYTES], const struct view *line) {
+    static const char head[] = "criterion sequential\nview order\n0 ";
+    memcpy(text, head, sizeof head - 1);
+    size_t n = sizeof head - 1;
+    for (unsigned i = 0; i < line->length; i++) {
+        if (i > 0) text[n++] = ',';
+        if (line->events[i] > 9) text[n++] = (uint8_t)('0' + line->events[i] / 10);
+        text[n++] = (uint8_t)('0' + line->events[i] % 10);
+    }
+    if (line->length == 0) text[n++] = '-';
+    text[n++] = '\n';
+    return n;
+}
+
+uint32_t plain_sequential(const uint8_t *history, size_t history_length, const uint8_t *certificate, size_t certificate_length,
+                          uint8_t *buffer, size_t buffer_length, uint64_t *length) {
+    struct history h;
+    struct certificate c;
+    struct view line;
+    uint8_t text[LINE_BYTES];
+    *length = 0;
+    uint32_t fault = read_both(&h, &c, history, history_length, certificate, certificate_length);
+    if (fault != 0) return fault;
+    if (!has_pasts(c.criterion)) return 17;
+    fault = check_records(&h, &c);
+    if (fault != 0) return fault;
+    if (!line_up(&h, c.past, &line)) return 26;
+    const size_t n = put_line(text, &line);
+    if (buffer_length < n) return 18;
+    memcpy(buffer, text, n);
+    *length = n;
+    return 0;
 }

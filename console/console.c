@@ -1,8 +1,12 @@
 /* A small console, as the customer's would be: takes the names of a history file and a certificate file, checks the two by the archive and
- * says the verdict in one plain sentence, with the line or the event at fault. Exit status 0 is acceptance, 1 is everything else. */
+ * says the verdict in one plain sentence, with the line or the event at fault. With the word `sequential` before the names it writes the
+ * sequential text made of the certificate, with `weaken` and a criterion the weakened text, to standard output, or the refusal to
+ * standard error. Exit status 0 is acceptance or a text, 1 is everything else. */
 #include <inttypes.h>
+#include <stdbool.h>
 #include <stdio.h>
 #include <stdlib.h>
+#include <string.h>
 
 #include "walnutgleam.h"
 
@@ -32,9 +36,16 @@ static text read_text(const char *name) {
     return t;
 }
 
-static const char *criterion_word(uint32_t number) {
-    static const char *const words[] = {"pram", "weak", "causal", "converge", "sequential", "strict"};
-    return number < 6 ? words[number] : "unknown";
+enum { CRITERIA = 6 };
+static const char *const criteria[CRITERIA] = {"pram", "weak", "causal", "converge", "sequential", "strict"};
+
+static const char *criterion_word(uint32_t number) { return number < CRITERIA ? criteria[number] : "unknown"; }
+
+/* The number of the criterion with this word, or CRITERIA. */
+static uint32_t criterion_number(const char *word) {
+    uint32_t number = 0;
+    while (number < CRITERIA && strcmp(word, criteria[number]) != 0) number++;
+    return number;
 }
 
 static const char *meaning(uint32_t answer) {
@@ -51,43 +62,93 @@ static const char *meaning(uint32_t answer) {
     case 14: return "it is not its set of events, each once";
     case 15: return "it is against its order";
     case 16: return "the replay does not give its answer";
+    case 17: return "the text wanted is not made from a certificate of this criterion";
+    case 18: return "there is no room for the text";
     case 20: return "before an event of the view's process stands one that is not in its past";
+    case 26: return "its causal order leaves two updates unordered";
     default: return "unknown answer";
     }
 }
 
-static void say_part(const text *t, uint64_t start, uint64_t length) {
-    if (start <= t->length && length <= t->length - start) printf(": %.*s", (int)length, (const char *)t->bytes + start);
+static void say_part(FILE *to, const text *t, uint64_t start, uint64_t length) {
+    if (start <= t->length && length <= t->length - start) fprintf(to, ": %.*s", (int)length, (const char *)t->bytes + start);
 }
 
-static void say_verdict(const text *history, const text *certificate, uint32_t answer, const uint32_t *places) {
-    if (answer == 0) {
-        printf("Accepted: %s holds for %s.", certificate->name, history->name);
-    } else if (places[CRITERION] == WALNUTGLEAM_NONE) { /* a reading refusal */
+static void say_refusal(FILE *to, const text *history, const text *certificate, uint32_t answer, const uint32_t *places) {
+    if (places[CRITERION] == WALNUTGLEAM_NONE) { /* a reading refusal */
         const text *t = places[WHICH] == 1 ? history : certificate;
-        printf("Refused with %" PRIu32 ", %s, line %" PRIu32 ": %s", answer, t->name, places[LINE], meaning(answer));
-        say_part(t, places[START], places[LENGTH]);
+        fprintf(to, "Refused with %" PRIu32 ", %s, line %" PRIu32 ": %s", answer, t->name, places[LINE], meaning(answer));
+        say_part(to, t, places[START], places[LENGTH]);
     } else {
-        printf("Refused with %" PRIu32 " as %s", answer, criterion_word(places[CRITERION]));
-        if (places[VIEW] != WALNUTGLEAM_NONE) printf(", view %" PRIu32, places[VIEW]);
-        if (places[EVENT] != WALNUTGLEAM_NONE) printf(", event %" PRIu32, places[EVENT]);
-        printf(": %s", meaning(answer));
-        if (places[WHICH] == 1) say_part(history, places[START], places[LENGTH]);
+        fprintf(to, "Refused with %" PRIu32 " as %s", answer, criterion_word(places[CRITERION]));
+        if (places[VIEW] != WALNUTGLEAM_NONE) fprintf(to, ", view %" PRIu32, places[VIEW]);
+        if (places[EVENT] != WALNUTGLEAM_NONE) fprintf(to, ", event %" PRIu32, places[EVENT]);
+        fprintf(to, ": %s", meaning(answer));
+        if (places[WHICH] == 1) say_part(to, history, places[START], places[LENGTH]);
     }
-    printf("\n");
+    fprintf(to, "\n");
 }
 
-int main(int count, char **names) {
-    if (count != 3) {
-        fprintf(stderr, "usage: console HISTORY CERTIFICATE\n");
+static uint32_t verdict(const text *history, const text *certificate, uint32_t *places) {
+    return walnutgleam_verdict(history->bytes, history->length, certificate->bytes, certificate->length, places, PLACES);
+}
+
+static uint32_t check(const text *history, const text *certificate) {
+    uint32_t places[PLACES];
+    const uint32_t answer = verdict(history, certificate, places);
+    if (answer == 0)
+        printf("Accepted: %s holds for %s.\n", certificate->name, history->name);
+    else
+        say_refusal(stdout, history, certificate, answer, places);
+    return answer;
+}
+
+enum task { CHECK, SEQUENTIAL, WEAKEN, NO_TASK };
+
+/* Writes the sequential text, or the one weakened to the criterion wanted, to standard output, or says on standard error why
+ * there is none. These operations give only the number of a refusal: where the verdict has the same number its places are
+ * told, and 17, 18 and 26 have no place. */
+static uint32_t write_text(const text *h, const text *c, enum task task, uint32_t wanted) {
+    static uint8_t buffer[ROOM];
+    uint64_t length = 0;
+    const uint32_t answer =
+        task == WEAKEN
+            ? walnutgleam_weaken(h->bytes, h->length, c->bytes, c->length, wanted, buffer, sizeof buffer, &length)
+            : walnutgleam_sequential(h->bytes, h->length, c->bytes, c->length, buffer, sizeof buffer, &length);
+    if (answer == 0) {
+        fwrite(buffer, 1, (size_t)length, stdout);
+        return 0;
+    }
+    uint32_t places[PLACES];
+    if (verdict(h, c, places) != answer) {
+        places[WHICH] = 0;
+        places[VIEW] = WALNUTGLEAM_NONE;
+        places[EVENT] = WALNUTGLEAM_NONE;
+    }
+    say_refusal(stderr, h, c, answer, places);
+    return answer;
+}
+
+/* What the arguments ask for. */
+static enum task task_of(int count, char **words) {
+    const bool sequential = count > 1 && strcmp(words[1], "sequential") == 0;
+    const bool weaken = count > 1 && strcmp(words[1], "weaken") == 0;
+    if (count == 3 && !sequential && !weaken) return CHECK;
+    if (count == 4 && sequential) return SEQUENTIAL;
+    if (count == 5 && weaken && criterion_number(words[2]) < CRITERIA) return WEAKEN;
+    return NO_TASK;
+}
+
+int main(int count, char **words) {
+    const enum task task = task_of(count, words);
+    if (task == NO_TASK) {
+        fprintf(stderr, "usage: console [sequential | weaken CRITERION] HISTORY CERTIFICATE\n");
         return 1;
     }
-    text history = read_text(names[1]);
-    text certificate = read_text(names[2]);
-    uint32_t places[PLACES];
-    const uint32_t answer =
-        walnutgleam_verdict(history.bytes, history.length, certificate.bytes, certificate.length, places, PLACES);
-    say_verdict(&history, &certificate, answer, places);
+    text history = read_text(words[count - 2]);
+    text certificate = read_text(words[count - 1]);
+    const uint32_t answer = task == CHECK ? check(&history, &certificate)
+                                          : write_text(&history, &certificate, task, criterion_number(words[2]));
     free(history.bytes);
     free(certificate.bytes);
     return answer == 0 ? 0 : 1;

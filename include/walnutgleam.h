@@ -10,8 +10,8 @@
  *   pointer named length has none beside it: it points to one number and is not NULL.
  * - A buffer, slice or number that is lent to be written overlaps nothing else that is lent in the same call. The two texts may
  *   overlap each other.
- * - There is stack for the call: 58,000 bytes for check, verdict and rewrite_certificate, 92,000 for weaken, 10,000 for
- *   rewrite_history. `make bench` measures it on x86-64, with accepted and damaged texts; it is not proved. */
+ * - There is stack for the call: 58,000 bytes for check, verdict and rewrite_certificate, 88,000 for weaken and sequential,
+ *   10,000 for rewrite_history. `make bench` measures it on x86-64, with accepted and damaged texts; it is not proved. */
 #ifndef WALNUTGLEAM_H
 #define WALNUTGLEAM_H
 
@@ -53,6 +53,18 @@ uint32_t walnutgleam_verdict(const uint8_t *history, size_t history_length,
 uint32_t walnutgleam_weaken(const uint8_t *history, size_t history_length,
                             const uint8_t *certificate, size_t certificate_length,
                             uint32_t wanted, uint8_t *buffer, size_t buffer_length, uint64_t *length);
+
+/* Writes a sequential certificate text from an accepted weak, causal, strict or converge one whose causal order, its pasts,
+ * orders every two updates: write, push and pop on any objects, whatever their answers. The check accepts what is written.
+ * Its one order has the updates in causal order, each read or peek after the last update in its past (or first of all) and
+ * before the next update, several at one place by rising number. The text goes into the buffer's first bytes, the rest stays
+ * as it was, and length gets their number. Refusals, in this order: the reading refusals of the check; 17 for a pram or
+ * sequential certificate; 11 to 15, 20 and 16 of the check; 26 if two updates are unordered; 18 if the buffer has fewer bytes
+ * than the text. It gives the number only; walnutgleam_verdict on the same texts gives the places of 1 to 6, of 11 to 16 and
+ * of 20. On a refusal no byte changes and length gets 0. */
+uint32_t walnutgleam_sequential(const uint8_t *history, size_t history_length,
+                                const uint8_t *certificate, size_t certificate_length,
+                                uint8_t *buffer, size_t buffer_length, uint64_t *length);
 
 /* Reads a text and writes it back from its record, the bytes that were read, into the buffer's first bytes; the rest stays as it
  * was, and length gets their number. 18 if the buffer has fewer bytes than the text. A reading refusal is that of the check, and

@@ -1,7 +1,7 @@
 /* Calls the archive as the fleet console does, on the sample dispenser Q: the check, its places with the event's line,
- * both texts read and written back, and certificates weakened; and some of these with an answer lost, and on a channel
- * that gets full. Then gives each function NULL with length 0 for each of its slices. Prints a line each; make test
- * compares them with tests/call_from_c.out. */
+ * both texts read and written back, certificates weakened, and sequential ones written from those with pasts; and some of
+ * these with an answer lost, and on a channel that gets full. Then gives each function NULL with length 0 for each of its
+ * slices. Prints a line each; make test compares them with tests/call_from_c.out. */
 #include <inttypes.h>
 #include <stdio.h>
 #include <string.h>
@@ -92,6 +92,16 @@ static const char alone[] =
     "0 0,1\n"
     "1 1,0\n";
 
+/* the push and the pop unordered: accepted where the pop's answer is lost */
+static const char crossing[] =
+    "criterion weak\n"
+    "event past\n"
+    "0 -\n"
+    "1 -\n"
+    "view order\n"
+    "0 0\n"
+    "1 1\n";
+
 static const uint8_t *bytes(const char *text) { return (const uint8_t *)text; }
 
 /* The verdict on a history and a certificate with its places, and the line that it carries of the history. */
@@ -104,18 +114,34 @@ static void verdict(const char *name, const char *text, const char *order, const
     printf("\n");
 }
 
-/* Weakens a certificate into the first `room` bytes of a buffer of 128. Prints the answer, the length, how many of the buffer's last
- * bytes are as they were, and the text. */
+/* Says what a writing into the first `room` bytes of a buffer of 128 gave: the answer, the length, how many of the buffer's last bytes
+ * are as they were, and the text. */
+static void say_written(size_t room, uint32_t answer, uint64_t length, const uint8_t buffer[128]) {
+    size_t unchanged = 0;
+    while (unchanged < 128 && buffer[127 - unchanged] == '.') unchanged++;
+    printf(" into %zu: %" PRIu32 ", length %" PRIu64 ", unchanged %zu\n", room, answer, length, unchanged);
+    printf("%.*s", (int)length, (const char *)buffer);
+}
+
 static void weaken(const char *given, uint32_t wanted, size_t room) {
     uint8_t buffer[128];
     uint64_t length = 99;
     memset(buffer, '.', sizeof buffer);
     const uint32_t answer =
         walnutgleam_weaken(bytes(history), strlen(history), bytes(given), strlen(given), wanted, buffer, room, &length);
-    size_t unchanged = 0;
-    while (unchanged < sizeof buffer && buffer[sizeof buffer - 1 - unchanged] == '.') unchanged++;
-    printf("weaken to %" PRIu32 " into %zu: %" PRIu32 ", length %" PRIu64 ", unchanged %zu\n", wanted, room, answer, length, unchanged);
-    printf("%.*s", (int)length, (const char *)buffer);
+    printf("weaken to %" PRIu32, wanted);
+    say_written(room, answer, length, buffer);
+}
+
+/* Writes one line of a certificate. */
+static void one_line(const char *name, const char *text, const char *given, size_t room) {
+    uint8_t buffer[128];
+    uint64_t length = 99;
+    memset(buffer, '.', sizeof buffer);
+    const uint32_t answer =
+        walnutgleam_sequential(bytes(text), strlen(text), bytes(given), strlen(given), buffer, room, &length);
+    printf("sequential, %s", name);
+    say_written(room, answer, length, buffer);
 }
 
 /* A history in both orders of its two events and with event 1 in its own past, and the text read and written back. */
@@ -180,6 +206,14 @@ static void give_null(void) {
     say_length("weaken to 6, NULL buffer", walnutgleam_weaken(h, hn, a, an, 6, NULL, 0, &given_length));
     say_length("weaken what is refused, NULL buffer", walnutgleam_weaken(h, hn, r, rn, 2, NULL, 0, &given_length));
     say_length("weaken, all NULL", walnutgleam_weaken(NULL, 0, NULL, 0, 2, NULL, 0, &given_length));
+
+    const uint8_t *const s = bytes(strict);
+    const size_t sn = strlen(strict);
+    say_length("sequential, NULL history", walnutgleam_sequential(NULL, 0, s, sn, buffer, sizeof buffer, &given_length));
+    say_length("sequential, NULL certificate", walnutgleam_sequential(h, hn, NULL, 0, buffer, sizeof buffer, &given_length));
+    say_length("sequential, NULL buffer", walnutgleam_sequential(h, hn, s, sn, NULL, 0, &given_length));
+    say_length("sequential of sequential, NULL buffer", walnutgleam_sequential(h, hn, a, an, NULL, 0, &given_length));
+    say_length("sequential, all NULL", walnutgleam_sequential(NULL, 0, NULL, 0, NULL, 0, &given_length));
 
     say_length("history, NULL history", walnutgleam_rewrite_history(NULL, 0, buffer, sizeof buffer, &given_length));
     say_length("history, NULL buffer", walnutgleam_rewrite_history(h, hn, NULL, 0, &given_length));
@@ -250,6 +284,20 @@ int main(void) {
     weaken(strict, 0, 128);
     weaken(strict, 4, 128);
     weaken(outside, 2, 128);
+
+    /* one line of Q, which takes 38 bytes; a buffer one byte shorter; two updates unordered, also with no room; a sequential
+     * certificate, also one that the check refuses; and faults of the check and of the layout */
+    one_line("strict", history, strict, 128);
+    one_line("strict", history, strict, 38);
+    one_line("strict", history, strict, 37);
+    one_line("unordered, lost", lost, crossing, 128);
+    one_line("unordered, lost", lost, crossing, 0);
+    one_line("0,1", history, accepted, 128);
+    one_line("1,0", history, certificate, 128);
+    one_line("unordered", history, crossing, 128);
+    one_line("1 in its own past", history, itself, 128);
+    one_line("0 outside the past of 1", history, outside, 128);
+    one_line("layout", history, "criterion strict\nevent pasts\n", 128);
 
     /* Q with the answer of event 1 lost: the order that Q refuses is accepted. A channel of one slot, which event 0 had. */
     both_orders("lost", lost);

@@ -2,8 +2,10 @@ pub mod ListTexts
 pub mod TextTheorems
 pub mod EventLaws
 pub mod VerdictLaws
+pub mod MadeLaws
 pub mod LineTheorems
 pub mod WeakenTheorems
 pub mod ByteLaws
 pub mod Samples
 pub mod Demand3
+pub mod OneLine

@@ -1,7 +1,7 @@
 -- The line that an answer carries (document 02, T-05): which numbers carry one, the line's number, and its bytes. Assumes nothing.
 use Prim.Native.Nat.{ℕ, _+_, _<_}
 use mathlib.Core.Path.{_≡_, refl, sym, ap, _∙_, subst}
-use mathlib.Core.Bool.{Bool, true, false, cond, true≢false, _||_}
+use mathlib.Core.Bool.{Bool, true, false, cond, true≢false, false≢true, _||_}
 use mathlib.Core.List.{List}
 use mathlib.Core.Option.{Option, none, some}
 use lib.ListN.{length, getD}
@@ -19,7 +19,9 @@ use Rattle.certificate_reader.specs.ReadCertificate.{readCertificate}
 use Rattle.certificate_theorems.proofs.Theorems.{no-fault-history}
 use Rattle.criteria.specs.Check.{Fault, fault11, fault12, fault13, fault14, fault15, fault16, fault20, answerOf, check}
 use Rattle.checker.specs.CheckText.{Verdict, placeOf, historyRead, certificateRead, checkText, carriedLine}
-use Rattle.checker.specs.WeakenText.{wantedOf, weakenedWanted, plain, pairAnswer, weakenAnswer}
+use Rattle.checker.specs.MadeText.{plain, madeAnswer, madeVerdict}
+use Rattle.checker.specs.WeakenText.{wantedOf, weakenedWanted, weakenAnswer}
+use Rattle.checker.specs.OneLine.{oneLineText, crossing, lineAnswer}
 use Rattle.checker.proofs.TextTheorems.{checked-as, refused-as}
 use Rattle.checker.proofs.EventLaws.{Below}
 use Rattle.checker.proofs.VerdictLaws.{event-read}
@@ -90,23 +92,41 @@ module _ (history text : List ℕ) where
       ap (λ (v : Verdict). v .place) (checked-as history text z)
       ∙ ap (placeOf history (readHistory history .history .declared)) (sym (ap (λ (v : Verdict). v .event) (checked-as history text z)) ∙ q)
 
-  -- ---- "also in weakening": every answer but 17 and 18 is that of the check
-  pair-as-check : (v : Verdict) (c : Criterion) (t : Option (List ℕ)) (buffer : List ℕ) → (pairAnswer v c t buffer .number ≡ 17 → ⊥)
-      → (pairAnswer v c t buffer .number ≡ 18 → ⊥) → pairAnswer v c t buffer ≡ v
-  pair-as-check v c none buffer n m = absurd (n refl)
-  pair-as-check v c (some t) buffer n m = go (eqb (v .number) 0) (leb (length t) (length buffer)) m
+  -- ---- every answer but 17 and 18, and 26 where two updates cross, is that of the check
+  made-as-check : (v : Verdict) (c : Criterion) (crossing : Bool) (t : Option (List ℕ)) (buffer : List ℕ)
+      → (madeAnswer v c crossing t buffer .number ≡ 17 → ⊥) → (madeAnswer v c crossing t buffer .number ≡ 18 → ⊥)
+      → (crossing ≡ true → madeAnswer v c crossing t buffer .number ≡ 26 → ⊥) → madeAnswer v c crossing t buffer ≡ v
+  made-as-check v c crossing none buffer n m x = absurd (n refl)
+  made-as-check v c crossing (some t) buffer n m x = go (eqb (v .number) 0) crossing (leb (length t) (length buffer)) m x
     where
-      go : (a b : Bool) → (cond a (cond b v (plain c 18)) v .number ≡ 18 → ⊥) → cond a (cond b v (plain c 18)) v ≡ v
-      go true true k = refl
-      go true false k = absurd (k refl)
-      go false b k = refl
+      answer : Bool → Bool → Bool → Verdict
+      answer a b d = cond a (cond b (plain c 26) (cond d v (plain c 18))) v
 
-  pub weakening-carries : (wanted : ℕ) (buffer : List ℕ) → (weakenAnswer history text wanted buffer .number ≡ 17 → ⊥)
-      → (weakenAnswer history text wanted buffer .number ≡ 18 → ⊥) → weakenAnswer history text wanted buffer ≡ checkText history text
-  unfolding weakenAnswer
-  weakening-carries wanted buffer n m =
+      go : (a b d : Bool) → (answer a b d .number ≡ 18 → ⊥) → (b ≡ true → answer a b d .number ≡ 26 → ⊥) → answer a b d ≡ v
+      go true true d m x = absurd (x refl refl)
+      go true false true m x = refl
+      go true false false m x = absurd (m refl)
+      go false b d m x = refl
+
+  pub made-carries : (crossing : Bool) (t : Option (List ℕ)) (buffer : List ℕ) → (madeVerdict history text crossing t buffer .number ≡ 17 → ⊥)
+      → (madeVerdict history text crossing t buffer .number ≡ 18 → ⊥)
+      → (crossing ≡ true → madeVerdict history text crossing t buffer .number ≡ 26 → ⊥)
+      → madeVerdict history text crossing t buffer ≡ checkText history text
+  made-carries crossing t buffer n m x =
       by-eq (readCertificate history text .fault) 0
       (λ z.
       let e = eq-eqb (readCertificate history text .fault) 0 z in
-      rw e (pair-as-check (checkText history text) (certificateRead history text .criterion) (weakenedWanted history text (wantedOf wanted)) buffer (rw e at n) (rw e at m)))
+      rw e (made-as-check (checkText history text) (certificateRead history text .criterion) crossing t buffer (rw e at n) (rw e at m) (rw e at x)))
       (λ f. rw (ne-eqb (readCertificate history text .fault) 0 f) (sym (refused-as history text f)))
+
+  -- "also in weakening"
+  pub weakening-carries : (wanted : ℕ) (buffer : List ℕ) → (weakenAnswer history text wanted buffer .number ≡ 17 → ⊥)
+      → (weakenAnswer history text wanted buffer .number ≡ 18 → ⊥) → weakenAnswer history text wanted buffer ≡ checkText history text
+  unfolding weakenAnswer
+  weakening-carries wanted buffer n m = made-carries false (weakenedWanted history text (wantedOf wanted)) buffer n m (λ t _. false≢true t)
+
+  -- an answer of one line other than 17, 18 and 26 is the whole answer of the check
+  pub line-carries : (buffer : List ℕ) → (lineAnswer history text buffer .number ≡ 17 → ⊥) → (lineAnswer history text buffer .number ≡ 18 → ⊥)
+      → (lineAnswer history text buffer .number ≡ 26 → ⊥) → lineAnswer history text buffer ≡ checkText history text
+  unfolding lineAnswer
+  line-carries buffer n m x = made-carries (crossing history text) (oneLineText history text) buffer n m (λ _. x)

@@ -22,7 +22,7 @@ use Rattle.criteria.specs.Certificate.{Certificate, EventsOf, Readable}
 use Rattle.criteria.specs.Records.{historyOf}
 use Rattle.criteria.proofs.Lists.{true-or-left, true-or-right}
 use Rattle.criteria.proofs.RecordLaws.{size-is, past-count, view-count}
-use Rattle.checker.specs.WeakenText.{textOfLists}
+use Rattle.checker.specs.MadeText.{textOfLists}
 
 less-from : (n : ℕ) (l : List ℕ) → ((e : ℕ) → mem e l ≡ true → e < n) → allLess n l ≡ true
 unfolding allLess

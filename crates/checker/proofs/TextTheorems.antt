@@ -5,7 +5,7 @@ use native.Mathlib.Omega.{arith}
 use mathlib.Core.Path.{_≡_, refl, sym, ap, ap₂, _∙_, subst}
 use mathlib.Core.Bool.{true}
 use mathlib.Core.List.{List}
-use mathlib.Core.Option.{Option, none, some}
+use mathlib.Core.Option.{Option, none, some, Option·none-ne-some}
 use lib.ListN.{replicate}
 use borrow.Author.Tests.{eq-eqb, ne-eqb}
 use Rattle.layout.proofs.Cases.{by-eq}
@@ -15,7 +15,6 @@ use Rattle.history_theorems.proofs.Guarantees as history-guarantees
 use Rattle.certificate.specs.declared.record.Criterion.{Criterion}
 use Rattle.certificate.specs.Record.{noRow}
 use Rattle.certificate.specs.Record as text-record
-use Rattle.certificate.specs.Criteria as text
 use Rattle.certificate.specs.CertificateText.{certificateText}
 use Rattle.certificate.specs.Readable.{fits}
 use Rattle.certificate_reader.specs.declared.read.CertificateRead.{CertificateRead}
@@ -41,6 +40,9 @@ none-of (some (fault14 e)) n = absurd (omega arith)
 none-of (some (fault15 e)) n = absurd (omega arith)
 none-of (some (fault20 v)) n = absurd (omega arith)
 none-of (some (fault16 v e)) n = absurd (omega arith)
+
+same-name : {v w : Criterion} → _≡_ {A = Option Criterion} (some v) (some w) → v ≡ w
+same-name e = cc
 
 module _ (history text : List ℕ) where
   -- both texts are read
@@ -75,6 +77,18 @@ module _ (history text : List ℕ) where
   pub accepted-names : Accepted history text → Names history text (certificateRead history text .criterion)
   unfolding Names
   accepted-names a = ap (λ (v : Verdict). v .criterion) (checked-as (accepted-read a))
+
+  -- a text that names a criterion is read
+  pub names-read : (v : Criterion) → Names history text v → readCertificate history text .fault ≡ 0
+  unfolding Names
+  names-read v n =
+      by-eq (readCertificate history text .fault) 0 (λ z. z)
+      (λ m. absurd (Option·none-ne-some v (sym (ap (λ (x : Verdict). x .criterion) (refused-as m)) ∙ n)))
+
+  -- the criterion that a text names is that of its lists
+  pub named : (v : Criterion) → Names history text v → certificateRead history text .criterion ≡ v
+  unfolding Names
+  named v n = same-name (sym (ap (λ (x : Verdict). x .criterion) (checked-as (names-read v n))) ∙ n)
 
   -- what reading guarantees of the lists
   pub lists-readable : readCertificate history text .fault ≡ 0 → Readable (historyRead history) (certificateRead history text)

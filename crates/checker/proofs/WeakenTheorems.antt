@@ -2,57 +2,32 @@
 -- Assumes nothing.
 use Prim.Native.Nat.{ℕ}
 use mathlib.Core.Path.{_≡_, refl, sym, ap, _∙_, subst}
-use mathlib.Core.Bool.{Bool, true, false, false≢true}
+use mathlib.Core.Bool.{true, false, false≢true}
 use mathlib.Core.List.{List}
 use mathlib.Core.Option.{Option, none, some}
 use lib.ListN.{replicate}
-use Rattle.history.specs.declared.record.Event.{Event}
 use Rattle.history_reader.specs.ReadHistory.{readHistory}
 use Rattle.certificate.specs.declared.record.Criterion.{Criterion}
 use Rattle.certificate.specs.Record.{noRow}
-use Rattle.certificate.specs.Criteria as text
 use Rattle.certificate.specs.CertificateText.{certificateText}
-use Rattle.certificate_theorems.proofs.Theorems.{eventsOf, few-events, no-fault-history, read-written}
-use Rattle.criteria.specs.Certificate.{Certificate, Readable}
+use Rattle.certificate_theorems.proofs.Theorems.{eventsOf, no-fault-history, read-written}
+use Rattle.criteria.specs.Certificate.{Certificate}
 use Rattle.criteria.specs.Weaken.{isPair, weakened}
 use Rattle.criteria.specs.Records.{certificateOf}
 use Rattle.criteria.proofs.Weaken as on-lists
 use Rattle.checker.specs.CheckText.{historyRead, certificateRead, Accepted, Names}
-use Rattle.checker.specs.WeakenText.{textOfLists, textIfSome, weakenedText}
-use Rattle.checker.proofs.TextTheorems.{accepted-read, accepted-passes, few-processes-of, lists-readable, text-of, text-accepted}
+use Rattle.checker.specs.MadeText.{textOfLists, textIfSome}
+use Rattle.checker.specs.WeakenText.{weakenedText}
+use Rattle.checker.proofs.TextTheorems.{accepted-read, accepted-passes, few-processes-of, lists-readable}
 use Rattle.checker.specs.Demand3.{Bytes}
-use Rattle.checker.proofs.ListTexts.{text-lists}
-use Rattle.checker.proofs.ByteLaws.{text-bytes}
-
--- the text of a certificate's record is the text of its lists
-pub text-is-lists : (history : List ℕ) (z : readHistory history .fault ≡ 0) (d : Certificate) (r : Readable (historyRead history) d)
-    → text-of history z d r ≡ textOfLists (eventsOf history) d
-unfolding historyRead
-text-is-lists history z d r = text-lists (readHistory history .history) (few-events history z) d r
-
-record Some (o : Option Certificate) (t : List ℕ) (es : List Event) : Type 0 where
-  lists : Certificate
-  found : o ≡ some lists
-  says : textOfLists es lists ≡ t
-
-unwrap : {t u : List ℕ} → _≡_ {A = Option (List ℕ)} (some t) (some u) → t ≡ u
-unwrap e = cc
-
-abbrev hasText : Option (List ℕ) → Bool
-hasText none = false
-hasText (some t) = true
-
-some-of : (es : List Event) (o : Option Certificate) (t : List ℕ) → textIfSome es o ≡ some t → Some o t es
-some-of es (some d) t e = record { lists = d; found = refl; says = unwrap e }
-some-of es none t e = absurd (false≢true (ap hasText e))
+use Rattle.checker.proofs.MadeLaws.{made-of, lists-bytes, made-accepted, made-names}
 
 -- a weakened text is a text of bytes
 pub weakened-bytes : (history given : List ℕ) (w : Criterion) (t : List ℕ) → weakenedText history given w ≡ some t → Bytes t
 unfolding weakenedText
 weakened-bytes history given w t e =
-    let s = some-of (eventsOf history) (weakened w (historyRead history) (certificateRead history given)) t e in
-    subst Bytes (s .says)
-    (text-bytes (s .lists .criterion) (text.viewNumbers (s .lists .criterion) (eventsOf history)) (s .lists .pasts) (s .lists .views))
+    let s = made-of (eventsOf history) (weakened w (historyRead history) (certificateRead history given)) t e in
+    subst Bytes (s .says) (lists-bytes (eventsOf history) (s .lists))
 
 module _ (history text : List ℕ) (a : Accepted history text) where
   z : readHistory history .fault ≡ 0
@@ -62,12 +37,11 @@ module _ (history text : List ℕ) (a : Accepted history text) where
   pub weakened-accepted : (w : Criterion) (t : List ℕ) → weakenedText history text w ≡ some t → Accepted history t × Names history t w
   unfolding weakenedText
   weakened-accepted w t e =
-      let s = some-of (eventsOf history) (weakened w (historyRead history) (certificateRead history text)) t e in
+      let s = made-of (eventsOf history) (weakened w (historyRead history) (certificateRead history text)) t e in
       let d = on-lists.weaken-accepted (historyRead history) w (certificateRead history text) (s .lists)
       (few-processes-of history text a) (lists-readable history text (accepted-read history text a)) (accepted-passes history text a) (s .found) in
-      let p = text-accepted history z (s .lists) (d .readable) (d .passes) in
-      let q : text-of history z (s .lists) (d .readable) ≡ t = text-is-lists history z (s .lists) (d .readable) ∙ s .says in
-      (rw q at (p .0), subst (λ (k : Criterion). Names history t k) (d .named) (rw q at (p .1)))
+      subst (λ (u : List ℕ). Accepted history u × Names history u w) (s .says)
+      (made-accepted history z w (s .lists) d, made-names history z w (s .lists) d)
 
   -- there is one exactly for the pairs
   pub weakened-pair : (w : Criterion) → isPair (certificateRead history text .criterion) w ≡ true → (t : List ℕ) × (weakenedText history text w ≡ some t)

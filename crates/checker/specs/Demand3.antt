@@ -1,20 +1,20 @@
 -- The third demand, on texts. It names only definitions: readable (`history/specs/Readable`), meets (`criteria/specs/Criteria`), accepted
 -- and names (`CheckText`), the pairs (`criteria/specs/Weaken`), the weakened text and what weakening answers, with its length and the buffer
--- afterwards (`WeakenText`).
+-- afterwards (`WeakenText`), and what becomes of a buffer (`MadeText`).
 use Prim.Native.Nat.{ℕ, _≤_, _<_}
 use mathlib.Core.Path.{_≡_}
 use mathlib.Core.Bool.{true}
 use mathlib.Core.List.{List}
 use mathlib.Core.Option.{some}
 use lib.ListN.{length}
-use Rattle.layout.specs.Fill.{fill}
 use Rattle.history.specs.Readable.{allLess, Readable}
 use Rattle.certificate.specs.declared.record.Criterion.{Criterion}
 use Rattle.criteria.specs.Criteria.{Meets}
 use Rattle.criteria.specs.Weaken.{isPair}
 use Rattle.criteria.specs.Records.{historyOf}
 use Rattle.checker.specs.CheckText.{Accepted, Names}
-use Rattle.checker.specs.WeakenText.{wantedOf, weakenedText, plain, weakenAnswer, weakenLength, weakenBytes}
+use Rattle.checker.specs.MadeText.{Written, Unwritten}
+use Rattle.checker.specs.WeakenText.{wantedOf, weakenedText, weakenAnswer, weakenLength, weakenBytes}
 
 -- A text of bytes: each is below 256.
 unfoldable pub Bytes : List ℕ → Type 0
@@ -36,18 +36,6 @@ pub record Weakens (history text : List ℕ) (w : Criterion) : Type 0 where
   pub accepted : Accepted history weakened
   pub names : Names history weakened w
 
--- What weakening does to a buffer: exactly the text in its first bytes, the rest as it was, and the text's length; or 18, no byte changed
--- and the length 0.
-pub record Written (history text : List ℕ) (wanted : ℕ) (v : Criterion) (weakened buffer : List ℕ) : Type 0 where
-  pub answer : weakenAnswer history text wanted buffer ≡ plain v 0
-  pub bytes : weakenBytes history text wanted buffer ≡ fill weakened buffer
-  pub long : weakenLength history text wanted buffer ≡ length weakened
-
-pub record TooShort (history text : List ℕ) (wanted : ℕ) (v : Criterion) (buffer : List ℕ) : Type 0 where
-  pub answer : weakenAnswer history text wanted buffer ≡ plain v 18
-  pub bytes : weakenBytes history text wanted buffer ≡ buffer
-  pub long : weakenLength history text wanted buffer ≡ 0
-
 -- "For every readable history text and each criterion, the history meets it exactly when some certificate text that names it is
 -- accepted; and weakening an accepted certificate gives, for every pair of document 01's list, a text that is accepted and names the
 -- criterion wanted, written into every buffer that has room, with 18 for every other." The pairs of document 02, T-06 "join document
@@ -61,7 +49,7 @@ pub record Demand3 : Type 0 where
       → Weakens history text w
   pub written : (history text : List ℕ) → Accepted history text → (v w : Criterion) → Names history text v → (wanted : ℕ) → wantedOf wanted ≡ some w
       → (weakened : List ℕ) → weakenedText history text w ≡ some weakened → (buffer : List ℕ) → length weakened ≤ length buffer
-      → Written history text wanted v weakened buffer
+      → Written (weakenAnswer history text wanted buffer) (weakenLength history text wanted buffer) (weakenBytes history text wanted buffer) v weakened buffer
   pub too-short : (history text : List ℕ) → Accepted history text → (v w : Criterion) → Names history text v → (wanted : ℕ) → wantedOf wanted ≡ some w
       → (weakened : List ℕ) → weakenedText history text w ≡ some weakened → (buffer : List ℕ) → length buffer < length weakened
-      → TooShort history text wanted v buffer
+      → Unwritten (weakenAnswer history text wanted buffer) (weakenLength history text wanted buffer) (weakenBytes history text wanted buffer) v 18 buffer

@@ -1,32 +1,16 @@
 -- The weakened text of a certificate text for a history text (document 01, "Weaken"): "the wanted criterion's certificate text made of
 -- these lists".
 use Prim.Native.Nat.{ℕ, zero, suc}
-use mathlib.Core.Bool.{cond}
-use mathlib.Core.List.{List, []}
+use mathlib.Core.Bool.{false}
+use mathlib.Core.List.{List}
 use mathlib.Core.Option.{Option, none, some}
-use lib.ListN.{length}
-use lib.Dec.{eqb, leb}
-use Rattle.layout.specs.Fill.{fill}
-use Rattle.history.specs.declared.record.Event.{Event}
 use Rattle.history.specs.Record.{eventsIn}
-use Rattle.history_reader.specs.Place.{nowhere}
 use Rattle.history_reader.specs.ReadHistory.{readHistory}
 use Rattle.certificate.specs.declared.record.Criterion.{Criterion}
 use Rattle.certificate.specs.declared.record.Criterion.the-variants.{Pram, Weak, Causal, Converge, Sequential, Strict}
-use Rattle.certificate.specs.Criteria.{viewNumbers}
-use Rattle.certificate.specs.CertificateText.{textOf}
-use Rattle.certificate_reader.specs.ReadCertificate.{readCertificate}
-use Rattle.criteria.specs.Certificate.{Certificate}
 use Rattle.criteria.specs.Weaken.{weakened}
-use Rattle.checker.specs.CheckText.{Verdict, refused, checked, historyRead, certificateRead, checkText}
-
--- The certificate text of lists, of a history with these events.
-abbrev pub textOfLists : List Event → Certificate → List ℕ
-textOfLists es d = textOf (d .criterion) (viewNumbers (d .criterion) es) (d .pasts) (d .views)
-
-abbrev pub textIfSome : List Event → Option Certificate → Option (List ℕ)
-textIfSome es none = none
-textIfSome es (some d) = some (textOfLists es d)
+use Rattle.checker.specs.CheckText.{Verdict, historyRead, certificateRead}
+use Rattle.checker.specs.MadeText.{textIfSome, madeVerdict, lengthMade, bytesMade}
 
 -- None where the criterion that the text names and the one wanted are not a pair.
 unfoldable pub weakenedText : List ℕ → List ℕ → Criterion → Option (List ℕ)
@@ -49,43 +33,15 @@ abbrev pub weakenedWanted : List ℕ → List ℕ → Option Criterion → Optio
 weakenedWanted history text none = none
 weakenedWanted history text (some w) = weakenedText history text w
 
--- An answer that carries no place: "every other number carries no text, line, view or event".
-abbrev pub plain : Criterion → ℕ → Verdict
-plain c number = checked nowhere c record { number = number; view = none; event = none }
-
--- Both texts are read: v is their check, c the criterion named, and t the weakened text, if the two criteria are a pair. "17: not a
--- pair below; 11 to 16; 18", and 20 as in the check.
-abbrev pub pairAnswer : Verdict → Criterion → Option (List ℕ) → List ℕ → Verdict
-pairAnswer v c none buffer = plain c 17
-pairAnswer v c (some t) buffer = cond (eqb (v .number) 0) (cond (leb (length t) (length buffer)) v (plain c 18)) v
-
-abbrev pub bytesOf : Option (List ℕ) → List ℕ
-bytesOf none = []
-bytesOf (some t) = t
-
--- "On success the text fills the buffer's first bytes, the rest of the buffer unchanged, and its length is given. On refusal no byte
--- changes and the length is 0."
-abbrev pub pairLength : Verdict → Criterion → Option (List ℕ) → List ℕ → ℕ
-pairLength v c t buffer = cond (eqb (pairAnswer v c t buffer .number) 0) (length (bytesOf t)) 0
-
-abbrev pub pairBytes : Verdict → Criterion → Option (List ℕ) → List ℕ → List ℕ
-pairBytes v c t buffer = cond (eqb (pairAnswer v c t buffer .number) 0) (fill (bytesOf t) buffer) buffer
-
--- Weakening: "reading refusals as in the check" come first.
+-- What weakening answers, the length and the buffer afterwards. A weakening does not ask whether updates cross.
 unfoldable pub weakenAnswer : List ℕ → List ℕ → ℕ → List ℕ → Verdict
 weakenAnswer history text wanted buffer =
-    cond (eqb (readCertificate history text .fault) 0)
-    (pairAnswer (checkText history text) (certificateRead history text .criterion) (weakenedWanted history text (wantedOf wanted)) buffer)
-    (refused (readCertificate history text))
+    madeVerdict history text false (weakenedWanted history text (wantedOf wanted)) buffer
 
 unfoldable pub weakenLength : List ℕ → List ℕ → ℕ → List ℕ → ℕ
 weakenLength history text wanted buffer =
-    cond (eqb (readCertificate history text .fault) 0)
-    (pairLength (checkText history text) (certificateRead history text .criterion) (weakenedWanted history text (wantedOf wanted)) buffer)
-    0
+    lengthMade (weakenAnswer history text wanted buffer) (weakenedWanted history text (wantedOf wanted))
 
 unfoldable pub weakenBytes : List ℕ → List ℕ → ℕ → List ℕ → List ℕ
 weakenBytes history text wanted buffer =
-    cond (eqb (readCertificate history text .fault) 0)
-    (pairBytes (checkText history text) (certificateRead history text .criterion) (weakenedWanted history text (wantedOf wanted)) buffer)
-    buffer
+    bytesMade (weakenAnswer history text wanted buffer) (weakenedWanted history text (wantedOf wanted)) buffer

@@ -6,6 +6,7 @@ pub mod Search
 pub mod Meeting
 pub mod Weaken
 pub mod Loops
+pub mod OneLine
 pub mod Object
 pub mod RecordLaws
 pub mod Samples

@@ -351,7 +351,17 @@ count-take e (suc k) (x ∷ v) = go (eqb e x) (count-take e k v)
     go true h = omega arith
     go false h = h
 
+pub once-take : (k : ℕ) (v : List ℕ) → Once v → Once (take k v)
+once-take k v o e = let a = count-take e k v in let b = o e in omega arith
+
 -- ---- what is kept
+
+pub once-keep : (f : ℕ → Bool) (v : List ℕ) → Once v → Once (keep f v)
+once-keep f v o e = rw (count-keep) (go (f e))
+  where
+    go : (b : Bool) → cond b (count e v) 0 ≤ 1
+    go true = o e
+    go false = omega arith
 
 module _ {A : Type 0} where
   pub keep-append : (f : A → Bool) (a b : List A) → keep f (a ++ b) ≡ keep f a ++ keep f b

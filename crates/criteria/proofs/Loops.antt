@@ -11,7 +11,7 @@ use lib.ListN.{length, getD, take}
 use lib.Seq.{take-suc}
 use Rattle.criteria.specs.Tests.{lowest, keepIf, keep, mem}
 use Rattle.criteria.specs.History.{History}
-use Rattle.criteria.specs.Replay.{Contents, changed, afterAll}
+use Rattle.criteria.specs.Replay.{Contents, changed, afterAll, Right, Replays}
 use Rattle.criteria.specs.Check.{right, firstWrong}
 use Rattle.criteria.proofs.Lists.{below-suc, none-lowest, mem-append, keep-append}
 
@@ -28,6 +28,19 @@ mem-take-suc e v i l = ap (mem e) (take-suc v i 0 l) ∙ mem-append e (take i v)
 
 pub keep-take-suc : (f : ℕ → Bool) (v : List ℕ) (i : ℕ) → i < length v → keep f (take (suc i) v) ≡ keep f (take i v) ++ keepIf (f (getD v i 0)) (getD v i 0) []
 keep-take-suc f v i l = ap (keep f) (take-suc v i 0 l) ∙ keep-append f (take i v) (getD v i 0 ∷ [])
+
+-- an event's visible answer is right after what stands before it
+pub replays-at : (h : History) (vis : ℕ → Bool) (s : Contents) (a : List ℕ) (e : ℕ) (b : List ℕ) → Replays h vis s (a ++ (e ∷ b)) → vis e ≡ true
+    → Right h (afterAll h s a) e
+replays-at h vis s [] e b r t = r .0 t
+replays-at h vis s (x ∷ a) e b r t = replays-at h vis (changed h s x) a e b (r .1) t
+
+-- a view replays whose visible answers are right after what stands before them
+pub right-replays : (h : History) (vis : ℕ → Bool) (s : Contents) (v : List ℕ)
+    → ((i : ℕ) → i < length v → vis (getD v i 0) ≡ true → Right h (afterAll h s (take i v)) (getD v i 0)) → Replays h vis s v
+right-replays h vis s [] f = tt
+right-replays h vis s (x ∷ v) f =
+    (f zero (omega arith), right-replays h vis (changed h s x) v (λ i l. f (suc i) (omega arith)))
 
 -- "16 a visible answer that the replay doesn't give, at the first such event in the view": what `firstWrong` finds
 abbrev pub wrongAt : History → (ℕ → Bool) → Contents → List ℕ → ℕ → Bool

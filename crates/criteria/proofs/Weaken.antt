@@ -206,7 +206,7 @@ kept-isView P S v i c e =
     ∙ by-test (S e) (λ t. rw (c e, t, i e t) refl) (λ t. rw t refl)
 
 module _ (h : History) (R : ℕ → ℕ → Bool) (vs : List (List ℕ)) where
-  causal-weak : Good h Causal R vs → Good h Weak R vs
+  pub causal-weak : Good h Causal R vs → Good h Weak R vs
   causal-weak g = record {
     causalOrder = g .causalOrder;
     isView = g .isView;
@@ -216,7 +216,7 @@ module _ (h : History) (R : ℕ → ℕ → Bool) (vs : List (List ℕ)) where
         (λ f t. eq-eqb (process h f) (process h k) (ap (process h) (eqb-true f k t))) (g .replays k l);
   }
 
-  converge-weak : Good h Converge R vs → Good h Weak R (table (size h) (λ e. keep (pastWith R e) (getD vs 0 [])))
+  pub converge-weak : Good h Converge R vs → Good h Weak R (table (size h) (λ e. keep (pastWith R e) (getD vs 0 [])))
   converge-weak g = record {
     causalOrder = g .causalOrder;
     isView = λ k l. subst (IsView (pastWith R k)) (sym (cut k l)) (cut-isView k l);
@@ -380,7 +380,7 @@ module _ (h : History) (R : ℕ → ℕ → Bool) (v : List ℕ) (iv : IsView (i
           let r : place f v ≡ place e v = ap (λ (k : ℕ). place k v) q in
           mem-take f (suc (place e v)) v (subst (λ (k : ℕ). mem k v ≡ true) (sym q) (view-mem h v iv e l)) (omega arith)
 
-strict-causal : (h : History) (R : ℕ → ℕ → Bool) (vs : List (List ℕ)) → FewProcesses h → Good h Strict R vs
+pub strict-causal : (h : History) (R : ℕ → ℕ → Bool) (vs : List (List ℕ)) → FewProcesses h → Good h Strict R vs
     → Good h Causal R (table (size h) (ownPart h vs))
 unfolding ownPart OnlyPast upToIn
 strict-causal h R vs f g = record {
@@ -431,7 +431,7 @@ AcceptedIf : History → Criterion → Option Certificate → Type 0
 AcceptedIf h w none = Unit {0}
 AcceptedIf h w (some c) = Accepted h w c
 
-from-built : (h : History) (w : Criterion) (R : ℕ → ℕ → Bool) (vs : List (List ℕ)) → length vs ≡ viewCount w h → (hasPasts w ≡ false → R ≡ programOrder h)
+pub from-built : (h : History) (w : Criterion) (R : ℕ → ℕ → Bool) (vs : List (List ℕ)) → length vs ≡ viewCount w h → (hasPasts w ≡ false → R ≡ programOrder h)
     → Good h w R vs → Accepted h w (built h w R vs)
 from-built h w R vs q o g =
     let a = built-accepted h w R vs q o g in record { named = refl; readable = a .0; passes = a .1 }

@@ -6,5 +6,6 @@ pub mod Criteria
 pub mod Certificate
 pub mod Check
 pub mod Weaken
+pub mod OneLine
 pub mod Records
 pub mod Written

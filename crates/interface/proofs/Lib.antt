@@ -1,3 +1,3 @@
 pub mod PlaceLaws
 pub mod RewriteLaws
-pub mod WeakenLaws
+pub mod MadeLaws

@@ -88,7 +88,7 @@ pub fn outside_past(view: [u8; 64], n: usize, rows: &[u64; 64], processes: [u8; 
 }
 
 // How many of a test that passed or not.
-fn one_if(passed: bool) -> usize
+pub fn one_if(passed: bool) -> usize
     ensures { λ r. ⌜ (r ≡ one passed) × (r ≤ 1) ⌝ }
 {
     if passed {

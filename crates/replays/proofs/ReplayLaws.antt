@@ -23,6 +23,7 @@ use Rattle.criteria.specs.Tests.{sameList}
 use Rattle.criteria.specs.History.{Event, event}
 use Rattle.criteria.specs.Replay.{changed}
 use Rattle.criteria.specs.Check.{fits, right, firstWrong}
+use Rattle.criteria.specs.OneLine.{isUpdate}
 use Rattle.criteria.proofs.Lists.{by-test, clash, getD-table}
 use Rattle.criteria.proofs.Object.{length-last}
 use Rattle.objects.specs.declared.state.State.{State}
@@ -31,7 +32,7 @@ use Rattle.objects.specs.State.{valueIn, contentsOf, givenOf, Fresh, Suits, Cha
 use Rattle.objects.specs.State.{noState}
 use Rattle.history.specs.Record.{noObject}
 use Rattle.replays.specs.Replay.{recordedAs, noLight, eventAt, lightHistory, contentsIn, isVisible, foundEvent, Stands, Silent}
-use Rattle.replays.specs.Steps.{seesOf, canChange, Judged}
+use Rattle.replays.specs.Steps.{seesOf, Judged}
 use Rattle.replays.specs.declared.replay.Light.{Light}
 use Rattle.replays.specs.declared.replay.Visible.{Visible}
 use Rattle.replays.specs.declared.replay.Visible.the-variants.{All, Of, Only}
@@ -106,7 +107,7 @@ module _ (silent seen : Bool) (vs : List ℕ) (answer : Option (List ℕ)) (s : 
         (λ q. let z : seen ≡ false = rw q at (sym asked ∙ f) in rw z)
 
 -- an op that changes nothing leaves the state as it is
-pub unchanged : (s : State) (op : Op) (e : ℕ) → canChange op ≡ false → s .head ≤ s .tail → Changed s op e s
+pub unchanged : (s : State) (op : Op) (e : ℕ) → isUpdate op ≡ false → s .head ≤ s .tail → Changed s op e s
 unchanged s Write e f le = absurd (true≢false f)
 unchanged s Read e f le = record { newest = refl; limit = refl; ends = le; room = omega arith; contents = λ vs o _. refl }
 unchanged s Push e f le = absurd (true≢false f)

@@ -1,14 +1,14 @@
 -- How the replay's loop does it: one event's test. Assumes nothing.
 use Prim.Native.Nat.{ℕ, _≤_}
 use mathlib.Core.Path.{_≡_}
-use mathlib.Core.Bool.{Bool, true, false, not, _&&_}
+use mathlib.Core.Bool.{Bool, true, not, _&&_}
 use mathlib.Core.List.{List}
 use mathlib.Core.Option.{Option}
 use lib.ListN.{length}
 use lib.Dec.{eqb}
 use Rattle.history.specs.declared.record.Object.{Object}
 use Rattle.history.specs.declared.record.Op.{Op}
-use Rattle.history.specs.declared.record.Op.the-variants.{Write, Read, Push, Pop, Peek}
+use Rattle.history.specs.declared.record.Op.the-variants.{Read}
 use Rattle.criteria.specs.Object.{gives}
 use Rattle.criteria.specs.Check.{fits}
 use Rattle.objects.specs.declared.state.State.{State}
@@ -28,11 +28,3 @@ Judged silent seen vs answer s op number r =
     (o : Object) → Suits o op s → (op ≡ Read → length (contentsOf vs s) ≤ 8)
     → (silent ≡ true → (c : List ℕ) → fits answer (gives o op (valueIn vs number) c) ≡ true)
     → r ≡ seen && not (fits answer (gives o op (valueIn vs number) (contentsOf vs s)))
-
--- The op can change what an object holds.
-abbrev pub canChange : Op → Bool
-canChange Write = true
-canChange Read = false
-canChange Push = true
-canChange Pop = true
-canChange Peek = false

@@ -5,9 +5,10 @@ ghost use mathlib.Core.Bool.{true, not, _&&_};
 ghost use lib.ListN.{length, take};
 ghost use Rattle.criteria.specs.Tests.{sameList};
 ghost use Rattle.criteria.specs.Check.{fits, firstWrong};
+ghost use Rattle.criteria.specs.OneLine.{isUpdate};
 ghost use Rattle.objects.specs.State.{valueIn, givenOf};
 ghost use Rattle.replays.specs.Replay.{recordedAs, lightHistory, contentsIn, isVisible, foundEvent, Ready};
-ghost use Rattle.replays.specs.Steps.{seesOf, canChange};
+ghost use Rattle.replays.specs.Steps.{seesOf};
 use history::record::EventNo;
 use history::record::Object;
 use history::record::Op;
@@ -94,9 +95,9 @@ fn asks(who: Visible, process: ProcessNo, no: EventNo, silent: bool) -> bool
     sees(who, process, no)
 }
 
-// Whether the op can change what an object holds.
-fn changes(op: Op) -> bool
-    ensures { λ r. ⌜ r ≡ canChange op ⌝ }
+// Whether the op can change what an object holds: whether it is an update.
+pub fn changes(op: Op) -> bool
+    ensures { λ r. ⌜ r ≡ isUpdate op ⌝ }
 {
     match op {
         Op::Write => true,

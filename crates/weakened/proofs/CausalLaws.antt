@@ -81,7 +81,7 @@ joined-done first second k m i h g z l events q r =
 
 -- ---- a list that is completed
 -- tests that agree below n keep the same of the first n numbers
-keep-below : (f g : ℕ → Bool) (n : ℕ) → ((e : ℕ) → e < n → f e ≡ g e) → keep f (upTo n) ≡ keep g (upTo n)
+pub keep-below : (f g : ℕ → Bool) (n : ℕ) → ((e : ℕ) → e < n → f e ≡ g e) → keep f (upTo n) ≡ keep g (upTo n)
 keep-below f g zero h = refl
 keep-below f g (suc n) h =
     keep-append f (upTo n) (n ∷ [])

@@ -248,9 +248,14 @@ pub trait Rules: HistoryRules + CertificateRules + CheckRules {
     fn refusal(&self, history: &History, certificate: &Certificate) -> u32 {
         self.answer_to(history, certificate)
     }
+
+    /// One line of stock: the refusal's number, 18 aside, or the sequential text.
+    fn sequential(&self, history: &[u8], certificate: &[u8]) -> Result<Vec<u8>, u32> {
+        crate::sequential::sequential_texts(self, history, certificate)
+    }
 }
 
-/// Document 01's rules with those that T-01 to T-06 of document 02 change: every default above.
+/// Document 01's rules with those that T-01 to T-06 and T-11 of document 02 change: every default above.
 pub struct Document01;
 
 impl ObjectRules for Document01 {}

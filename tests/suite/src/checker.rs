@@ -30,6 +30,7 @@ pub trait Checker {
     fn rewrite_history(&self, history: &[u8], buffer: &mut Lent<u8>, length: &mut u64) -> u32;
     fn rewrite_certificate(&self, history: &[u8], certificate: &[u8], buffer: &mut Lent<u8>, length: &mut u64) -> u32;
     fn weaken(&self, history: &[u8], certificate: &[u8], wanted: u32, buffer: &mut Lent<u8>, length: &mut u64) -> u32;
+    fn sequential(&self, history: &[u8], certificate: &[u8], buffer: &mut Lent<u8>, length: &mut u64) -> u32;
 }
 
 extern "C" {
@@ -68,6 +69,15 @@ extern "C" {
         buffer_length: usize,
         length: *mut u64,
     ) -> u32;
+    fn walnutgleam_sequential(
+        history: *const u8,
+        history_length: usize,
+        certificate: *const u8,
+        certificate_length: usize,
+        buffer: *mut u8,
+        buffer_length: usize,
+        length: *mut u64,
+    ) -> u32;
 }
 
 /// The archive that the build linked.
@@ -100,6 +110,28 @@ impl Pointers for ArchiveGivenNull {
 
 // SAFETY of the calls below: every pointer comes from a slice or a reference and goes with its length, or is NULL and goes with the
 // length 0, as the header allows. A part of a lent buffer lies within its guards, so that even a small overrun is seen and does no harm.
+
+/// What one of the functions writes from the two texts.
+fn write_from<P: Pointers>(
+    function: unsafe extern "C" fn(*const u8, usize, *const u8, usize, *mut u8, usize, *mut u64) -> u32,
+    history: &[u8],
+    certificate: &[u8],
+    buffer: &mut Lent<u8>,
+    length: &mut u64,
+) -> u32 {
+    unsafe {
+        function(
+            P::of_text(history),
+            history.len(),
+            P::of_text(certificate),
+            certificate.len(),
+            P::of_lent(buffer),
+            buffer.length,
+            length,
+        )
+    }
+}
+
 impl<P: Pointers> Checker for P {
     fn check(&self, history: &[u8], certificate: &[u8]) -> u32 {
         unsafe { walnutgleam_check(P::of_text(history), history.len(), P::of_text(certificate), certificate.len()) }
@@ -123,17 +155,7 @@ impl<P: Pointers> Checker for P {
     }
 
     fn rewrite_certificate(&self, history: &[u8], certificate: &[u8], buffer: &mut Lent<u8>, length: &mut u64) -> u32 {
-        unsafe {
-            walnutgleam_rewrite_certificate(
-                P::of_text(history),
-                history.len(),
-                P::of_text(certificate),
-                certificate.len(),
-                P::of_lent(buffer),
-                buffer.length,
-                length,
-            )
-        }
+        write_from::<P>(walnutgleam_rewrite_certificate, history, certificate, buffer, length)
     }
 
     fn weaken(&self, history: &[u8], certificate: &[u8], wanted: u32, buffer: &mut Lent<u8>, length: &mut u64) -> u32 {
@@ -149,6 +171,10 @@ impl<P: Pointers> Checker for P {
                 length,
             )
         }
+    }
+
+    fn sequential(&self, history: &[u8], certificate: &[u8], buffer: &mut Lent<u8>, length: &mut u64) -> u32 {
+        write_from::<P>(walnutgleam_sequential, history, certificate, buffer, length)
     }
 }
 
@@ -195,5 +221,9 @@ impl<R: Rules> Checker for Model<R> {
 
     fn weaken(&self, history: &[u8], certificate: &[u8], wanted: u32, buffer: &mut Lent<u8>, length: &mut u64) -> u32 {
         put(weaken_texts(&self.0, history, certificate, wanted), buffer, length)
+    }
+
+    fn sequential(&self, history: &[u8], certificate: &[u8], buffer: &mut Lent<u8>, length: &mut u64) -> u32 {
+        put(self.0.sequential(history, certificate), buffer, length)
     }
 }

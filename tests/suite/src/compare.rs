@@ -13,6 +13,7 @@ pub enum Call {
     RewriteHistory { buffer: usize },
     RewriteCertificate { buffer: usize },
     Weaken { wanted: u32, buffer: usize },
+    Sequential { buffer: usize },
 }
 
 impl Call {
@@ -23,6 +24,7 @@ impl Call {
             Call::RewriteHistory { .. } => "rewrite_history",
             Call::RewriteCertificate { .. } => "rewrite_certificate",
             Call::Weaken { .. } => "weaken",
+            Call::Sequential { .. } => "sequential",
         }
     }
 }
@@ -40,8 +42,11 @@ pub struct Outcome {
 pub fn run(checker: &dyn Checker, call: Call, history: &[u8], certificate: &[u8]) -> Outcome {
     let (places, buffer) = match call {
         Call::Verdict { places } => (places, 0),
-        Call::RewriteHistory { buffer } | Call::RewriteCertificate { buffer } | Call::Weaken { buffer, .. } => (0, buffer),
-        _ => (0, 0),
+        Call::RewriteHistory { buffer }
+        | Call::RewriteCertificate { buffer }
+        | Call::Weaken { buffer, .. }
+        | Call::Sequential { buffer } => (0, buffer),
+        Call::Check => (0, 0),
     };
     // No two neighbours in the lent memory are alike, and none of them is a byte of a text or a likely number.
     let mut outcome = Outcome {
@@ -61,6 +66,9 @@ pub fn run(checker: &dyn Checker, call: Call, history: &[u8], certificate: &[u8]
         }
         Call::Weaken { wanted, .. } => {
             checker.weaken(history, certificate, wanted, &mut outcome.buffer, &mut outcome.length)
+        }
+        Call::Sequential { .. } => {
+            checker.sequential(history, certificate, &mut outcome.buffer, &mut outcome.length)
         }
     };
     outcome.inputs_kept = before.0 == history && before.1 == certificate;
@@ -89,6 +97,9 @@ pub fn crop(bytes: &[u8]) -> String {
     }
     format!("{} .. ({} bytes) .. {}", text(&bytes[..400]), bytes.len(), text(&bytes[bytes.len() - 200..]))
 }
+
+/// Two texts of so many bytes together are soon read.
+const SHORT: usize = 1_000;
 
 /// The check of a history text in which the answer of a line is lost.
 pub const CHECK_OF_LOST: &str = "check with a lost answer";
@@ -188,9 +199,12 @@ impl<'c> Comparer<'c> {
         self.compare(Call::Verdict { places: 7 }, history, certificate)
     }
 
-    /// The check and its seven places.
+    /// The check and its seven places; of short texts one line of stock too.
     pub fn check(&mut self, history: &[u8], certificate: &[u8]) -> u32 {
         self.compare(Call::Check, history, certificate);
+        if history.len() + certificate.len() <= SHORT {
+            self.compare(Call::Sequential { buffer: SHORT }, history, certificate);
+        }
         self.compare(Call::Verdict { places: 7 }, history, certificate)
     }
 }

@@ -211,6 +211,20 @@ pub fn damage_either(random: &mut Random, history: &mut Vec<u8>, certificate: &m
     damage_text(random, text);
 }
 
+/// The two texts as they are, or with one thing changed in a record or in a text, each once in four rounds.
+pub fn damaged_texts(random: &mut Random, round: usize, mut history: History, mut certificate: Certificate) -> (Vec<u8>, Vec<u8>) {
+    match round % 4 {
+        1 => damage_certificate(random, &history, &mut certificate),
+        2 => damage_history(random, &mut history),
+        _ => {}
+    }
+    let (mut history, mut certificate) = (history.text(), certificate.text());
+    if round % 4 == 3 {
+        damage_either(random, &mut history, &mut certificate);
+    }
+    (history, certificate)
+}
+
 /// Changes one thing in a text.
 pub fn damage_text(random: &mut Random, text: &mut Vec<u8>) {
     if text.is_empty() {

@@ -106,7 +106,8 @@ pub fn nulls(comparer: &mut Comparer, random: &mut Random, rounds: usize) {
     let q = q().text();
     let sequential = |order: &str| format!("criterion sequential\nview order\n0 {order}\n").into_bytes();
     let mut histories = vec![vec![], q, b"object kind width\nevent process object op value answer\n".to_vec(), b"\n".to_vec()];
-    let mut certificates = vec![vec![], sequential("0,1"), sequential("1,0"), sequential("-"), b"\n".to_vec()];
+    let weak = b"criterion weak\nevent past\n0 -\n1 0\nview order\n0 0\n1 0,1\n".to_vec();
+    let mut certificates = vec![vec![], sequential("0,1"), sequential("1,0"), sequential("-"), b"\n".to_vec(), weak];
     for _ in 0..rounds.div_ceil(400) {
         let (history, certificate) = pair(random);
         histories.push(history.text());
@@ -124,6 +125,7 @@ pub fn nulls(comparer: &mut Comparer, random: &mut Random, rounds: usize) {
                 for wanted in 0..=6 {
                     comparer.compare(Call::Weaken { wanted, buffer }, history, certificate);
                 }
+                comparer.compare(Call::Sequential { buffer }, history, certificate);
             }
         }
     }

@@ -27,6 +27,8 @@ fn all_calls(comparer: &mut Comparer, random: &mut Random, history: &[u8], certi
     comparer.compare(Call::RewriteHistory { buffer }, history, certificate);
     let buffer = near(random, certificate.len());
     comparer.compare(Call::RewriteCertificate { buffer }, history, certificate);
+    let buffer = *random.pick(&[0, 50, 250]);
+    comparer.compare(Call::Sequential { buffer }, history, certificate);
 }
 
 /// Valid texts, long and short: every one is accepted.

@@ -4,7 +4,7 @@
 use crate::certificate::{CERTIFICATE_LIMIT, CRITERIA};
 use crate::check::{CheckRules, Document01};
 use crate::compare::{Call, Comparer};
-use crate::damage::{damage_certificate, damage_either, damage_history};
+use crate::damage::damaged_texts;
 use crate::group_limits::padded;
 use crate::group_memory::lengths_around;
 use crate::group_random::pair;
@@ -66,28 +66,21 @@ pub fn buffers(comparer: &mut Comparer, random: &mut Random, rounds: usize) {
 /// Certificates of all kinds, valid and damaged, weakened to each wanted number.
 pub fn damaged(comparer: &mut Comparer, random: &mut Random, rounds: usize) {
     for round in 0..rounds {
-        let (mut history, mut certificate) = pair(random);
-        match round % 4 {
-            1 => damage_certificate(random, &history, &mut certificate),
-            2 => damage_history(random, &mut history),
-            _ => {}
-        }
-        let (mut history, mut certificate) = (history.text(), certificate.text());
-        if round % 4 == 3 {
-            damage_either(random, &mut history, &mut certificate);
-        }
+        let (history, certificate) = pair(random);
+        let (history, certificate) = damaged_texts(random, round, history, certificate);
         for wanted in WANTED {
             let buffer = *random.pick(&[0, 1, certificate.len(), 5_000, 25_000]);
             comparer.compare(Call::Weaken { wanted, buffer }, &history, &certificate);
         }
+        comparer.compare(Call::Sequential { buffer: 250 }, &history, &certificate);
         if comparer.done() {
             return;
         }
     }
 }
 
-/// A history or a certificate that is longer than its limit, or both, weakened to each wanted number: 1, whatever is wanted and however
-/// short the buffer is. Only a fault of the history comes before a certificate that is too long.
+/// A history or a certificate that is longer than its limit, or both, weakened to each wanted number and put in one line: 1,
+/// whatever is wanted and however short the buffer is. Only a fault of the history comes before a certificate that is too long.
 pub fn too_long(comparer: &mut Comparer, random: &mut Random, rounds: usize) {
     for _ in 0..rounds.div_ceil(100) {
         let (history, certificate) = pair(random);
@@ -96,19 +89,21 @@ pub fn too_long(comparer: &mut Comparer, random: &mut Random, rounds: usize) {
             let long_history = padded(&history, HISTORY_LIMIT + more, b"\n", b"");
             let long_certificate = padded(&certificate, CERTIFICATE_LIMIT + more, b"\n", b"");
             let pairs = [(&long_history, &certificate), (&history, &long_certificate), (&long_history, &long_certificate)];
-            for wanted in WANTED {
-                for buffer in [0, 40_000] {
-                    for (history, certificate) in pairs {
-                        let answer = comparer.compare(Call::Weaken { wanted, buffer }, history, certificate);
-                        if comparer.done() {
-                            return;
-                        }
-                        // At the limit itself the text ends in empty lines.
-                        let stated = if more == 0 { 2 } else { 1 };
-                        comparer.note(answer == stated, || format!("weakening too long texts: given {answer}, stated {stated}"));
+            let calls = |buffer: usize| {
+                let weakenings = WANTED.into_iter().map(move |wanted| Call::Weaken { wanted, buffer });
+                weakenings.chain([Call::Sequential { buffer }])
+            };
+            for call in [0, 40_000].into_iter().flat_map(calls) {
+                for (history, certificate) in pairs {
+                    let answer = comparer.compare(call, history, certificate);
+                    if comparer.done() {
+                        return;
                     }
-                    comparer.compare(Call::Weaken { wanted, buffer }, b"object\n", &long_certificate);
+                    // At the limit itself the text ends in empty lines.
+                    let stated = if more == 0 { 2 } else { 1 };
+                    comparer.note(answer == stated, || format!("too long texts, {call:?}: given {answer}, stated {stated}"));
                 }
+                comparer.compare(call, b"object\n", &long_certificate);
             }
         }
     }

@@ -1,4 +1,4 @@
-//! The test suite of the archive: a model written from the words of document 01 and of T-01 to T-06 in document 02, a
+//! The test suite of the archive: a model written from the words of document 01 and of T-01 to T-06 and T-11 in document 02, a
 //! brute force for small histories, comparisons of the archive with both, and wrong checkers that the comparisons must
 //! find.
 //!
@@ -19,6 +19,7 @@ mod group_lines;
 mod group_lists;
 mod group_meets;
 mod group_memory;
+mod group_one_line;
 mod group_places;
 mod group_random;
 mod group_stated;
@@ -31,9 +32,11 @@ mod objects;
 mod random;
 mod samples;
 mod search;
+mod sequential;
 mod texts;
 mod weaken;
 mod wrong;
+mod wrong_one_line;
 
 use std::collections::{BTreeMap, BTreeSet};
 use std::process::ExitCode;
@@ -94,6 +97,13 @@ const GROUPS: &[Group] = &[
     ("strict by broadcast logs", group_strict::logs),
     ("20 at every view", group_strict::views),
     ("strict, all pairs into buffers", group_strict::pairs),
+    ("stated of one line", group_one_line::stated),
+    ("one line of ordered updates", group_one_line::loaders),
+    ("two updates unordered", group_one_line::crossings),
+    ("one line, damaged texts", group_one_line::damaged),
+    ("one line, pram and sequential", group_one_line::no_sources),
+    ("one line, brute force", group_one_line::brute),
+    ("one line, sizes and buffers", group_one_line::sizes),
 ];
 
 /// The numbers that each function must have answered in a whole run.
@@ -106,6 +116,7 @@ const EXPECTED: &[(&str, &[u32])] = &[
     ("rewrite_history", &[0, 1, 2, 3, 4, 5, 18]),
     ("rewrite_certificate", &[0, 1, 2, 3, 4, 5, 6, 18]),
     ("weaken", &[0, 1, 2, 3, 4, 5, 6, 11, 12, 13, 14, 15, 16, 17, 18, 20]),
+    ("sequential", &[0, 1, 2, 3, 4, 5, 6, 11, 12, 13, 14, 15, 16, 17, 18, 20, 26]),
 ];
 
 /// Runs one group on a checker. Each group has its own numbers, so that one group's change doesn't change another's.
@@ -115,9 +126,9 @@ fn run_group(comparer: &mut Comparer, index: usize, seed: u64, rounds: usize) {
 }
 
 /// The groups whose answers are stated one by one: wrong checkers see them first, in this order.
-const STATED: [&str; 7] = [
+const STATED: [&str; 8] = [
     "samples of document 01", "stated lines of faults", "stated of channels", "stated of windows", "stated of strict",
-    "texts with stated faults", "stated weakenings",
+    "texts with stated faults", "stated weakenings", "stated of one line",
 ];
 
 /// The groups with long texts at every place take their time: wrong checkers see them last.

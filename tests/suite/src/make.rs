@@ -95,6 +95,12 @@ pub fn answers_of(history: &History, order: &[usize]) -> Vec<Vec<u64>> {
 
 /// Pasts of a random causal order.
 pub fn random_pasts(random: &mut Random, history: &History) -> Vec<List> {
+    pasts_with(random, history, &|a, b| history.program_order(a, b))
+}
+
+/// Pasts of a random causal order that is drawn along an order of the events: what comes there before an event is in its
+/// past wherever `needed` says so, and now and then besides. Program order is always needed.
+pub fn pasts_with(random: &mut Random, history: &History, needed: &dyn Fn(usize, usize) -> bool) -> Vec<List> {
     let events = history.events.len();
     let all: List = (0..events).collect();
     let order = random_order(random, &all, &|a, b| history.program_order(a, b));
@@ -103,7 +109,7 @@ pub fn random_pasts(random: &mut Random, history: &History) -> Vec<List> {
     for (place, e) in order.iter().enumerate() {
         let mut held = vec![false; events];
         for f in &order[..place] {
-            if history.program_order(*f, *e) || random.once_in(rarity * 2) {
+            if needed(*f, *e) || random.once_in(rarity * 2) {
                 held[*f] = true;
                 for g in &pasts[*f] {
                     let g: usize = *g;
@@ -204,9 +210,48 @@ pub fn certified(random: &mut Random, history: &mut History, criterion: Criterio
                 orders.push(order);
             }
         }
+        Criterion::Weak | Criterion::Causal | Criterion::Converge => {
+            let pasts = random_pasts(random, history);
+            return certified_by(random, history, criterion, pasts);
+        }
+        Criterion::Strict => {
+            (pasts, orders) = broadcast(random, history);
+            for (process, order) in history.processes().into_iter().zip(&orders) {
+                answer_own(history, process, order);
+            }
+        }
+    }
+    Certificate::new(history, criterion, pasts, orders)
+}
+
+/// A view of the last of these events, which are a process's own: it grows by what is new in the past of each of them.
+/// Gives the events their answers, and the orders of the views so far.
+fn grow_view(random: &mut Random, history: &mut History, pasts: &[List], own: &[usize]) -> Vec<List> {
+    let before = |a: usize, b: usize| pasts[b].contains(&a);
+    let mut order: List = vec![];
+    let mut orders = vec![];
+    for e in own {
+        let new: List = pasts[*e].iter().copied().filter(|event| !order.contains(event)).collect();
+        order.extend(random_order(random, &new, &before));
+        order.push(*e);
+        history.events[*e].answer = answers_of(history, &order).pop();
+        orders.push(order.clone());
+    }
+    orders
+}
+
+/// Gives the history answers that meet a criterion with pasts, none of them lost, under the causal order of these pasts,
+/// and the certificate that says so.
+pub fn certified_by(random: &mut Random, history: &mut History, criterion: Criterion, pasts: Vec<List>) -> Certificate {
+    let all: List = (0..history.events.len()).collect();
+    let own = |history: &History, process: usize| -> List {
+        all.iter().copied().filter(|e| history.events[*e].process == process).collect()
+    };
+    let before = |a: usize, b: usize| pasts[b].contains(&a);
+    let mut orders = vec![];
+    match criterion {
+        Criterion::Pram | Criterion::Sequential => panic!("it has no pasts"),
         Criterion::Weak | Criterion::Converge => {
-            pasts = random_pasts(random, history);
-            let before = |a: usize, b: usize| pasts[b].contains(&a);
             let whole = random_order(random, &all, &before);
             for e in 0..all.len() {
                 let mut set = pasts[e].clone();
@@ -225,30 +270,25 @@ pub fn certified(random: &mut Random, history: &mut History, criterion: Criterio
                 orders = vec![whole];
             }
         }
-        Criterion::Strict => {
-            (pasts, orders) = broadcast(random, history);
-            for (process, order) in history.processes().into_iter().zip(&orders) {
-                answer_own(history, process, order);
-            }
-        }
         Criterion::Causal => {
-            pasts = random_pasts(random, history);
-            let before = |a: usize, b: usize| pasts[b].contains(&a);
             orders = vec![vec![]; all.len()];
             for process in history.processes() {
-                let own: List = all.iter().copied().filter(|e| history.events[*e].process == process).collect();
+                let own = own(history, process);
                 if random.once_in(2) && cut_views(random, history, &pasts, &own, &mut orders) {
                     continue;
                 }
-                // The view of a process grows by what is new in the past of each of its events.
-                let mut order: List = vec![];
-                for e in own {
-                    let new: List = pasts[e].iter().copied().filter(|event| !order.contains(event)).collect();
-                    order.extend(random_order(random, &new, &before));
-                    order.push(e);
-                    history.events[e].answer = answers_of(history, &order).pop();
-                    orders[e] = order.clone();
+                for (e, order) in own.iter().zip(grow_view(random, history, &pasts, &own)) {
+                    orders[*e] = order;
                 }
+            }
+        }
+        Criterion::Strict => {
+            for process in history.processes() {
+                let own = own(history, process);
+                let mut order = grow_view(random, history, &pasts, &own).pop().expect("the process has events");
+                let others: List = all.iter().copied().filter(|event| !order.contains(event)).collect();
+                order.extend(random_order(random, &others, &before));
+                orders.push(order);
             }
         }
     }

@@ -1,5 +1,6 @@
 //! The sample dispensers of document 01 (C as T-04 of document 02 has it), the stack of document 001, the same with lost
-//! answers, small histories of channels and of windows, and the histories of Figure 3 of document 004.
+//! answers, small histories of channels and of windows, those of one line of stock and of updates that
+//! cross, and the histories of Figure 3 of document 004.
 
 use crate::certificate::{Certificate, Criterion, List, CRITERIA};
 use crate::history::{Event, History};
@@ -124,6 +125,35 @@ pub fn stack_certificate() -> Certificate {
     let pasts: [&[usize]; 8] = [&[], &[0], &[0, 1], &[0], &[0, 3], &[0, 3, 4], &[0], &[0, 3, 4, 6]];
     let views: [&[usize]; 3] = [&[0, 1, 2, 3, 4, 5, 6, 7], &[0, 3, 4, 5, 6, 7, 1, 2], &[0, 6, 3, 4, 7, 5, 1, 2]];
     certificate(&stack(), Criterion::Strict, &pasts, &views)
+}
+
+/// A single loader, process 0, with a register and a channel of one slot, and its certificate: an extension of the causal
+/// order can put event 1 behind event 0, which it never saw.
+pub fn one_line() -> (History, Certificate) {
+    let events = vec![
+        event(0, 1, Op::Push, Some(5), &[]),
+        event(1, 1, Op::Peek, None, &[]),
+        event(0, 0, Op::Write, Some(8), &[]),
+        event(2, 1, Op::Peek, None, &[5]),
+        event(0, 1, Op::Push, Some(6), &[6]),
+        event(2, 0, Op::Read, None, &[8]),
+    ];
+    let history = History { objects: vec![object(Kind::Register), channel(1)], events };
+    let pasts: [&[usize]; 6] = [&[], &[], &[0], &[0], &[0, 2], &[0, 2, 3]];
+    let views: [&[usize]; 6] = [&[0], &[1], &[0, 2], &[0, 3], &[0, 2, 4], &[0, 3, 2, 5]];
+    let certificate = certificate(&history, Criterion::Causal, &pasts, &views);
+    (history, certificate)
+}
+
+/// Two loaders that do not see each other, each with a register of its own, and a certificate that leaves their writes
+/// unordered.
+pub fn crossing() -> (History, Certificate) {
+    let write = |process, object, value| event(process, object, Op::Write, Some(value), &[]);
+    let read = |process, object, answer| event(process, object, Op::Read, None, &[answer]);
+    let events = vec![write(0, 0, 4), write(1, 1, 9), read(2, 0, 4), read(2, 1, 9)];
+    let history = History { objects: vec![object(Kind::Register), object(Kind::Register)], events };
+    let certificate = certificate(&history, Criterion::Converge, &[&[], &[], &[0], &[0, 1, 2]], &[&[0, 1, 2, 3]]);
+    (history, certificate)
 }
 
 /// Histories that tell strict from its neighbours, by the words of T-06 of document 02.

@@ -7,6 +7,7 @@ use crate::checker::{Archive, Checker, Lent, Model};
 use crate::history::{line_of_event, Event, EventFields, History, HistoryRules, ObjectFields, CAPACITY_LIMIT};
 use crate::objects::{Kind, Object, ObjectRules, Op, State};
 use crate::texts::{lines_of, Carried, Line, NumberRules, Refusal, Text};
+use crate::wrong_one_line::wrong_of_one_line;
 
 /// A set of rules with some of one trait overridden.
 macro_rules! wrong_rules {
@@ -101,7 +102,7 @@ wrong_rules!(EmptyAnswersZero ObjectRules {
 // Other checks.
 
 /// The first of these faults that there is, in this order.
-fn first_of(rules: &dyn CheckRules, order: &[u32], history: &History, certificate: &Certificate) -> Option<Fault> {
+pub fn first_of(rules: &dyn CheckRules, order: &[u32], history: &History, certificate: &Certificate) -> Option<Fault> {
     order.iter().find_map(|number| match number {
         11 => rules.lacks_own(history, certificate),
         12 => rules.in_own_past(certificate),
@@ -1258,7 +1259,7 @@ wrong_rules!(StrictUnknown CertificateRules {
 
 /// What is spoilt of what the archive gives.
 #[derive(Clone, Copy, PartialEq, Eq, Debug)]
-enum Spoil {
+pub enum Spoil {
     EventOffByOne,
     ViewOffByOne,
     ViewAndEventSwapped,
@@ -1272,6 +1273,7 @@ enum Spoil {
     CheckForgetsSixteen,
     ByteOnRefusal,
     LengthOnRefusal,
+    LengthLeftOnRefusal,
     EighteenAtExactLength,
     EighteenOneLate,
     ByteBehindTheText,
@@ -1297,12 +1299,12 @@ enum Spoil {
     LongListCut,
 }
 
-struct Spoilt(Spoil);
+pub struct Spoilt(pub Spoil);
 
 impl Spoilt {
     /// Spoils the lists of a text that was written: each line with its list changed, or a buffer that is too short written up to its
     /// end. `whole` gives the text's length in a buffer that has room. `before` is the buffer as it was lent.
-    fn lists(&self, answer: u32, before: &Lent<u8>, buffer: &mut Lent<u8>, length: &mut u64, whole: impl Fn(&mut Lent<u8>, &mut u64) -> u32) {
+    pub fn lists(&self, answer: u32, before: &Lent<u8>, buffer: &mut Lent<u8>, length: &mut u64, whole: impl Fn(&mut Lent<u8>, &mut u64) -> u32) {
         let change = match self.0 {
             Spoil::LastOf64LeftOut => without_the_last_of_64,
             Spoil::LongListCut => cut_to_128,
@@ -1326,10 +1328,12 @@ impl Spoilt {
     }
 
     /// Spoils what a writing gave. `before` is the buffer as it was lent.
-    fn written(&self, mut answer: u32, before: &Lent<u8>, buffer: &mut Lent<u8>, length: &mut u64) -> u32 {
+    pub fn written(&self, mut answer: u32, before: &Lent<u8>, buffer: &mut Lent<u8>, length: &mut u64) -> u32 {
         match self.0 {
             Spoil::ByteOnRefusal if answer != 0 && buffer.length > 0 => buffer.part()[0] = 0,
             Spoil::LengthOnRefusal if answer != 0 => *length = 1,
+            // As the caller had it.
+            Spoil::LengthLeftOnRefusal if answer != 0 => *length = 0x5353_5353,
             Spoil::EighteenAtExactLength if answer == 0 && *length == buffer.length as u64 => {
                 *buffer = before.clone();
                 *length = 0;
@@ -1464,6 +1468,10 @@ impl Checker for Spoilt {
             }
             (_, answer) => answer,
         }
+    }
+
+    fn sequential(&self, history: &[u8], certificate: &[u8], buffer: &mut Lent<u8>, length: &mut u64) -> u32 {
+        Archive.sequential(history, certificate, buffer, length)
     }
 }
 
@@ -1691,5 +1699,6 @@ pub fn wrong_checkers() -> Vec<(&'static str, Box<dyn Checker>)> {
         spoilt("the check forgets 20 and only the verdict has it", Spoil::CheckForgetsTwenty),
     ];
     checkers.extend(wrong_of_strict().into_iter().map(|(name, rules)| model(name, rules)));
+    checkers.extend(wrong_of_one_line());
     checkers
 }

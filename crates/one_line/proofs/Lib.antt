@@ -1,0 +1,3 @@
+pub mod UpdateLaws
+pub mod LineLaws
+pub mod RecordLaws

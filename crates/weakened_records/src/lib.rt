@@ -1,0 +1,2 @@
+// The records of weakened certificates.
+pub mod records;
