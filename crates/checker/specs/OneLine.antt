@@ -59,8 +59,9 @@ pub record InOneLine (history text : List ℕ) : Type 0 where
       → order (historyRead history) (certificateRead history text) g f ≡ order (historyRead history) (certificateRead history text) g e)
       → precedes (getD (certificateRead history line .views) 0 []) f e ≡ true
 
--- "A pram or sequential certificate is 17, placed as in weakening", so before the faults of the check, which are answered as the check does. "For every such certificate the text
--- written is accepted. It refuses with 26, after the check and before 18, a causal order that leaves two updates unordered."
+-- "A pram or sequential certificate is 17, placed as in weakening", so before the faults of the check; a certificate with pasts that has a
+-- fault is answered as the check does. "For every such certificate the text written is accepted. It refuses with 26, after the check and
+-- before 18, a causal order that leaves two updates unordered."
 pub record OneLine : Type 0 where
   pub no-pasts : (history text : List ℕ) (v : Criterion) → Names history text v → hasPasts v ≡ false → (buffer : List ℕ)
       → Unwritten (lineAnswer history text buffer) (lineLength history text buffer) (lineBytes history text buffer) v 17 buffer

@@ -214,7 +214,7 @@ module _ (h : History) (R : ℕ → ℕ → Bool) (o : CausalOrder h R) (u : Upd
       go (inl t) = let r = update-before f e t p in omega arith
       go (inr t) = let r = update-before e f t q in omega arith
 
-  -- its place
+  -- the place of an event in the line
   at : ℕ → ℕ
   at e = linePlace h R e
 

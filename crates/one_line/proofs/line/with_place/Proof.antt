@@ -1,4 +1,5 @@
--- `with_place` meets its contract: the line so far has the events of the places below m, and those of the first e events that are at m. Assumes nothing.
+-- `with_place` meets its contract: the line so far has the events of the places below m, and those of the first e events that are at m.
+-- Assumes nothing.
 use native.Mathlib.Omega.{arith}
 use Prim.Native.Nat.{ℕ, _≤_, _<_, _-_}
 use mathlib.Core.Path.{_≡_, ap, _∙_}
