@@ -14,7 +14,7 @@ use Rattle.history.specs.declared.record.History as written-history
 use Rattle.history.specs.declared.record.Event as written-event
 use Rattle.history.specs.Record.{noEvent}
 use Rattle.history.specs.Readable.{within}
-use Rattle.history.proofs.PadLaws.{pad-none, take-pad}
+use Rattle.history.proofs.PadLaws.{pad-none}
 use Rattle.certificate.specs.declared.record.Criterion.the-variants.{Sequential}
 use Rattle.certificate.specs.declared.record.EventList.{EventList}
 use Rattle.certificate.specs.declared.record.Certificate as written-certificate
@@ -31,6 +31,7 @@ use Rattle.orders.proofs.BitLaws.{any-same}
 use Rattle.faults.proofs.CheckLaws.{size-of, few-of}
 use Rattle.weakened.specs.Steps.{lengthsOf}
 use Rattle.weakened.proofs.CausalLaws.{keep-below}
+use Rattle.weakened.proofs.SequentialLaws.{list-entries}
 use Rattle.weakened_records.specs.Steps.{IsRecordOf}
 use Rattle.weakened_records.proofs.RecordLaws.{record-parts, is-record}
 use Rattle.one_line.specs.Steps.{updateIn, unorderedTo, crossesAt, placeIn}
@@ -92,11 +93,6 @@ module _ (h : written-history.History) (w : within h ≡ true) where
         same-places (h .count) (λ e. getD places e 0) (linePlace (historyOf h) (inRows rows)) (λ e l. p e l ∙ place-is e l) (h .count + h .count + 2)
         ∙ ap (λ (n : ℕ). byPlace n (linePlace (historyOf h) (inRows rows)) (n + n + 2)) (sym (size-of h w))
 
--- a list of events is the one that was put into the array
-entries-of : (l : EventList) (v : List ℕ) → l ≡ eventListOf v → entriesIn l ≡ v
-unfolding eventListOf
-entries-of l v q = ap entriesIn q ∙ take-pad 64 0 v
-
 -- the record of the line
 module _ (h : written-history.History) (c : written-certificate.Certificate) (views : List (List ℕ)) (t : hasPasts (c .criterion) ≡ true) where
   lists-are : (v : List ℕ) → v ≡ oneLine (historyOf h) (order (historyOf h) (certificateOf h c views))
@@ -112,5 +108,5 @@ module _ (h : written-history.History) (c : written-certificate.Certificate) (vi
       → IsRecordOf (inOneLine (historyOf h) (certificateOf h c views)) (record { criterion = Sequential; pasts = pasts; lengths = lengths }) made
   record-is l q pasts p lengths made a b =
       is-record _ Sequential [] (entriesIn l ∷ []) _ made
-      (lists-are (entriesIn l) (entries-of l _ q))
+      (lists-are (entriesIn l) (list-entries l _ q))
       (record-parts Sequential pasts lengths [] (entriesIn l ∷ []) (p ∙ sym (pad-none 64 noList)) b) a
