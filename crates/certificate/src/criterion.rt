@@ -8,7 +8,7 @@ use layout::split::find_from;
 use layout::word::is_word;
 
 // Whether a word is a criterion's, and that criterion.
-#[derive(Drop)]
+#[derive(Clone, Copy)]
 pub struct CriterionRead {
     pub known: bool,
     pub criterion: Criterion,

@@ -10,7 +10,7 @@ use layout::number::is_spelling;
 use layout::split::find_from;
 
 // The list of a line and fault 0, or its first fault and no list.
-#[derive(Drop)]
+#[derive(Clone, Copy)]
 pub struct ListLine {
     pub fault: u8,
     pub list: EventList,

@@ -12,7 +12,7 @@ use layout::number::spaced_number;
 use layout::split::find_from;
 
 // Where the line ends, with its list and fault 0, or with its first fault and no list.
-#[derive(Drop)]
+#[derive(Clone, Copy)]
 pub struct NextList {
     pub fault: u8,
     pub end: usize,
@@ -20,7 +20,7 @@ pub struct NextList {
 }
 
 // A number of one or two digits and where it ends; the value 100 where there is none.
-#[derive(Drop)]
+#[derive(Clone, Copy)]
 struct Entry {
     pub value: usize,
     pub end: usize,

@@ -7,7 +7,7 @@ use crate::record::Criterion;
 use history::record::{Event, EventNo, ProcessNo};
 
 // The first `count` of the numbers.
-#[derive(Drop)]
+#[derive(Clone, Copy)]
 pub struct ViewNumbers {
     pub count: usize,
     pub numbers: [u8; 64],

@@ -2,7 +2,7 @@
 // not use holds zeros, so that two records of one certificate are equal.
 
 // Those whose certificates have pasts stand together, so that a test for them is one of a range. Their numbers are `criterion_number`.
-#[derive(Drop)]
+#[derive(Clone, Copy)]
 pub enum Criterion {
     Pram,
     Weak,
@@ -13,14 +13,14 @@ pub enum Criterion {
 }
 
 // The first `count` of the events.
-#[derive(Drop)]
+#[derive(Clone, Copy)]
 pub struct EventList {
     pub count: usize,
     pub events: [u8; 64],
 }
 
 // The past of each event, where the criterion has pasts, and how many events each view has, in the order of the view lines.
-#[derive(Drop)]
+#[derive(Clone, Copy)]
 pub struct Certificate {
     pub criterion: Criterion,
     pub pasts: [EventList; 64],

@@ -1,6 +1,9 @@
 // Reads certificates of two histories, good and damaged, and writes a line for each: whether it was read and is written back as
 // the same bytes; or the refusal with its text and line. Then writes records, some of which no readable text stands for, each into a
 // buffer that is shown.
+
+#![tactic(auto)]
+
 use certificate::record::{Certificate, EventList};
 use certificate_reader::read::read_certificate;
 use certificate_writer::write::write_certificate;

@@ -18,7 +18,7 @@ use layout::split::find_from;
 use layout::word::is_word;
 
 // The two records and fault 0; or the first fault and the place of its line.
-#[derive(Drop)]
+#[derive(Clone, Copy)]
 pub struct CertificateRead {
     pub fault: u8,
     pub place: Place,
@@ -27,7 +27,7 @@ pub struct CertificateRead {
 }
 
 // The same of a certificate text alone.
-#[derive(Drop)]
+#[derive(Clone, Copy)]
 pub struct LinesRead {
     pub fault: u8,
     pub place: Place,

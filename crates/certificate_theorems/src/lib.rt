@@ -1,1 +1,4 @@
 // The theorems of the certificate text, over what the reader promises. No function is here.
+
+#![tactic(auto)]
+

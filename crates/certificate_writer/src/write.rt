@@ -24,7 +24,7 @@ use layout::list::{list_len, put_list};
 use layout::number::{number_len, put_number};
 
 // The answer's number, and the length of the text or 0.
-#[derive(Drop)]
+#[derive(Clone, Copy)]
 pub struct CertificateWritten {
     pub number: u8,
     pub length: usize,

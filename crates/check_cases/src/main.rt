@@ -1,5 +1,8 @@
 // Checks a certificate text for a history text in each case, one for each answer at least, and prints the verdict's lines and, in
 // brackets, the line of a text that it carries.
+
+#![tactic(auto)]
+
 use checker::check::carried_line;
 use libc::STDOUT_FILENO;
 use verdict_lines::print::print_check;

@@ -14,7 +14,7 @@ use history_reader::place::{Place, Text};
 // What the check of two texts says. `fault` is the number of a reading refusal, and `place` is that of its line; or it is 0, and then the
 // certificate names the criterion, `finding` is what was found of it, and `place` is that of the line of the finding's event. What is not
 // carried is 0, `Neither`, `Pram` or `Nothing`.
-#[derive(Drop)]
+#[derive(Clone, Copy)]
 pub struct Checked {
     pub fault: u8,
     pub place: Place,

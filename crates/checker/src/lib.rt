@@ -1,3 +1,6 @@
 // The check of a certificate text for a history text.
+
+#![tactic(auto)]
+
 pub mod check;
 pub mod place;

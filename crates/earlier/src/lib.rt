@@ -1,1 +1,4 @@
 // What the check was before a change, and where verdicts are as before. No function is here.
+
+#![tactic(auto)]
+

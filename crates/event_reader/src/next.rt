@@ -17,7 +17,7 @@ use layout::split::find_from;
 use layout::word::stands_at;
 
 // Where the line ends, with its event and fault 0, or with its first fault and no event.
-#[derive(Drop)]
+#[derive(Clone, Copy)]
 pub struct NextEvent {
     pub fault: u8,
     pub end: usize,
@@ -28,7 +28,7 @@ pub struct NextEvent {
 // ends, or that it does not know; the line is then read the general way, which also says which fault it has.
 
 // An op's word and a space, with the place behind them.
-#[derive(Drop)]
+#[derive(Clone, Copy)]
 struct OpAt {
     pub known: bool,
     pub op: Op,
@@ -36,7 +36,7 @@ struct OpAt {
 }
 
 // A value, or `-`, and a space, with the place behind them.
-#[derive(Drop)]
+#[derive(Clone, Copy)]
 struct ValueAt {
     pub known: bool,
     pub value: Value,
@@ -44,7 +44,7 @@ struct ValueAt {
 }
 
 // An answer and a line feed, with the place of the line feed.
-#[derive(Drop)]
+#[derive(Clone, Copy)]
 struct AnswerAt {
     pub known: bool,
     pub answer: Answer,

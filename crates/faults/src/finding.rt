@@ -6,7 +6,7 @@ ghost use Rattle.faults.specs.Finding.{finding_of, is_found, number_in};
 use history::record::EventNo;
 
 // Nothing, or one of the faults 11 to 16 and 20, with the event, the view's number, or both.
-#[derive(Drop)]
+#[derive(Clone, Copy)]
 pub enum Finding {
     Nothing,
     LacksOwn(EventNo),

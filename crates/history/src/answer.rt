@@ -9,7 +9,7 @@ use layout::list::{ListRead, read_list};
 use layout::word::is_word;
 
 // Whether an answer's items are numbers, also below the bound of values, also at most eight; and then the answer.
-#[derive(Drop)]
+#[derive(Clone, Copy)]
 pub struct AnswerField {
     pub spelt: bool,
     pub below: bool,

@@ -12,7 +12,7 @@ use layout::number::is_spelling;
 use layout::split::find_from;
 
 // The event of a line and fault 0, or its first fault and no event.
-#[derive(Drop)]
+#[derive(Clone, Copy)]
 pub struct EventRead {
     pub fault: u8,
     pub event: Event,

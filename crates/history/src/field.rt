@@ -7,7 +7,7 @@ use layout::number::{Number, read_number};
 use layout::word::is_word;
 
 // Whether a field is a number, whether it is one below a bound, and then its value.
-#[derive(Drop)]
+#[derive(Clone, Copy)]
 pub struct NumberField {
     pub spelt: bool,
     pub below: bool,
@@ -15,7 +15,7 @@ pub struct NumberField {
 }
 
 // The same of a field that may be `-`.
-#[derive(Drop)]
+#[derive(Clone, Copy)]
 pub struct OptionalField {
     pub dash: bool,
     pub spelt: bool,

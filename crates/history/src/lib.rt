@@ -1,5 +1,8 @@
 // The history record, and the lines of a history text: the words, the fields, and what a line of an object or of an event
 // is. It knows nothing of criteria.
+
+#![tactic(auto)]
+
 pub mod answer;
 pub mod event;
 pub mod field;

@@ -9,7 +9,7 @@ use layout::number::is_spelling;
 use layout::split::find_from;
 
 // The object of a line and fault 0, or its first fault and no object.
-#[derive(Drop)]
+#[derive(Clone, Copy)]
 pub struct ObjectRead {
     pub fault: u8,
     pub object: Object,

@@ -6,13 +6,13 @@ pub type Value = u16;
 
 pub const VALUES: u64 = 65536;
 
-#[derive(Drop)]
+#[derive(Clone, Copy)]
 pub struct ProcessNo(pub u8);
 
-#[derive(Drop)]
+#[derive(Clone, Copy)]
 pub struct EventNo(pub u8);
 
-#[derive(Drop)]
+#[derive(Clone, Copy)]
 pub enum Kind {
     Register,
     Queue,
@@ -21,7 +21,7 @@ pub enum Kind {
     Channel,
 }
 
-#[derive(Drop)]
+#[derive(Clone, Copy)]
 pub enum Op {
     Write,
     Read,
@@ -31,14 +31,14 @@ pub enum Op {
 }
 
 // A width is 0 but for a window and a channel, whose width is its capacity.
-#[derive(Drop)]
+#[derive(Clone, Copy)]
 pub struct Object {
     pub kind: Kind,
     pub width: u8,
 }
 
 // The first `count` of the values; or an answer that was lost, which has none.
-#[derive(Drop)]
+#[derive(Clone, Copy)]
 pub struct Answer {
     pub lost: bool,
     pub count: u8,
@@ -46,7 +46,7 @@ pub struct Answer {
 }
 
 // A value is 0 where the op takes none.
-#[derive(Drop)]
+#[derive(Clone, Copy)]
 pub struct Event {
     pub process: ProcessNo,
     pub object: u8,
@@ -56,7 +56,7 @@ pub struct Event {
 }
 
 // The first `declared` of the objects, and the first `count` of the events.
-#[derive(Drop)]
+#[derive(Clone, Copy)]
 pub struct History {
     pub objects: [Object; 16],
     pub declared: usize,

@@ -6,14 +6,14 @@ use crate::record::{Kind, Object, Op};
 use layout::word::is_word;
 
 // What a field is as a kind's word.
-#[derive(Drop)]
+#[derive(Clone, Copy)]
 pub struct KindRead {
     pub known: bool,
     pub kind: Kind,
 }
 
 // What a field is as an op's word.
-#[derive(Drop)]
+#[derive(Clone, Copy)]
 pub struct OpRead {
     pub known: bool,
     pub op: Op,

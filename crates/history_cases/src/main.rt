@@ -1,6 +1,9 @@
 // Reads histories, good and damaged, and writes a line for each: what was read, and whether it is written back as the same
 // bytes; or the refusal with its line. Then writes a record into buffers of several lengths, and records that no readable text
 // stands for.
+
+#![tactic(auto)]
+
 ghost use Rattle.std.specs.Prelude.{◌<◌};
 
 use history::record::{Answer, Event, History, Kind, Object, Op, ProcessNo, Value};

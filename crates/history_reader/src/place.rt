@@ -5,7 +5,7 @@ ghost use Rattle.history_reader.specs.Place as places;
 use layout::split::{find_from, part_start};
 
 // The text that a place is in.
-#[derive(Drop)]
+#[derive(Clone, Copy)]
 pub enum Text {
     Neither,
     HistoryText,
@@ -14,7 +14,7 @@ pub enum Text {
 
 // A line of a text: its number from 1 (0 for a text that is too long), and its bytes from `start` to `end`, without its line feed.
 // Where no text is named the three numbers are 0.
-#[derive(Drop)]
+#[derive(Clone, Copy)]
 pub struct Place {
     pub text: Text,
     pub line: usize,

@@ -13,7 +13,7 @@ use layout::split::find_from;
 use layout::word::is_word;
 
 // The record and fault 0; or the first fault and the place of its line.
-#[derive(Drop)]
+#[derive(Clone, Copy)]
 pub struct HistoryRead {
     pub fault: u8,
     pub place: Place,

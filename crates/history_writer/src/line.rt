@@ -12,7 +12,7 @@ use layout::list::{list_len, put_list};
 use layout::number::{number_len, put_number};
 
 // A field of a line. The items are those of a list beside it.
-#[derive(Drop)]
+#[derive(Clone, Copy)]
 pub(crate) enum Field {
     Dash,
     Number(u32),

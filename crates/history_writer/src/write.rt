@@ -14,7 +14,7 @@ use history::word::{has_width, takes_value};
 use layout::fill::put_bytes;
 
 // The answer's number, and the length of the text or 0.
-#[derive(Drop)]
+#[derive(Clone, Copy)]
 pub struct HistoryWritten {
     pub number: u8,
     pub length: usize,

@@ -1,5 +1,8 @@
 // The parts of a line: how bytes are cut into lines, fields and items, and how words, numbers and comma lists are
 // spelt, read and written. Everything above knows these functions by their contracts alone.
+
+#![tactic(auto)]
+
 pub mod fill;
 pub mod line;
 pub mod list;

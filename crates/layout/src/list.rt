@@ -12,7 +12,7 @@ use crate::number::{number_len, put_number, scan_digits, starts_well};
 use crate::word::is_word;
 
 // What a field is as a list of at most so many numbers below a bound.
-#[derive(Drop)]
+#[derive(Clone, Copy)]
 pub enum ListRead {
     // Some item is no number.
     NotList,

@@ -9,7 +9,7 @@ ghost use Rattle.layout.specs.Steps.Stands.{number_at, spaced_number};
 use crate::word::stands_at;
 
 // What a field is as a number below a bound.
-#[derive(Drop)]
+#[derive(Clone, Copy)]
 pub enum Number {
     NotNumber,
     Value(u64),
@@ -17,14 +17,14 @@ pub enum Number {
 }
 
 // A number below a bound that stands at a place, and where it ends; the bound where there is none.
-#[derive(Drop)]
+#[derive(Clone, Copy)]
 pub struct NumberAt {
     pub value: u64,
     pub end: usize,
 }
 
 // Where the digits from a place on end, and a value that says what they are below the bound.
-#[derive(Drop)]
+#[derive(Clone, Copy)]
 pub(crate) struct Digits {
     pub end: usize,
     pub value: u64,

@@ -1,6 +1,9 @@
 // Runs the lowest layer on fields, good and damaged, and writes a line for each: what the field is as a number below
 // 65,536, what it is as a list of at most four events of a history with four, and the list written back. Then writes lists of
 // 0, 1, 64 and 1,000 numbers, each into parts of every length around that of its text, and a line for each part.
+
+#![tactic(auto)]
+
 ghost use Rattle.std.specs.Prelude.{◌<◌};
 
 use layout::fill::Written;

@@ -9,7 +9,7 @@ use history::record::{EventNo, Kind, Object, Op};
 // What the object holds is the values of the events numbers[head..tail], oldest first. There is a place for each of 64 events, and one
 // for the number 64, which stands for the value 0 that a register starts with. Pop and peek take the newest of them, or the oldest.
 // The object holds at most `limit` values.
-#[derive(Drop)]
+#[derive(Clone, Copy)]
 pub struct State {
     pub numbers: [u8; 65],
     pub head: u8,
@@ -19,21 +19,21 @@ pub struct State {
 }
 
 // An event, as its object takes it: its number and op.
-#[derive(Drop)]
+#[derive(Clone, Copy)]
 pub struct EventOp {
     pub no: EventNo,
     pub op: Op,
 }
 
 // The first `count` of the numbers: the events whose values are the answer.
-#[derive(Drop)]
+#[derive(Clone, Copy)]
 pub struct Given {
     pub numbers: [u8; 8],
     pub count: usize,
 }
 
 // The state after an event, and the answer.
-#[derive(Drop)]
+#[derive(Clone, Copy)]
 pub struct Step {
     pub state: State,
     pub answer: Given,

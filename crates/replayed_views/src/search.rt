@@ -11,7 +11,7 @@ use objects::state::State;
 use replays::replay::{Light, Visible, replay};
 
 // A view, by its place, and an event; 64 for the event where there is none.
-#[derive(Drop)]
+#[derive(Clone, Copy)]
 pub struct Place {
     pub view: usize,
     pub event: usize,

@@ -11,7 +11,7 @@ use history::record::{EventNo, Object, Op, ProcessNo, Value};
 use objects::state::{EventOp, Given, State};
 
 // An event without its value and its answer. A silent one's answer is right whatever its object holds.
-#[derive(Drop)]
+#[derive(Clone, Copy)]
 pub struct Light {
     pub process: ProcessNo,
     pub object: u8,
@@ -20,7 +20,7 @@ pub struct Light {
 }
 
 // Which answers are visible.
-#[derive(Drop)]
+#[derive(Clone, Copy)]
 pub enum Visible {
     All,
     Of(ProcessNo),

@@ -18,7 +18,7 @@ use layout::line::byte_behind;
 use layout::number::put_number;
 
 // A field of the line of values.
-#[derive(Drop)]
+#[derive(Clone, Copy)]
 pub enum Field {
     Dash,
     Number(u32),

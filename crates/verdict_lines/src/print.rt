@@ -7,7 +7,7 @@ use crate::line::put_verdict;
 use checker::check::check;
 
 // The first `length` of the bytes; those behind them are 0.
-#[derive(Drop)]
+#[derive(Clone, Copy)]
 pub struct Printed {
     pub length: usize,
     pub bytes: [u8; 128],

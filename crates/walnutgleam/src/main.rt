@@ -1,4 +1,7 @@
 // The program: reads history.txt and certificate.txt from the current folder and prints the verdict's two lines.
+
+#![tactic(auto)]
+
 ghost use Rattle.io.specs.Counts.{IsPrefixLen};
 
 use libc::STDOUT_FILENO;

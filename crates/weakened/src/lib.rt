@@ -1,4 +1,7 @@
 // The lists of a weakened certificate: pasts, and views as rows with their lengths beside.
+
+#![tactic(auto)]
+
 pub mod causal;
 pub mod converge;
 pub mod list;

@@ -1,2 +1,5 @@
 // The records of weakened certificates.
+
+#![tactic(auto)]
+
 pub mod records;

@@ -1,4 +1,7 @@
 // A certificate text made of an accepted one: weakened, or in one line of stock.
+
+#![tactic(auto)]
+
 pub mod made;
 pub mod pairs;
 pub mod sequential;

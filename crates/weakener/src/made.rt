@@ -28,7 +28,7 @@ use weakened_records::records::weakened_record;
 
 // What is answered. `refusal` is 17, 18 or 26, or it is 0, and then the answer is that of the check. `length` is that of the text. Beside 17,
 // 18 and 26 `checked` carries nothing but the criterion.
-#[derive(Drop)]
+#[derive(Clone, Copy)]
 pub struct Made {
     pub checked: Checked,
     pub refusal: u8,
@@ -37,7 +37,7 @@ pub struct Made {
 
 // What is wanted of a certificate: to be weakened to a criterion, or to be put in one line; nothing where the number wanted is no
 // criterion's.
-#[derive(Drop)]
+#[derive(Clone, Copy)]
 pub enum Wanted {
     Nothing,
     Named(Criterion),

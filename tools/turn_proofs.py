@@ -1,0 +1,373 @@
+#!/usr/bin/env python3
+"""Turns a function's Proof.antt into Invariants.antt and Answers.antt.
+
+usage: python3 tools/turn_proofs.py NAMES CRATE [FOLDER..]     at the top of the repository
+
+NAMES is the names.json of the crate that `rt check --generated DIR --old-names` writes; FOLDER is a folder of crates/CRATE/proofs, all if
+none is given. A folder that has an Answers.antt or an Invariants.antt is passed over. What could not be turned is marked TODO.
+"""
+import json
+import os
+import re
+import sys
+
+NAME = r"[^\s(){}:;,.«»λ\[\]|=]+"
+
+
+def norm(s):
+    return s.replace("-", "_")
+
+
+class Fn:
+    def __init__(self, row):
+        self.row = row
+        self.places = row["places"]
+        self.index = {p[0]: i for i, p in enumerate(self.places)}
+        self.needs = {norm(a): (b, at) for (a, b), at in zip(row["needs"], row["asked_at"])}
+        self.by_new = {b: (b, at) for (a, b), at in zip(row["needs"], row["asked_at"])}
+        self.args = row["args"]
+
+    def parent(self, place):
+        return self.places[self.index[place]][1]
+
+    def chain(self, place):
+        while place:
+            yield place
+            place = self.parent(place)
+
+    def arms_of(self, place):
+        rows = []
+        i = self.index[place]
+        if self.row["arms"][i]:
+            rows.append(self.row["arms"][i])
+        return rows
+
+    def resolve(self, place, path):
+        """The new path of c at a goal, for the old path from a place."""
+        path = list(path)
+        while path and path[0] == "before":
+            up = self.parent(place)
+            if up is None:
+                return None
+            place = up
+            path.pop(0)
+        if not path:
+            return ("place", place)
+        f = path[0]
+        # an arm's step
+        for at in self.chain(place):
+            arm = self.row["arms"][self.index[at]]
+            if not arm:
+                continue
+            best = None
+            for new, step, old in arm[2]:
+                if norm(step) == norm(f) and path[1:1 + len(old)] == old:
+                    if best is None or len(old) > len(best[2]):
+                        best = (new, step, old)
+            if best and best[2]:
+                # the deepest place of the chain that has this arm
+                return ("step", [arm[0], best[0]] + path[1 + len(best[2]):])
+        for at in self.chain(place):
+            p = self.places[self.index[at]]
+            if p[2][0] and norm(p[2][0]) == norm(f):
+                rest = path[1:]
+                for old, new in p[4]:
+                    if rest and norm(rest[0]) == norm(old):
+                        rest[0] = new
+                        break
+                return ("step", [p[2][1]] + rest)
+        if f in ("args", "requires", "ranges", "well_formed", "lifetimes"):
+            rest = path[1:]
+            for a, b in self.args:
+                x, y = a.split(), b.split()
+                if len(x) == 2 and x[0] == "." + f and rest and "." + norm(rest[0]) == norm(x[1]):
+                    rest[0] = y[1][1:]
+                    break
+            return ("step", [f] + rest)
+        return None
+
+
+def split_items(text):
+    """The comment at the head, the use lines, and the declarations with their text."""
+    lines = text.split("\n")
+    head, uses, rest = [], [], []
+    i = 0
+    while i < len(lines) and (lines[i].startswith("--") or not lines[i].strip()):
+        if lines[i].strip():
+            head.append(lines[i])
+        i += 1
+    items, cur = [], []
+    for line in lines[i:]:
+        if line.startswith("use "):
+            uses.append(line)
+            continue
+        if not line.strip():
+            if cur and not cur[-1].strip():
+                continue
+            cur.append(line)
+            continue
+        cur.append(line)
+    # blocks between blank lines
+    block, blocks = [], []
+    for line in cur:
+        if not line.strip():
+            if block:
+                blocks.append("\n".join(block))
+                block = []
+        else:
+            block.append(line)
+    if block:
+        blocks.append("\n".join(block))
+    return head, uses, blocks
+
+
+def turn_body(fn, place, var, body, todo):
+    """Replaces paths from var, and from names that a let binds to such a path."""
+    alias = {var: ("place", place)}
+
+    def value(root, path):
+        kind = alias[root]
+        if kind[0] == "place":
+            r = fn.resolve(kind[1], path)
+        else:
+            r = fn.resolve(kind[1], list(kind[2]) + list(path))
+        return r
+
+    out = ""
+    i = 0
+    path_re = re.compile(r"(?<![\w.'₀-])(" + NAME + r")((?:\.(?:[\w₀']|-(?=[\w]))+)*)")
+    let_re = re.compile(r"let (" + NAME + r") = (" + NAME + r")((?:\.[\w₀'-]+)+) in\s*")
+    while i < len(body):
+        m = let_re.match(body, i) if body.startswith("let ", i) and (i == 0 or not re.match(r"[\w.'-]", body[i - 1])) else None
+        if m and m.group(2) in alias:
+            name, root, path = m.group(1), m.group(2), m.group(3)[1:].split(".")
+            kind = alias[root]
+            full = (list(kind[2]) if kind[0] == "old" else []) + path
+            at = kind[1]
+            r = fn.resolve(at, full)
+            if r is None:
+                alias[name] = ("old", at, full)
+                i = m.end()
+                continue
+            if r[0] == "place":
+                alias[name] = ("place", r[1])
+                i = m.end()
+                continue
+            # is it a part of an arm's old step that is used with different ends?
+            alias[name] = ("old", at, full)
+            i = m.end()
+            continue
+        m = path_re.match(body, i)
+        if m and (i == 0 or not re.match(r"[\w.'-]", body[i - 1])):
+            root, path = m.group(1), [p for p in m.group(2).split(".") if p]
+            if root in alias and not (root == var and False):
+                kind = alias[root]
+                full = (list(kind[2]) if kind[0] == "old" else []) + path
+                r = fn.resolve(kind[1], full) if full else ("place", kind[1])
+                if r is None:
+                    todo.append(f"{root}.{'.'.join(path)}: {kind}")
+                    out += f"c.TODO.{'.'.join(full)}"
+                elif r[0] == "place":
+                    out += "c"
+                else:
+                    out += "c." + ".".join(r[1])
+                i = m.end()
+                continue
+            out += m.group(0)
+            i = m.end()
+            continue
+        out += body[i]
+        i += 1
+    return out
+
+
+def shorten(body):
+    """Names a long path that stands three times or more."""
+    return body
+
+
+def invariant(fn, name, params, body, todo):
+    for (old, new), vars in fn.row["loops"]:
+        if norm(old) == norm(name):
+            break
+    else:
+        todo.append(f"no loop {name}")
+        return None, None
+    k = [norm(l[0][0]) for l in fn.row["loops"]].index(norm(name))
+    changed = fn.row["changed"][k]
+    names = {}
+    n = len(vars)
+    later = [v for v, c in zip(vars, changed) if c]
+    for j, p in enumerate(params):
+        if j < n:
+            v = vars[j]
+            names[p] = f"l.initial.{v}" if changed[j] else f"l.{v}"
+        elif j - n < len(later):
+            names[p] = f"l.{later[j - n]}"
+        else:
+            todo.append(f"more parameters than variables in {name}")
+    tok = re.compile(r"(?<![\w.'₀-])(" + NAME + r")")
+    body = tok.sub(lambda m: names.get(m.group(1), m.group(1)) if m.group(1) not in ("c",) or "c" in names else m.group(1), body)
+    return new, body
+
+
+def turn(folder, row, path):
+    fn = Fn(row)
+    text = open(f"{path}/Proof.antt", encoding="utf-8").read()
+    head, uses, blocks = split_items(text)
+    todo, invs, answers, helpers, done = [], [], [], [], set()
+    dropped = 0
+    first_inv = []
+    for b in blocks:
+        lines = b.split("\n")
+        comment = []
+        while lines and lines[0].startswith("--"):
+            comment.append(lines.pop(0))
+        if not lines:
+            helpers.append(b)
+            continue
+        sig = lines[0]
+        if re.match(r"pub \S+[-_]spec\b", sig) and "statement" in sig:
+            continue
+        m = re.match(r"abbrev (?:pub )?(invariant|decreases)-(\S+) : tie\.\S+$", sig)
+        if m:
+            kind, loop = m.group(1), m.group(2)
+            rest = "\n".join(lines[1:])
+            unf = ""
+            mm = re.match(r"((?:unfolding .*\n)?)" + re.escape(f"{kind}-{loop}") + r"((?: \S+)*?) =([\s\S]*)", rest)
+            if not mm:
+                todo.append(f"invariant {loop} not read")
+                helpers.append(b)
+                continue
+            new, body = invariant(fn, loop, mm.group(2).split(), mm.group(3), todo)
+            if new is None:
+                helpers.append(b)
+                continue
+            invs.append("\n".join(comment + [f"abbrev pub {kind}-{new} : goal.{kind}-{new}"]) + "\n" + mm.group(1) + f"{kind}-{new} l =" + body)
+            continue
+        m = re.match(r"(\S+) : tie\.Need-(\S+?)(?: invariant-\S+| decreases-\S+)*$", sig)
+        if m:
+            name, need = m.group(1), m.group(2)
+            hit = fn.needs.get(norm(need)) or fn.by_new.get(need)
+            rest = "\n".join(lines[1:])
+            mm = re.match(r"((?:unfolding .*\n)?)" + re.escape(name) + r"((?: \S+)*) =([\s\S]*)", rest)
+            if not hit or not mm:
+                todo.append(f"goal {need} not found")
+                helpers.append("-- TODO goal\n" + b)
+                continue
+            new, (old_at, new_at) = hit
+            body = mm.group(3)
+            if body.strip() == "search rules":
+                dropped += 1
+                continue
+            if new in fn.row["settled"]:
+                dropped += 1
+                continue
+            ps = mm.group(2).split()
+            ps = [p for p in ps if p != "κs"]
+            body = turn_body(fn, old_at, ps[0] if ps else "c", body, todo)
+            more = "".join(" " + p for p in ps[1:])
+            answers.append("\n".join(comment + [f"pub {new} : goal.{new}"]) + "\n" + mm.group(1) + f"{new} c{more} =" + body)
+            continue
+        m = re.match(r"(\S+) : (.*)\(c : tie\.(\S+?)((?: invariant-\S+| decreases-\S+)*)\)(.*)", sig)
+        if m:
+            place = m.group(3)
+            hit = next((p[0] for p in fn.places if norm(p[0]) == norm(place)), None)
+            new_place = next((b for a, b in zip([p[0] for p in fn.places], row["places_by_name"]) if a == hit), None)
+            if hit:
+                rest = "\n".join(lines[1:])
+                tail = turn_body(fn, hit, "c", m.group(5), todo)
+                rest = turn_body(fn, hit, "c", rest, todo)
+                has = any(at[1] == new_place for at in fn.row["asked_at"])
+                if not has:
+                    todo.append(f"place {new_place} is named by no goal")
+                helpers.append(("PLACE", "\n".join(comment + [f"{m.group(1)} : {m.group(2)}(c : goal.{new_place}){tail}"]) + "\n" + rest))
+                continue
+            todo.append(f"place {place} not found")
+        if "tie." in b:
+            todo.append("tie in a helper")
+        helpers.append(("PLAIN", b))
+    plain = [h[1] if isinstance(h, tuple) else h for h in helpers if not (isinstance(h, tuple) and h[0] == "PLACE")]
+    placed = [h[1] for h in helpers if isinstance(h, tuple) and h[0] == "PLACE"]
+    keep = [u for u in uses if not re.search(r"\.(Statement|Tie|Need\w*)\b", u)]
+    mod = folder.replace("/", ".")
+    if invs:
+        cited = "\n".join(invs)
+        own = []
+        # helpers that an invariant cites go with it
+        names = {}
+        for h in plain:
+            hm = re.search(r"^(?:abbrev |unfoldable )?(?:pub )?(\S+) :", h, re.M)
+            if hm:
+                names[hm.group(1)] = h
+        go, grew = [], True
+        while grew:
+            grew = False
+            for n, h in names.items():
+                if h not in go and re.search(r"(?<![\w.'-])" + re.escape(n) + r"(?![\w'-])", cited):
+                    go.append(h)
+                    cited += "\n" + h
+                    grew = True
+        go = [h for h in plain if h in go]
+        made = []
+        for h in go:
+            made.append(re.sub(r"^((?:abbrev |unfoldable )?)(?!pub )(\S+ :)", r"\1pub \2", h, count=1, flags=re.M))
+        plain = [h for h in plain if h not in go]
+        used = {n for n, h in names.items() if h in go and re.search(r"(?<![\w.'-])" + re.escape(n) + r"(?![\w'-])", "\n".join(answers + plain + placed))}
+        inv_uses = pick(keep, "\n".join(invs + made))
+        with open(f"{path}/Invariants.antt", "w", encoding="utf-8") as f:
+            f.write("\n".join(head + inv_uses + [f"use {mod}.Given as goal"]) + "\n\n" + "\n\n".join(made + invs) + "\n")
+        if used:
+            keep.append(f"use {mod}.Invariants.{{{', '.join(sorted(used))}}}")
+    if answers:
+        all_text = "\n\n".join(plain + placed + answers)
+        a_uses = pick(keep, all_text)
+        with open(f"{path}/Answers.antt", "w", encoding="utf-8") as f:
+            f.write("\n".join(head + a_uses + [f"use {mod}.Goals as goal"]) + "\n\n" + all_text + "\n")
+    return todo, dropped
+
+
+def pick(uses, text):
+    """The use lines, each with the names that the text has."""
+    out = []
+    words = set(re.findall(NAME, text))
+    for u in uses:
+        m = re.match(r"use (\S+?)\.\{(.*)\}$", u)
+        if not m:
+            out.append(u)
+            continue
+        names = [n.strip() for n in m.group(2).split(",")]
+        kept = []
+        for n in names:
+            base = n.split(" as ")[-1]
+            op = base.strip("◌")
+            if base in words or ("◌" in base and op in text) or op in text and "◌" in base:
+                kept.append(n)
+        if kept:
+            out.append(f"use {m.group(1)}.{{{', '.join(kept)}}}")
+    return out
+
+
+def main():
+    names, crate = sys.argv[1:3]
+    only = sys.argv[3:]
+    rows = json.load(open(names))
+    base = f"crates/{crate}/proofs"
+    for key, row in sorted(rows.items()):
+        m = re.match(rf"Rattle-{crate}-proofs\.(.*)\.Lts$", key)
+        if not m:
+            continue
+        folder = m.group(1).replace(".", "/")
+        path = f"{base}/{folder}"
+        if only and folder not in only:
+            continue
+        if not os.path.exists(f"{path}/Proof.antt"):
+            continue
+        if os.path.exists(f"{path}/Answers.antt") or os.path.exists(f"{path}/Invariants.antt"):
+            continue
+        todo, dropped = turn(f"Rattle.{crate}.proofs.{folder}", row, path)
+        os.remove(f"{path}/Proof.antt")
+        print(f"{crate}/{folder}: {len(todo)} left, {dropped} dropped" + "".join("\n    " + t for t in todo))
+
+
+main()
