@@ -6,6 +6,7 @@ usage: python3 tools/turn_proofs.py NAMES CRATE [FOLDER..]     at the top of the
 NAMES is the names.json of the crate that `rt check --generated DIR --old-names` writes; FOLDER is a folder of crates/CRATE/proofs, all if
 none is given. A folder that has an Answers.antt or an Invariants.antt is passed over. What could not be turned is marked TODO.
 """
+import glob
 import json
 import os
 import re
@@ -53,7 +54,7 @@ class Fn:
             path.pop(0)
         if not path:
             return ("place", place)
-        f = path[0]
+        f = path[0] = {"is_IsWord": "is_word", "is_Within": "is_within"}.get(path[0], path[0])
         # an arm's step
         for at in self.chain(place):
             arm = self.row["arms"][self.index[at]]
@@ -75,6 +76,8 @@ class Fn:
                     if rest and norm(rest[0]) == norm(old):
                         rest[0] = new
                         break
+                if p[3] and len(rest) > 1 and rest[0] in ("new", "auto") and rest[1].isdigit():
+                    rest[1] = lent(p[3], int(rest[1]))
                 return ("step", [p[2][1]] + rest)
         if f in ("args", "requires", "ranges", "well_formed", "lifetimes"):
             rest = path[1:]
@@ -85,6 +88,19 @@ class Fn:
                     break
             return ("step", [f] + rest)
         return None
+
+
+def lent(callee, n):
+    """The name of the callee's parameter that is its n-th `&mut`."""
+    parts = callee.split("::")
+    for f in glob.glob(f"crates/{parts[0]}/src/**/*.rt", recursive=True):
+        m = re.search(rf"fn {parts[-1]}\(([^{{]*?)\)\s*(?:->|requires|ensures|\{{)", open(f, encoding="utf-8").read())
+        if m:
+            names = re.findall(r"(\w+): &mut|(&mut self)", m.group(1))
+            names = [a or "self" for a, b in names]
+            if n < len(names):
+                return names[n]
+    return str(n)
 
 
 def split_items(text):
@@ -211,11 +227,65 @@ def invariant(fn, name, params, body, todo):
     return new, body
 
 
+def uses_of(name, text):
+    return re.search(r"(?<![\w.'-])" + re.escape(name) + r"(?![\w'-])", text)
+
+
+def with_helpers(fn, row, answers, rows):
+    """A lemma over a place stays one where all that cite it stand at that place, and else becomes a `let` of each answer that cites it."""
+    new_name = dict(zip([p[0] for p in fn.places], row["places_by_name"]))
+    asked = {at[0] for at in row["asked_at"]}
+    inline = set()
+    grew = True
+    while grew:
+        grew = False
+        for name, place, *_ in rows:
+            if name in inline:
+                continue
+            bad = place not in asked
+            bad = bad or any(uses_of(name, a[5]) and a[2] != place for a in answers)
+            bad = bad or any(uses_of(name, r[3] + r[6]) and (r[1] != place or r[0] in inline) for r in rows)
+            if bad:
+                inline.add(name)
+                grew = True
+    placed = []
+    for name, place, comment, typ, unf, more, body in rows:
+        if name in inline:
+            continue
+        at = new_name[place]
+        placed.append("\n".join(comment + [f"{name} : (c : goal.{at}) → {typ}"]) + "\n" + unf + f"{name} c{more} =" + body)
+    out = []
+    for comment, new, old_at, unf, more, body in answers:
+        lets, words = [], [w for w in unf.split()[1:]]
+        need, text = [], body
+        grew = True
+        while grew:
+            grew = False
+            for r in rows:
+                if r[0] in inline and r not in need and uses_of(r[0], text):
+                    need.append(r)
+                    text += "\n" + r[3] + r[6]
+                    grew = True
+        for r in [r for r in rows if r in need]:
+            name, place, c, typ, u, m, b = r
+            words += [w for w in u.split()[1:] if w not in words]
+            lam = f"λ{m}. " if m else ""
+            lets.append(f"    let {name} : {typ.strip()} = {lam}{b.strip()} in")
+        if lets:
+            for r in need:
+                strip = lambda t: re.sub(r"(?<![\w.'-])" + re.escape(r[0]) + r" c(?![\w.'-])", r[0], t)
+                body, lets = strip(body), [strip(l) for l in lets]
+            body = "\n" + "\n".join(lets) + "\n    " + body.strip()
+        unf = f"unfolding {' '.join(words)}\n" if words else ""
+        out.append("\n".join(comment + [f"pub {new} : goal.{new}"]) + "\n" + unf + f"{new} c{more} =" + body)
+    return out, placed
+
+
 def turn(folder, row, path):
     fn = Fn(row)
     text = open(f"{path}/Proof.antt", encoding="utf-8").read()
     head, uses, blocks = split_items(text)
-    todo, invs, answers, helpers, done = [], [], [], [], set()
+    todo, invs, answers, helpers, placed_rows = [], [], [], [], []
     dropped = 0
     first_inv = []
     for b in blocks:
@@ -248,9 +318,14 @@ def turn(folder, row, path):
         m = re.match(r"(\S+) : tie\.Need-(\S+?)(?: invariant-\S+| decreases-\S+)*$", sig)
         if m:
             name, need = m.group(1), m.group(2)
-            hit = fn.needs.get(norm(need)) or fn.by_new.get(need)
+            hit = None
+            for k in (need, re.sub("^overflow-", "", need), re.sub("^slice-bounds-", "part-", need), name):
+                hit = hit or fn.needs.get(norm(k)) or fn.by_new.get(k)
             rest = "\n".join(lines[1:])
             mm = re.match(r"((?:unfolding .*\n)?)" + re.escape(name) + r"((?: \S+)*) =([\s\S]*)", rest)
+            if mm and not hit and mm.group(3).strip() == "search rules":
+                dropped += 1
+                continue
             if not hit or not mm:
                 todo.append(f"goal {need} not found")
                 helpers.append("-- TODO goal\n" + b)
@@ -267,28 +342,24 @@ def turn(folder, row, path):
             ps = [p for p in ps if p != "κs"]
             body = turn_body(fn, old_at, ps[0] if ps else "c", body, todo)
             more = "".join(" " + p for p in ps[1:])
-            answers.append("\n".join(comment + [f"pub {new} : goal.{new}"]) + "\n" + mm.group(1) + f"{new} c{more} =" + body)
+            answers.append([comment, new, old_at, mm.group(1), more, body])
             continue
-        m = re.match(r"(\S+) : (.*)\(c : tie\.(\S+?)((?: invariant-\S+| decreases-\S+)*)\)(.*)", sig)
+        whole = "\n".join(lines)
+        m = re.match(r"(\S+) :\s+\((\S+) : tie\.(\S+?)((?:\s+invariant-\S+|\s+decreases-\S+)*)\)\s*→\s*([\s\S]*?)\n(unfolding .*\n)?\1 (\S+)((?: \S+)*) =([\s\S]*)$", whole)
         if m:
-            place = m.group(3)
+            name, tv, place, _, typ, unf, bv, more, body = m.groups()
             hit = next((p[0] for p in fn.places if norm(p[0]) == norm(place)), None)
-            new_place = next((b for a, b in zip([p[0] for p in fn.places], row["places_by_name"]) if a == hit), None)
             if hit:
-                rest = "\n".join(lines[1:])
-                tail = turn_body(fn, hit, "c", m.group(5), todo)
-                rest = turn_body(fn, hit, "c", rest, todo)
-                has = any(at[1] == new_place for at in fn.row["asked_at"])
-                if not has:
-                    todo.append(f"place {new_place} is named by no goal")
-                helpers.append(("PLACE", "\n".join(comment + [f"{m.group(1)} : {m.group(2)}(c : goal.{new_place}){tail}"]) + "\n" + rest))
+                typ = turn_body(fn, hit, tv, typ, todo)
+                body = turn_body(fn, hit, bv, body, todo)
+                placed_rows.append((name, hit, comment, typ, unf or "", more, body))
                 continue
             todo.append(f"place {place} not found")
         if "tie." in b:
             todo.append("tie in a helper")
         helpers.append(("PLAIN", b))
-    plain = [h[1] if isinstance(h, tuple) else h for h in helpers if not (isinstance(h, tuple) and h[0] == "PLACE")]
-    placed = [h[1] for h in helpers if isinstance(h, tuple) and h[0] == "PLACE"]
+    plain = [h[1] if isinstance(h, tuple) else h for h in helpers]
+    answers, placed = with_helpers(fn, row, answers, placed_rows)
     keep = [u for u in uses if not re.search(r"\.(Statement|Tie|Need\w*)\b", u)]
     mod = folder.replace("/", ".")
     if invs:
@@ -341,7 +412,7 @@ def pick(uses, text):
         for n in names:
             base = n.split(" as ")[-1]
             op = base.strip("◌")
-            if base in words or ("◌" in base and op in text) or op in text and "◌" in base:
+            if base in words or (base == "[]" and "[]" in text) or ("◌" in base and op in text) or op in text and "◌" in base:
                 kept.append(n)
         if kept:
             out.append(f"use {m.group(1)}.{{{', '.join(kept)}}}")

@@ -1,0 +1,13 @@
+-- `put_number` meets its contract: it writes the digits from the last one on. Assumes nothing.
+use Prim.Native.Nat.{◌≤◌}
+use mathlib.Core.Path.{◌≡◌}
+use lib.ListN.{length, drop}
+use Rattle.layout.specs.Steps.Number.{last_digits}
+use Rattle.layout.proofs.number.put_number.Given as goal
+
+abbrev pub invariant-loop-i : goal.invariant-loop-i
+invariant-loop-i l =
+    (l.i ≤ l.k) × (l.k ≤ length l.part) × (length l.part ≡ length l.initial.part) × (last_digits l.k l.n (drop l.k l.initial.part) ≡ last_digits l.i l.rest (drop l.i l.part))
+
+abbrev pub decreases-loop-i : goal.decreases-loop-i
+decreases-loop-i l = l.i
