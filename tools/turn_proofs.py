@@ -16,7 +16,7 @@ NAME = r"[^\s(){}:;,.«»λ\[\]|=]+"
 
 
 def norm(s):
-    return s.replace("-", "_")
+    return re.sub("_lem$", "", s.replace("-", "_").lower())
 
 
 class Fn:
@@ -44,7 +44,14 @@ class Fn:
         return rows
 
     def resolve(self, place, path):
-        """The new path of c at a goal, for the old path from a place."""
+        """The new path of c at a goal, for the old path from a place. The steps up are not counted where the code has other steps now."""
+        r = self.exactly(place, path)
+        if r is None and "before" in path:
+            rest = [p for p in path if p != "before"]
+            r = self.exactly(place, rest) if rest else ("place", place)
+        return r
+
+    def exactly(self, place, path):
         path = list(path)
         while path and path[0] == "before":
             up = self.parent(place)
@@ -79,7 +86,8 @@ class Fn:
                 if p[3] and len(rest) > 1 and rest[0] in ("new", "auto") and rest[1].isdigit():
                     rest[1] = lent(p[3], int(rest[1]))
                 return ("step", [p[2][1]] + rest)
-        if f in ("args", "requires", "ranges", "well_formed", "lifetimes"):
+        if norm(f) in ("args", "requires", "ranges", "well_formed", "lifetimes"):
+            f = norm(f)
             rest = path[1:]
             for a, b in self.args:
                 x, y = a.split(), b.split()
@@ -180,6 +188,7 @@ def turn_body(fn, place, var, body, todo):
                 kind = alias[root]
                 full = (list(kind[2]) if kind[0] == "old" else []) + path
                 r = fn.resolve(kind[1], full) if full else ("place", kind[1])
+                r = r or fn.resolve(place, [p for p in full if p != "before"])
                 if r is None:
                     todo.append(f"{root}.{'.'.join(path)}: {kind}")
                     out += f"c.TODO.{'.'.join(full)}"
@@ -214,6 +223,12 @@ def invariant(fn, name, params, body, todo):
     names = {}
     n = len(vars)
     later = [v for v, c in zip(vars, changed) if c]
+    if len(params) != n + len(later):
+        for p in params:
+            v = p.rstrip("₀").replace("-", "_")
+            if v in vars:
+                names[p] = f"l.initial.{v}" if p.endswith("₀") else f"l.{v}"
+        params = []
     for j, p in enumerate(params):
         if j < n:
             v = vars[j]
@@ -273,7 +288,7 @@ def with_helpers(fn, row, answers, rows):
             lets.append(f"    let {name} : {typ.strip()} = {lam}{b.strip()} in")
         if lets:
             for r in need:
-                strip = lambda t: re.sub(r"(?<![\w.'-])" + re.escape(r[0]) + r" c(?![\w.'-])", r[0], t)
+                strip = lambda t: re.sub(r"(?<![\w.'-])" + re.escape(r[0]) + r" (?:c|\(c\))(?![\w.'-])", r[0], t)
                 body, lets = strip(body), [strip(l) for l in lets]
             body = "\n" + "\n".join(lets) + "\n    " + body.strip()
         unf = f"unfolding {' '.join(words)}\n" if words else ""
@@ -281,11 +296,17 @@ def with_helpers(fn, row, answers, rows):
     return out, placed
 
 
+def step_out(name, text):
+    """Text without a function that only steps up to an earlier place."""
+    return re.sub(r"\(" + re.escape(name) + r" ([\w.]+|\([^()]*\))\)", lambda m: m.group(1).strip("()"), text)
+
+
 def turn(folder, row, path):
     fn = Fn(row)
     text = open(f"{path}/Proof.antt", encoding="utf-8").read()
     head, uses, blocks = split_items(text)
     todo, invs, answers, helpers, placed_rows = [], [], [], [], []
+    steps = {}
     dropped = 0
     first_inv = []
     for b in blocks:
@@ -322,7 +343,7 @@ def turn(folder, row, path):
             for k in (need, re.sub("^overflow-", "", need), re.sub("^slice-bounds-", "part-", need), name):
                 hit = hit or fn.needs.get(norm(k)) or fn.by_new.get(k)
             rest = "\n".join(lines[1:])
-            mm = re.match(r"((?:unfolding .*\n)?)" + re.escape(name) + r"((?: \S+)*) =([\s\S]*)", rest)
+            mm = re.match(r"((?:unfolding .*\n)?)" + re.escape(name) + r"((?: \S+)*?) =([\s\S]*)", rest)
             if mm and not hit and mm.group(3).strip() == "search rules":
                 dropped += 1
                 continue
@@ -340,17 +361,27 @@ def turn(folder, row, path):
                 continue
             ps = mm.group(2).split()
             ps = [p for p in ps if p != "κs"]
+            for n in steps:
+                body = step_out(n, body)
             body = turn_body(fn, old_at, ps[0] if ps else "c", body, todo)
             more = "".join(" " + p for p in ps[1:])
             answers.append([comment, new, old_at, mm.group(1), more, body])
             continue
         whole = "\n".join(lines)
-        m = re.match(r"(\S+) :\s+\((\S+) : tie\.(\S+?)((?:\s+invariant-\S+|\s+decreases-\S+)*)\)\s*→\s*([\s\S]*?)\n(unfolding .*\n)?\1 (\S+)((?: \S+)*) =([\s\S]*)$", whole)
+        loops = r"(?:\s+invariant-\S+?|\s+decreases-\S+?)*"
+        m = re.match(r"(?:abbrev )?(?:pub )?(\S+) :\s+(?:\((\S+) : tie\.(\S+?)" + loops + r"\)|tie\.(\S+?)" + loops + r")(?=[\s)])\s*(→|(?=[({]))\s*([\s\S]*?)\n(unfolding .*\n)?\1 (\S+)((?: \S+)*?) =([\s\S]*)$", whole)
         if m:
-            name, tv, place, _, typ, unf, bv, more, body = m.groups()
+            name, tv, place, place2, _, typ, unf, bv, more, body = m.groups()
+            place = place or place2
             hit = next((p[0] for p in fn.places if norm(p[0]) == norm(place)), None)
+            to = re.match(r"tie\.(\S+?)(?: invariant-\S+| decreases-\S+)*$", typ.strip())
+            if hit and to:
+                steps[name] = hit
+                continue
             if hit:
-                typ = turn_body(fn, hit, tv, typ, todo)
+                for n in steps:
+                    typ, body = step_out(n, typ), step_out(n, body)
+                typ = turn_body(fn, hit, tv or "c", typ, todo)
                 body = turn_body(fn, hit, bv, body, todo)
                 placed_rows.append((name, hit, comment, typ, unf or "", more, body))
                 continue

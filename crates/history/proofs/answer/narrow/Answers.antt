@@ -1,0 +1,38 @@
+-- `narrow` meets its contract: the values so far are the first items. Assumes nothing.
+use native.Mathlib.Omega.{arith}
+use borrow.Author.Rules.{rules}
+use Prim.Native.Nat.{ℕ, ◌-◌}
+use mathlib.Core.Path.{◌≡◌, sym, ap, ap₂, ◌∙◌}
+use mathlib.Core.List.{List}
+use mathlib.Core.Bool.{false}
+use lib.ListN.{length, take, get_or, length-set}
+use lib.Seq.{length-take-le}
+use Rattle.history.specs.declared.record.Answer.{Answer}
+use Rattle.history.specs.Record.{pad, answer_of}
+use Rattle.history.proofs.PadLaws.{pad-none, pad-set, take_more}
+use Rattle.history.proofs.answer.narrow.Goals as goal
+
+pub loop-i-init : goal.loop-i-init
+loop-i-init c = (search rules, search rules, sym (pad-none 8 0))
+
+pub overflow_cast-values : goal.overflow_cast-values
+overflow_cast-values c = omega (arith, c.requires.1 c.loop-i.i (search rules))
+
+pub loop-i-preserved : goal.loop-i-preserved
+loop-i-preserved c =
+    let l : length c.args.items ≡ 8 = search rules in (
+      search rules,
+      simp length-set (search rules),
+      rw c.loop-i.invariant.2
+          (pad-set 8 0 (take c.loop-i.i c.args.items) c.loop-i.i (get_or c.args.items c.loop-i.i 0) (sym (length-take-le c.loop-i.i c.args.items (omega arith))) (omega arith)
+          ∙ ap (pad 8 0) (sym (take_more c.args.items c.loop-i.i 0 (omega arith)))),
+    )
+
+pub returns : goal.returns
+unfolding answer_of
+returns c =
+    let l : length c.args.items ≡ 8 = search rules in
+    let e : c.loop-i.i ≡ c.args.n = omega arith in
+    let v : c.loop-i.values ≡ pad 8 0 (take c.args.n c.args.items) = c.loop-i.invariant.2 ∙ ap (λ (k : ℕ). pad 8 0 (take k c.args.items)) e in
+    let k : c.args.n ≡ length (take c.args.n c.args.items) = sym (length-take-le c.args.n c.args.items (omega arith)) in
+    ap₂ {C = Answer} (λ (m : ℕ) (vs : List ℕ). record { lost = false; count = m; values = vs }) k v

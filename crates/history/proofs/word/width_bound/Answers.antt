@@ -1,0 +1,10 @@
+-- `width_bound` meets its contract, by whether the kind is a channel. Assumes nothing.
+use native.Mathlib.Omega.{arith}
+use mathlib.Core.Path.{sym, ◌∙◌}
+use Rattle.history.proofs.word.width_bound.Goals as goal
+
+pub returns-then-is_channel : goal.returns-then-is_channel
+returns-then-is_channel c = (rw (sym c.is_channel.ensures ∙ c.if-is_channel.true), omega arith)
+
+pub returns : goal.returns
+returns c = (rw (sym c.is_channel.ensures ∙ c.if-is_channel.false), omega arith)

@@ -1,0 +1,23 @@
+-- What an op answers. Assumes nothing.
+use mathlib.Core.Path.{refl}
+use Rattle.history.specs.declared.record.Op.TheVariants.{Write, Pop, Peek}
+use Rattle.objects.proofs.StateLaws.{asked, none_answers, end-answers}
+use Rattle.objects.proofs.state.State.answer.Goals as goal
+
+pub returns-in-Write : goal.returns-in-Write
+returns-in-Write c =
+    asked c.in-Write.is (none_answers c.args.self c.none.result Write _ (λ o v l. refl) c.none.ensures)
+
+pub returns-in-Read : goal.returns-in-Read
+returns-in-Read c = asked c.in-Read.is (c.read.ensures _)
+
+pub returns-in-Push : goal.returns-in-Push
+returns-in-Push c = asked c.in-Push.is c.push_answer.ensures
+
+pub returns-in-Pop : goal.returns-in-Pop
+returns-in-Pop c =
+    asked c.in-Pop.is (end-answers c.args.self c.ended.result Pop _ (λ o v l. refl) c.ended.ensures)
+
+pub returns-in-Peek : goal.returns-in-Peek
+returns-in-Peek c =
+    asked c.in-Peek.is (end-answers c.args.self c.ended-in-Peek.result Peek _ (λ o v l. refl) c.ended-in-Peek.ensures)

@@ -1,0 +1,15 @@
+-- A push answers its value where the object holds as many as it can. Assumes nothing.
+use mathlib.Core.Path.{sym, ◌∙◌}
+use mathlib.Core.Bool.{true, false}
+use Rattle.objects.proofs.StateLaws.{plain, push-answers}
+use Rattle.objects.proofs.state.State.push_answer.Goals as goal
+
+pub returns-then-is_full : goal.returns-then-is_full
+returns-then-is_full c =
+    push-answers c.args.self c.one.result c.args.no.0 true (plain c.args.self.numbers c.well_formed.0.1.1.0.1.0.1) c.requires.1
+    (sym c.is_full.ensures ∙ c.if-is_full.true) c.one.ensures
+
+pub returns : goal.returns
+returns c =
+    push-answers c.args.self c.none.result c.args.no.0 false (plain c.args.self.numbers c.well_formed.0.1.1.0.1.0.1) c.requires.1
+    (sym c.is_full.ensures ∙ c.if-is_full.false) c.none.ensures

@@ -1,0 +1,13 @@
+-- `by_place` meets its contract: the line so far has the events of the places below m. Assumes nothing.
+use Prim.Native.Nat.{◌+◌, ◌≤◌, ◌-◌}
+use mathlib.Core.Path.{◌≡◌}
+use lib.ListN.{get_or}
+use Rattle.certificate.specs.Record.{event_list_of}
+use Rattle.criteria.specs.OneLine.{by_place}
+use Rattle.one_line.proofs.line.by_place.Given as goal
+
+abbrev pub invariant-loop-m : goal.invariant-loop-m
+invariant-loop-m l = (l.m ≤ l.n + l.n + 2) × (l.line ≡ event_list_of (by_place l.n (λ e. get_or l.places e 0) l.m))
+
+abbrev pub decreases-loop-m : goal.decreases-loop-m
+decreases-loop-m l = l.n + l.n + 2 - l.m

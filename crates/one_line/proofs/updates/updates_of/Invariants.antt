@@ -1,0 +1,13 @@
+-- `updates_of` meets its contract: the row so far is that of the first i events. Assumes nothing.
+use Prim.Native.Nat.{◌≤◌, ◌-◌}
+use mathlib.Core.Path.{◌≡◌}
+use lib.ListN.{length}
+use Rattle.one_line.specs.Steps.{update_in}
+use Rattle.one_line.proofs.UpdateLaws.{RowOf}
+use Rattle.one_line.proofs.updates.updates_of.Given as goal
+
+abbrev pub invariant-loop-i : goal.invariant-loop-i
+invariant-loop-i l = (l.i ≤ l.n) × (length l.events ≡ 64) × RowOf l.row l.i (update_in l.events)
+
+abbrev pub decreases-loop-i : goal.decreases-loop-i
+decreases-loop-i l = l.n - l.i

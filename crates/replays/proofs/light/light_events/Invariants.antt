@@ -1,0 +1,16 @@
+-- `light_events` meets its contract: the first i elements are made. Assumes nothing.
+use Prim.Native.Nat.{◌≤◌, ◌-◌}
+use mathlib.Core.Path.{◌≡◌}
+use lib.ListN.{length}
+use Rattle.history.specs.Record.{no_event}
+use Rattle.replays.specs.Replay.{no_light}
+use Rattle.replays.specs.Light.{light_of}
+use Rattle.replays.proofs.LightLaws.{Made}
+use Rattle.replays.proofs.light.light_events.Given as goal
+
+abbrev pub invariant-loop-i : goal.invariant-loop-i
+invariant-loop-i l =
+    (l.i ≤ l.n) × (length l.events ≡ 64) × (length l.lights ≡ 64) × Made (light_of l.objects) no_event no_light l.events l.lights l.i
+
+abbrev pub decreases-loop-i : goal.decreases-loop-i
+decreases-loop-i l = l.n - l.i
