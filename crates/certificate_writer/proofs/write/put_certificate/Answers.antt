@@ -19,7 +19,7 @@ put_criterion-a-requires c =
 
 pub slice_bounds-put_both_parts-count : goal.slice_bounds-put_both_parts-count
 slice_bounds-put_both_parts-count c =
-    let events-long : length c.args.h.events ≡ 64 = sym (length-map c.args.h.events _) ∙ c.well_formed.1.0.1.1.1.1.0.1.0.1 in
+    let events-long : length c.args.h.events ≡ 64 = c.well_formed.1.0.1.1.1.1.0.1.0.1 in
     let begun-with : Writing (certificate_text (events_in c.args.h) c.args.c c.args.rows.now) c.args.part.now
     (lines_text (past_part (pasts_in c.args.h.count c.args.c) ++ view_lines c.args.c c.args.rows.now c.view_numbers-views.result))
     c.put_criterion-a.new.part c.put_criterion-a.result = writing-first (certificate_text (events_in c.args.h) c.args.c c.args.rows.now) c.args.part.now (criterion_text c.args.c.criterion ++ 10 ∷ [])
@@ -31,7 +31,7 @@ slice_bounds-put_both_parts-count c =
 
 pub slice_bounds-put_both_parts-start : goal.slice_bounds-put_both_parts-start
 slice_bounds-put_both_parts-start c =
-    let events-long : length c.args.h.events ≡ 64 = sym (length-map c.args.h.events _) ∙ c.well_formed.1.0.1.1.1.1.0.1.0.1 in
+    let events-long : length c.args.h.events ≡ 64 = c.well_formed.1.0.1.1.1.1.0.1.0.1 in
     let begun-with : Writing (certificate_text (events_in c.args.h) c.args.c c.args.rows.now) c.args.part.now
     (lines_text (past_part (pasts_in c.args.h.count c.args.c) ++ view_lines c.args.c c.args.rows.now c.view_numbers-views.result))
     c.put_criterion-a.new.part c.put_criterion-a.result = writing-first (certificate_text (events_in c.args.h) c.args.c c.args.rows.now) c.args.part.now (criterion_text c.args.c.criterion ++ 10 ∷ [])
@@ -43,7 +43,7 @@ slice_bounds-put_both_parts-start c =
 
 pub put_both_parts-b-requires : goal.put_both_parts-b-requires
 put_both_parts-b-requires c =
-    let events-long : length c.args.h.events ≡ 64 = sym (length-map c.args.h.events _) ∙ c.well_formed.1.0.1.1.1.1.0.1.0.1 in
+    let events-long : length c.args.h.events ≡ 64 = c.well_formed.1.0.1.1.1.1.0.1.0.1 in
     let begun-with : Writing (certificate_text (events_in c.args.h) c.args.c c.args.rows.now) c.args.part.now
     (lines_text (past_part (pasts_in c.args.h.count c.args.c) ++ view_lines c.args.c c.args.rows.now c.view_numbers-views.result))
     c.put_criterion-a.new.part c.put_criterion-a.result = writing-first (certificate_text (events_in c.args.h) c.args.c c.args.rows.now) c.args.part.now (criterion_text c.args.c.criterion ++ 10 ∷ [])
@@ -61,7 +61,7 @@ put_both_parts-b-requires c =
 
 pub overflow_add-result : goal.overflow_add-result
 overflow_add-result c =
-    let events-long : length c.args.h.events ≡ 64 = sym (length-map c.args.h.events _) ∙ c.well_formed.1.0.1.1.1.1.0.1.0.1 in
+    let events-long : length c.args.h.events ≡ 64 = c.well_formed.1.0.1.1.1.1.0.1.0.1 in
     let part-short : length c.args.part.now < 18446744073709551616 = search rules in
     let begun-with : Writing (certificate_text (events_in c.args.h) c.args.c c.args.rows.now) c.args.part.now
     (lines_text (past_part (pasts_in c.args.h.count c.args.c) ++ view_lines c.args.c c.args.rows.now c.view_numbers-views.result))
@@ -74,7 +74,7 @@ overflow_add-result c =
 
 pub shape_of-part-then-has_pasts : goal.shape_of-part-then-has_pasts
 shape_of-part-then-has_pasts c =
-    let events-long : length c.args.h.events ≡ 64 = sym (length-map c.args.h.events _) ∙ c.well_formed.1.0.1.1.1.1.0.1.0.1 in
+    let events-long : length c.args.h.events ≡ 64 = c.well_formed.1.0.1.1.1.1.0.1.0.1 in
     let begun-with : Writing (certificate_text (events_in c.args.h) c.args.c c.args.rows.now) c.args.part.now
     (lines_text (past_part (pasts_in c.args.h.count c.args.c) ++ view_lines c.args.c c.args.rows.now c.view_numbers-views.result))
     c.put_criterion-a.new.part c.put_criterion-a.result = writing-first (certificate_text (events_in c.args.h) c.args.c c.args.rows.now) c.args.part.now (criterion_text c.args.c.criterion ++ 10 ∷ [])
@@ -86,7 +86,7 @@ shape_of-part-then-has_pasts c =
 
 pub returns-then-has_pasts : goal.returns-then-has_pasts
 returns-then-has_pasts c =
-    let events-long : length c.args.h.events ≡ 64 = sym (length-map c.args.h.events _) ∙ c.well_formed.1.0.1.1.1.1.0.1.0.1 in
+    let events-long : length c.args.h.events ≡ 64 = c.well_formed.1.0.1.1.1.1.0.1.0.1 in
     let begun-with : Writing (certificate_text (events_in c.args.h) c.args.c c.args.rows.now) c.args.part.now
     (lines_text (past_part (pasts_in c.args.h.count c.args.c) ++ view_lines c.args.c c.args.rows.now c.view_numbers-views.result))
     c.put_criterion-a.new.part c.put_criterion-a.result = writing-first (certificate_text (events_in c.args.h) c.args.c c.args.rows.now) c.args.part.now (criterion_text c.args.c.criterion ++ 10 ∷ [])
@@ -99,7 +99,7 @@ returns-then-has_pasts c =
 
 pub slice_bounds-put_view_part-count : goal.slice_bounds-put_view_part-count
 slice_bounds-put_view_part-count c =
-    let events-long : length c.args.h.events ≡ 64 = sym (length-map c.args.h.events _) ∙ c.well_formed.1.0.1.1.1.1.0.1.0.1 in
+    let events-long : length c.args.h.events ≡ 64 = c.well_formed.1.0.1.1.1.1.0.1.0.1 in
     let begun-without : Writing (certificate_text (events_in c.args.h) c.args.c c.args.rows.now) c.args.part.now
     (lines_text (view_lines c.args.c c.args.rows.now c.view_numbers-views.result)) c.put_criterion-a.new.part c.put_criterion-a.result = writing-first (certificate_text (events_in c.args.h) c.args.c c.args.rows.now) c.args.part.now (criterion_text c.args.c.criterion ++ 10 ∷ [])
     (lines_text (view_lines c.args.c c.args.rows.now c.view_numbers-views.result)) c.requires.2
@@ -110,7 +110,7 @@ slice_bounds-put_view_part-count c =
 
 pub slice_bounds-put_view_part-start : goal.slice_bounds-put_view_part-start
 slice_bounds-put_view_part-start c =
-    let events-long : length c.args.h.events ≡ 64 = sym (length-map c.args.h.events _) ∙ c.well_formed.1.0.1.1.1.1.0.1.0.1 in
+    let events-long : length c.args.h.events ≡ 64 = c.well_formed.1.0.1.1.1.1.0.1.0.1 in
     let begun-without : Writing (certificate_text (events_in c.args.h) c.args.c c.args.rows.now) c.args.part.now
     (lines_text (view_lines c.args.c c.args.rows.now c.view_numbers-views.result)) c.put_criterion-a.new.part c.put_criterion-a.result = writing-first (certificate_text (events_in c.args.h) c.args.c c.args.rows.now) c.args.part.now (criterion_text c.args.c.criterion ++ 10 ∷ [])
     (lines_text (view_lines c.args.c c.args.rows.now c.view_numbers-views.result)) c.requires.2
@@ -121,7 +121,7 @@ slice_bounds-put_view_part-start c =
 
 pub put_view_part-b-requires : goal.put_view_part-b-requires
 put_view_part-b-requires c =
-    let events-long : length c.args.h.events ≡ 64 = sym (length-map c.args.h.events _) ∙ c.well_formed.1.0.1.1.1.1.0.1.0.1 in
+    let events-long : length c.args.h.events ≡ 64 = c.well_formed.1.0.1.1.1.1.0.1.0.1 in
     let begun-without : Writing (certificate_text (events_in c.args.h) c.args.c c.args.rows.now) c.args.part.now
     (lines_text (view_lines c.args.c c.args.rows.now c.view_numbers-views.result)) c.put_criterion-a.new.part c.put_criterion-a.result = writing-first (certificate_text (events_in c.args.h) c.args.c c.args.rows.now) c.args.part.now (criterion_text c.args.c.criterion ++ 10 ∷ [])
     (lines_text (view_lines c.args.c c.args.rows.now c.view_numbers-views.result)) c.requires.2
@@ -135,7 +135,7 @@ put_view_part-b-requires c =
 
 pub overflow_add-result-2 : goal.overflow_add-result-2
 overflow_add-result-2 c =
-    let events-long : length c.args.h.events ≡ 64 = sym (length-map c.args.h.events _) ∙ c.well_formed.1.0.1.1.1.1.0.1.0.1 in
+    let events-long : length c.args.h.events ≡ 64 = c.well_formed.1.0.1.1.1.1.0.1.0.1 in
     let part-short : length c.args.part.now < 18446744073709551616 = search rules in
     let begun-without : Writing (certificate_text (events_in c.args.h) c.args.c c.args.rows.now) c.args.part.now
     (lines_text (view_lines c.args.c c.args.rows.now c.view_numbers-views.result)) c.put_criterion-a.new.part c.put_criterion-a.result = writing-first (certificate_text (events_in c.args.h) c.args.c c.args.rows.now) c.args.part.now (criterion_text c.args.c.criterion ++ 10 ∷ [])
@@ -147,7 +147,7 @@ overflow_add-result-2 c =
 
 pub shape_of-part : goal.shape_of-part
 shape_of-part c =
-    let events-long : length c.args.h.events ≡ 64 = sym (length-map c.args.h.events _) ∙ c.well_formed.1.0.1.1.1.1.0.1.0.1 in
+    let events-long : length c.args.h.events ≡ 64 = c.well_formed.1.0.1.1.1.1.0.1.0.1 in
     let begun-without : Writing (certificate_text (events_in c.args.h) c.args.c c.args.rows.now) c.args.part.now
     (lines_text (view_lines c.args.c c.args.rows.now c.view_numbers-views.result)) c.put_criterion-a.new.part c.put_criterion-a.result = writing-first (certificate_text (events_in c.args.h) c.args.c c.args.rows.now) c.args.part.now (criterion_text c.args.c.criterion ++ 10 ∷ [])
     (lines_text (view_lines c.args.c c.args.rows.now c.view_numbers-views.result)) c.requires.2
@@ -158,7 +158,7 @@ shape_of-part c =
 
 pub returns : goal.returns
 returns c =
-    let events-long : length c.args.h.events ≡ 64 = sym (length-map c.args.h.events _) ∙ c.well_formed.1.0.1.1.1.1.0.1.0.1 in
+    let events-long : length c.args.h.events ≡ 64 = c.well_formed.1.0.1.1.1.1.0.1.0.1 in
     let begun-without : Writing (certificate_text (events_in c.args.h) c.args.c c.args.rows.now) c.args.part.now
     (lines_text (view_lines c.args.c c.args.rows.now c.view_numbers-views.result)) c.put_criterion-a.new.part c.put_criterion-a.result = writing-first (certificate_text (events_in c.args.h) c.args.c c.args.rows.now) c.args.part.now (criterion_text c.args.c.criterion ++ 10 ∷ [])
     (lines_text (view_lines c.args.c c.args.rows.now c.view_numbers-views.result)) c.requires.2

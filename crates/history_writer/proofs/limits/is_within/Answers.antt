@@ -12,7 +12,7 @@ returns-then-count-gt64 c = sym (events-many c.args.h c.if-count-gt64.true)
 
 pub returns : goal.returns
 returns c =
-    let objects-long : length c.args.h.objects ≡ 16 = sym (length-map c.args.h.objects _) ∙ c.well_formed.0.1.1.0.1.0.1 in
-    let events-long : length c.args.h.events ≡ 64 = sym (length-map c.args.h.events _) ∙ c.well_formed.0.1.1.1.1.0.1.0.1 in
+    let objects-long : length c.args.h.objects ≡ 16 = c.well_formed.0.1.1.0.1.0.1 in
+    let events-long : length c.args.h.events ≡ 64 = c.well_formed.0.1.1.1.1.0.1.0.1 in
     within-is c.args.h _ _ _ _ c.if-declared-gt16.false c.if-count-gt64.false (objects-long) (events-long)
     c.good_objects-used.ensures c.good_events-said.ensures c.blank_objects-unused.ensures c.blank_events-unsaid.ensures
