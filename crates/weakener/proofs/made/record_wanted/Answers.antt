@@ -15,21 +15,12 @@ line_record-requires c =
 
 pub returns-in-Nothing : goal.returns-in-Nothing
 returns-in-Nothing c =
-    let as-matched : {w : Wanted} → c.args.wanted ≡ w → (r : Certificate) (rows : List (List ℕ))
-    → IsRecordOf (lists_wanted w (history_of c.args.h) (certificate_of c.args.h c.args.c c.args.views)) r rows
-    → IsRecordOf (lists_wanted c.args.wanted (history_of c.args.h) (certificate_of c.args.h c.args.c c.args.views)) r rows = λ q r rows i. subst (λ (x : Wanted). IsRecordOf (lists_wanted x (history_of c.args.h) (certificate_of c.args.h c.args.c c.args.views)) r rows) (sym q) i in
-    as-matched c.in-Nothing.is _ _ tt
+    subst (λ (x : Wanted). IsRecordOf (lists_wanted x (history_of c.args.h) (certificate_of c.args.h c.args.c c.args.views)) _ _) (sym c.in-Nothing.is) tt
 
 pub returns-in-Named : goal.returns-in-Named
 returns-in-Named c =
-    let as-matched : {w : Wanted} → c.args.wanted ≡ w → (r : Certificate) (rows : List (List ℕ))
-    → IsRecordOf (lists_wanted w (history_of c.args.h) (certificate_of c.args.h c.args.c c.args.views)) r rows
-    → IsRecordOf (lists_wanted c.args.wanted (history_of c.args.h) (certificate_of c.args.h c.args.c c.args.views)) r rows = λ q r rows i. subst (λ (x : Wanted). IsRecordOf (lists_wanted x (history_of c.args.h) (certificate_of c.args.h c.args.c c.args.views)) r rows) (sym q) i in
-    as-matched c.in-Named.is _ _ c.weakened_record.ensures
+    subst (λ (x : Wanted). IsRecordOf (lists_wanted x (history_of c.args.h) (certificate_of c.args.h c.args.c c.args.views)) _ _) (sym c.in-Named.is) c.weakened_record.ensures
 
 pub returns-in-OneLine : goal.returns-in-OneLine
 returns-in-OneLine c =
-    let as-matched : {w : Wanted} → c.args.wanted ≡ w → (r : Certificate) (rows : List (List ℕ))
-    → IsRecordOf (lists_wanted w (history_of c.args.h) (certificate_of c.args.h c.args.c c.args.views)) r rows
-    → IsRecordOf (lists_wanted c.args.wanted (history_of c.args.h) (certificate_of c.args.h c.args.c c.args.views)) r rows = λ q r rows i. subst (λ (x : Wanted). IsRecordOf (lists_wanted x (history_of c.args.h) (certificate_of c.args.h c.args.c c.args.views)) r rows) (sym q) i in
-    as-matched c.in-OneLine.is _ _ (c.line_record.ensures c.args.views)
+    subst (λ (x : Wanted). IsRecordOf (lists_wanted x (history_of c.args.h) (certificate_of c.args.h c.args.c c.args.views)) _ _) (sym c.in-OneLine.is) (c.line_record.ensures c.args.views)
