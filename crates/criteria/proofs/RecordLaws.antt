@@ -28,7 +28,7 @@ use Rattle.certificate.proofs.NumberingLaws.{count_long}
 use Rattle.certificate.proofs.Guarantees as CertificateGuarantees
 use Rattle.criteria.specs.Tests.{keep_if, keep, up_to, mem, RisingFrom, Rising}
 use Rattle.criteria.specs.Object.{last_values}
-use Rattle.criteria.specs.History.{Event, History, size, event, object, process, own}
+use Rattle.criteria.specs.History.{Event, size, event, object, process, own}
 use Rattle.criteria.specs.Replay.{start, answered, after_all}
 use Rattle.criteria.specs.Written.{all_written_to}
 use Rattle.criteria.specs.Certificate.{active, processes, past_count, view_count, view_number, EventsOf, Readable}

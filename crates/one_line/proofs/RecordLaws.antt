@@ -22,7 +22,7 @@ use Rattle.certificate.specs.Record.{no_list, event_list_of, entries_in, rows_of
 use Rattle.certificate.specs.Criteria.{has_pasts}
 use Rattle.criteria.specs.Tests.{any, table, one}
 use Rattle.criteria.specs.History.{Event, event}
-use Rattle.criteria.specs.Certificate.{Certificate, order}
+use Rattle.criteria.specs.Certificate.{order}
 use Rattle.criteria.specs.OneLine.{is_update, update, crosses, tally, updates_before, line_place, by_place, one_line, in_one_line}
 use Rattle.criteria.specs.Records.{event_of, history_of, certificate_of}
 use Rattle.criteria.proofs.RecordLaws.{size_is, event-is}

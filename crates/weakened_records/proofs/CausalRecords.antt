@@ -20,8 +20,8 @@ use Rattle.certificate.specs.declared.numbers.ViewNumbers.{ViewNumbers}
 use Rattle.certificate.specs.Record.{no_list, rows_of}
 use Rattle.certificate.specs.Criteria.{has_events, processes_from, view_numbers}
 use Rattle.certificate.specs.Steps.Numbers.{view_numbers_of}
-use Rattle.criteria.specs.Tests.{highest, table, count}
-use Rattle.criteria.specs.History.{Event, History, size, process, own, IsView}
+use Rattle.criteria.specs.Tests.{highest, table}
+use Rattle.criteria.specs.History.{Event, History, size, own, IsView}
 use Rattle.criteria.specs.Certificate.{Certificate, order, processes, view_count, view_set}
 use Rattle.criteria.specs.Weaken.{completed, last_of, weakened_from, weakened}
 use Rattle.criteria.specs.Records.{history_of, certificate_of}

@@ -1,6 +1,5 @@
 -- `is_rising` meets its contract: the answer for the whole is the answer for what is left, from the item before on. Assumes nothing.
 use native.Mathlib.Omega.{arith}
-use Prim.Native.Nat.{◌-◌}
 use mathlib.Core.Path.{◌≡◌, refl, sym, ◌∙◌}
 use lib.ListN.{length}
 use Rattle.certificate.proofs.ListLineLaws.{rising-fails, rising-goes, rising-ends}

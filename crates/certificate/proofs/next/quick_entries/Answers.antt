@@ -1,6 +1,5 @@
 -- `quick_entries` meets its contract: the entries so far are what the text spells up to the place that is reached. Assumes nothing.
 use native.Mathlib.Omega.{arith}
-use Prim.Native.Nat.{◌-◌}
 use mathlib.Core.Path.{refl, sym, ◌∙◌}
 use lib.ListN.{length-set}
 use Rattle.certificate.proofs.NextLaws.{reading_begins, reading-more, reading-ends}

@@ -1,6 +1,5 @@
 -- `event_numbers` meets its contract: the numbers so far are the first events. Assumes nothing.
 use native.Mathlib.Omega.{arith}
-use Prim.Native.Nat.{◌-◌}
 use mathlib.Core.Path.{refl}
 use lib.ListN.{length-set}
 use Rattle.certificate.proofs.NumberingLaws.{counted_none, counted-more, counted-all}

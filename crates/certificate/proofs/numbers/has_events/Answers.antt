@@ -1,6 +1,5 @@
 -- `has_events` meets its contract: the answer for the whole is the answer for what is left. Assumes nothing.
 use native.Mathlib.Omega.{arith}
-use Prim.Native.Nat.{◌-◌}
 use mathlib.Core.Path.{◌≡◌, refl, sym, ◌∙◌}
 use lib.ListN.{length}
 use Rattle.certificate.proofs.NumberingLaws.{has_here, has-next, has-none}

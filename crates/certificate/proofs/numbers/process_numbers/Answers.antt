@@ -1,5 +1,5 @@
 -- `process_numbers` meets its contract: the numbers so far are the processes before p that have events. Assumes nothing.
-use Prim.Native.Nat.{◌+◌, ◌-◌}
+use Prim.Native.Nat.{◌+◌}
 use mathlib.Core.Path.{refl, sym, ◌∙◌}
 use lib.ListN.{take}
 use Rattle.certificate.proofs.NumberingLaws.{Gathered, gathered_none, gathered-in, gathered-out, gathered-all, numbers-are}

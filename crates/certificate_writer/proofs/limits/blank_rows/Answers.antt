@@ -1,6 +1,5 @@
 -- `blank_rows` meets its contract: the answer for the whole is the answer for what is left. Assumes nothing.
 use native.Mathlib.Omega.{arith}
-use Prim.Native.Nat.{◌-◌}
 use mathlib.Core.Path.{refl, sym, ◌∙◌}
 use borrow.Author.Tests.{not-true, not-false}
 use Rattle.history_writer.proofs.LimitLaws.{rest_goes, rest-fails, rest-ends}

@@ -1,6 +1,6 @@
 -- `fits_history` meets its contract: the criterion says how many pasts there are. Assumes nothing.
 use mathlib.Core.Path.{◌≡◌, sym, ◌∙◌}
-use lib.ListN.{length, length-map}
+use lib.ListN.{length}
 use Rattle.certificate_writer.proofs.LimitLaws.{fits-with, fits-without}
 use Rattle.certificate_writer.proofs.limits.fits_history.Goals as goal
 

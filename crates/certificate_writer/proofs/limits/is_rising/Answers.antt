@@ -1,6 +1,5 @@
 -- `is_rising` meets its contract: the answer for the whole is the answer from the event before the next one on. Assumes nothing.
 use native.Mathlib.Omega.{arith}
-use Prim.Native.Nat.{◌-◌}
 use mathlib.Core.Path.{◌≡◌, refl, sym, ◌∙◌}
 use lib.ListN.{length}
 use Rattle.certificate_writer.proofs.LimitLaws.{rising-goes, rising-fails, rising-ends}

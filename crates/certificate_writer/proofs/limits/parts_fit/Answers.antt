@@ -1,6 +1,6 @@
 -- `parts_fit` meets its contract. Assumes nothing.
-use mathlib.Core.Path.{◌≡◌, sym, ◌∙◌}
-use lib.ListN.{length, length-map}
+use mathlib.Core.Path.{◌≡◌}
+use lib.ListN.{length}
 use Rattle.certificate_writer.proofs.LimitLaws.{parts_are}
 use borrow.Author.Rules.{rules}
 use Rattle.certificate_writer.proofs.limits.parts_fit.Goals as goal

@@ -1,6 +1,6 @@
 -- `certificate_len` meets its contract: the first line, the parts and their headings. Assumes nothing.
 use mathlib.Core.Path.{◌≡◌, sym, ◌∙◌}
-use lib.ListN.{length, length-map}
+use lib.ListN.{length}
 use Rattle.certificate_writer.proofs.WriteLaws.{pasts-short, views-short, long-with, long-without}
 use Rattle.certificate_writer.proofs.write.certificate_len.Goals as goal
 

@@ -1,6 +1,6 @@
 -- `pasts_len` meets its contract: the bytes counted and those of the lines left are all bytes of the lines. Assumes nothing.
 use native.Mathlib.Omega.{arith}
-use Prim.Native.Nat.{◌≤◌, ◌-◌}
+use Prim.Native.Nat.{◌≤◌}
 use mathlib.Core.Path.{◌≡◌, ap}
 use lib.ListN.{length}
 use Rattle.history_writer.proofs.WriteLaws.{lines_long, lines_end}

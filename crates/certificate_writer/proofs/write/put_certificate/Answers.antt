@@ -3,7 +3,7 @@ use native.Mathlib.Omega.{arith}
 use Prim.Native.Nat.{◌<◌}
 use mathlib.Core.Path.{◌≡◌, sym, ◌∙◌}
 use mathlib.Core.List.{[], ◌∷◌, ◌++◌}
-use lib.ListN.{length, length-map}
+use lib.ListN.{length}
 use Rattle.layout.proofs.FillLaws.{Writing, writing-first, writing-from, last-room, last_sum, last-length, last-part}
 use Rattle.history.specs.Record.{events_in}
 use Rattle.history.specs.HistoryText.{lines_text}

@@ -1,6 +1,5 @@
 -- `views_len` meets its contract: the bytes counted and those of the lines left are all bytes of the lines. Assumes nothing.
 use native.Mathlib.Omega.{arith}
-use Prim.Native.Nat.{◌-◌}
 use mathlib.Core.Path.{◌≡◌, ap}
 use lib.ListN.{length}
 use Rattle.certificate_writer.proofs.WriteLaws.{views-long, views-end, less-at}

@@ -1,6 +1,5 @@
 -- `widen` meets its contract: the items so far are the events. Assumes nothing.
 use native.Mathlib.Omega.{arith}
-use Prim.Native.Nat.{◌-◌}
 use mathlib.Core.Path.{◌≡◌, sym, ap, ◌∙◌}
 use lib.ListN.{take, get_or, length-set}
 use lib.Seq.{length-take-le, take_all}

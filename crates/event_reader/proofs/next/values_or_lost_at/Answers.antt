@@ -1,6 +1,5 @@
 -- `values_or_lost_at` meets its contract: the values so far are what the text spells up to the place that is reached. Assumes nothing.
 use native.Mathlib.Omega.{arith}
-use Prim.Native.Nat.{◌-◌}
 use mathlib.Core.Path.{refl, sym, ◌∙◌}
 use mathlib.Core.Bool.{false≢true}
 use lib.ListN.{length-set}

@@ -1,18 +1,5 @@
 -- `check_records` meets its contract: what the first step with a fault finds is the answer. Assumes nothing.
 use borrow.Author.Rules.{rules}
-use Rattle.faults.proofs.check.check_records.Reads as reads
-use Rattle.faults.proofs.check.check_records.Lts as lts
-use Rattle.certificate.proofs.numbers.event_each.Reads as event-each-reads
-use Rattle.certificate.proofs.numbers.view_numbers.Reads as view-numbers-reads
-use Rattle.faults.proofs.finding.is_found.Reads as is-found-reads
-use Rattle.faults.proofs.order.order_fault.Reads as order-fault-reads
-use Rattle.faults.proofs.order.order_rows.Reads as order-rows-reads
-use Rattle.faults.proofs.order.past_count.Reads as past-count-reads
-use Rattle.faults.proofs.order.processes_of.Reads as processes-of-reads
-use Rattle.faults.proofs.replayed.replay_fault.Reads as replay-fault-reads
-use Rattle.faults.proofs.viewed.strict_count.Reads as strict-count-reads
-use Rattle.faults.proofs.viewed.view_fault.Reads as view-fault-reads
-use Rattle.orders.proofs.listed.program_rows.Reads as program-rows-reads
 use Prim.Native.Nat.{ℕ, ◌≤◌}
 use native.Mathlib.Omega.{arith}
 use mathlib.Core.Path.{◌≡◌, sym, ap, ap₂, ◌∙◌}

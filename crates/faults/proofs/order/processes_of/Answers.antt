@@ -1,6 +1,6 @@
 -- `processes_of` meets its contract: the first i elements are made. Assumes nothing.
 use native.Mathlib.Omega.{arith}
-use Prim.Native.Nat.{◌<◌, ◌-◌}
+use Prim.Native.Nat.{◌<◌}
 use mathlib.Core.Path.{◌≡◌, refl, ap, ◌∙◌}
 use lib.ListN.{get_or, length-set}
 use Rattle.history.specs.declared.record.Event.{Event}

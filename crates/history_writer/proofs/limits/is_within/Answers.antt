@@ -1,6 +1,6 @@
 -- `is_within` meets its contract. Assumes nothing.
-use mathlib.Core.Path.{◌≡◌, sym, ◌∙◌}
-use lib.ListN.{length, length-map}
+use mathlib.Core.Path.{◌≡◌, sym}
+use lib.ListN.{length}
 use Rattle.history_writer.proofs.LimitLaws.{objects-many, events-many, within-is}
 use Rattle.history_writer.proofs.limits.is_within.Goals as goal
 

@@ -1,7 +1,6 @@
 -- `line_len` meets its contract: the bytes counted and those of the fields left are all bytes of the line. Assumes nothing.
 use native.Mathlib.Omega.{arith}
 use borrow.Author.Rules.{rules}
-use Prim.Native.Nat.{◌-◌}
 use mathlib.Core.Path.{◌≡◌, ap}
 use lib.ListN.{length}
 use Rattle.history_writer.specs.declared.line.Field.TheVariants.{Dash}

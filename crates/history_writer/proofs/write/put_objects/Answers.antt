@@ -1,6 +1,5 @@
 -- `put_objects` meets its contract: the lines left, written behind what is there, complete the text. Assumes nothing.
 use native.Mathlib.Omega.{arith}
-use Prim.Native.Nat.{◌-◌}
 use mathlib.Core.Path.{◌≡◌}
 use lib.ListN.{length}
 use Rattle.layout.proofs.FillLaws.{writing_begins, writing-from, writing-ends}

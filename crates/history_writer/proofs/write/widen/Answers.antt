@@ -1,7 +1,6 @@
 -- `widen` meets its contract: the items so far are the values. Assumes nothing.
 use native.Mathlib.Omega.{arith}
 use borrow.Author.Rules.{rules}
-use Prim.Native.Nat.{◌-◌}
 use mathlib.Core.Path.{◌≡◌, sym, ap, ◌∙◌}
 use lib.ListN.{take, get_or, length-set}
 use lib.Seq.{length-take-le, take_all}

@@ -2,7 +2,6 @@
 -- Assumes nothing.
 use native.Mathlib.Omega.{arith}
 use borrow.Author.Rules.{rules}
-use Prim.Native.Nat.{◌-◌}
 use mathlib.Core.Path.{refl, sym, ap}
 use lib.ListN.{length}
 use Rattle.layout.proofs.ListTextLaws.{list-empty, tail-long, tail-end, tail-list}

@@ -1,7 +1,6 @@
 -- `put_tail` meets its contract: the text of the items left, written behind what is there, completes the whole. Assumes nothing.
 use native.Mathlib.Omega.{arith}
 use borrow.Author.Rules.{rules}
-use Prim.Native.Nat.{◌-◌}
 use mathlib.Core.List.{◌∷◌}
 use lib.ListN.{get_or}
 use Rattle.layout.specs.Number.{spell}

@@ -1,7 +1,6 @@
 -- `read_items` meets its contract: the answer and the places for all items are those for the items that are left, from the
 -- answer and the places so far. Assumes nothing.
 use borrow.Author.Rules.{rules}
-use Prim.Native.Nat.{◌-◌}
 use mathlib.Core.Path.{refl, sym, ap, ◌∙◌}
 use lib.ListN.{length}
 use Rattle.layout.specs.Split.{split}

@@ -1,5 +1,4 @@
 -- `find_from` meets its contract: what is left to find lies in the rest of the slice. Assumes nothing.
-use Prim.Native.Nat.{◌-◌}
 use native.Mathlib.Omega.{arith}
 use borrow.Author.Rules.{rules}
 use Rattle.layout.proofs.SplitLaws.{find-here, find-next, find-end}

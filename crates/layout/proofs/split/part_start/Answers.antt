@@ -1,6 +1,5 @@
 -- `part_start` meets its contract: the part with the number k is that with the number `left` of the rest. Assumes nothing.
 use native.Mathlib.Omega.{arith}
-use Prim.Native.Nat.{◌-◌}
 use mathlib.Core.Path.{◌≡◌, refl, sym, ◌∙◌}
 use lib.ListN.{drop}
 use Rattle.layout.proofs.SplitLaws.{part-next, part_none, part_end, start_first, start-next, start_none}

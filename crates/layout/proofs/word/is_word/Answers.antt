@@ -1,7 +1,6 @@
 -- `is_word` meets its contract: the whole is the same exactly when the rest is. Assumes nothing.
 use native.Mathlib.Omega.{arith}
 use borrow.Author.Rules.{rules}
-use Prim.Native.Nat.{◌-◌}
 use mathlib.Core.Path.{refl, sym, ap, ◌∙◌}
 use lib.ListN.{length}
 use Rattle.layout.proofs.WordLaws.{same_false, same_here, same_next, same_end}

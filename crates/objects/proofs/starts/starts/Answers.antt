@@ -1,6 +1,6 @@
 -- `starts` meets its contract: the first i states are those of the first i objects. Assumes nothing.
 use native.Mathlib.Omega.{arith}
-use Prim.Native.Nat.{◌<◌, ◌-◌}
+use Prim.Native.Nat.{◌<◌}
 use mathlib.Core.Path.{refl, ◌∙◌}
 use lib.ListN.{length-set}
 use Rattle.objects.proofs.StartLaws.{starts_more}

@@ -1,6 +1,5 @@
 -- `count_of` meets its contract: so far it is the count of the first e. Assumes nothing.
 use native.Mathlib.Omega.{arith}
-use Prim.Native.Nat.{◌-◌}
 use mathlib.Core.Path.{◌≡◌, refl, ap, ◌∙◌}
 use Rattle.criteria.specs.Tests.{one}
 use Rattle.orders.specs.Rows.{in_row}

@@ -1,7 +1,7 @@
 -- `with_place` meets its contract: the line so far has the events of the places below m, and those of the first e events that are at m.
 -- Assumes nothing.
 use native.Mathlib.Omega.{arith}
-use Prim.Native.Nat.{ℕ, ◌<◌, ◌-◌}
+use Prim.Native.Nat.{ℕ, ◌<◌}
 use mathlib.Core.Path.{ap, ◌∙◌}
 use lib.ListN.{length, get_or}
 use Rattle.history.specs.Record.{pad}

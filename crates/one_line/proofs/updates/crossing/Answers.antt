@@ -1,6 +1,5 @@
 -- `crossing` meets its contract: what was found is what is true of the first a events. Assumes nothing.
 use native.Mathlib.Omega.{arith}
-use Prim.Native.Nat.{◌-◌}
 use mathlib.Core.Path.{refl, ap, ◌∙◌}
 use mathlib.Core.Bool.{Bool, ◌||◌}
 use Rattle.orders.proofs.RowLaws.{any-turn, any-end}

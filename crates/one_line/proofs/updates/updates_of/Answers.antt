@@ -1,6 +1,6 @@
 -- `updates_of` meets its contract: the row so far is that of the first i events. Assumes nothing.
 use native.Mathlib.Omega.{arith}
-use Prim.Native.Nat.{◌<◌, ◌-◌}
+use Prim.Native.Nat.{◌<◌}
 use mathlib.Core.Path.{◌≡◌, ap}
 use Rattle.history.specs.declared.record.Event.{Event}
 use Rattle.history.specs.Record.{no_event}

@@ -1,6 +1,6 @@
 -- `past_rows` meets its contract: the rows so far are the order of the first i pasts. Assumes nothing.
 use native.Mathlib.Omega.{arith}
-use Prim.Native.Nat.{◌<◌, ◌-◌}
+use Prim.Native.Nat.{◌<◌}
 use mathlib.Core.Path.{◌≡◌, ap, ◌∙◌}
 use lib.ListN.{length, get_or, length-set}
 use Rattle.criteria.proofs.Loops.{any-default}

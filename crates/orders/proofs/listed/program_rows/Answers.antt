@@ -1,7 +1,7 @@
 -- `program_rows` meets its contract: the rows so far are those of the first i events, and each process has the row of its events so far.
 -- Assumes nothing.
 use native.Mathlib.Omega.{arith}
-use Prim.Native.Nat.{◌<◌, ◌-◌}
+use Prim.Native.Nat.{◌<◌}
 use mathlib.Core.Path.{◌≡◌, refl, ap, ◌∙◌}
 use lib.ListN.{length, length-set, get_or}
 use Rattle.orders.proofs.ProgramLaws.{earlier-begins, earlier_more, program-begins, program-more}

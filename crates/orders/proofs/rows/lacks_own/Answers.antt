@@ -1,7 +1,5 @@
 -- The lowest event whose row lacks what it must have: no row below does. Assumes nothing.
-use Prim.Native.Nat.{◌-◌}
 use mathlib.Core.Path.{sym, ◌∙◌}
-use mathlib.Core.Bool.{false}
 use native.Mathlib.Omega.{arith}
 use borrow.Author.Count.{below_none, below_more}
 use Rattle.orders.proofs.RowLaws.{lacks, found-at, found_nowhere}

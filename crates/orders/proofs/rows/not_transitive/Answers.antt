@@ -1,7 +1,5 @@
 -- The lowest event at which transitivity fails: it holds at all below. Assumes nothing.
-use Prim.Native.Nat.{◌-◌}
 use mathlib.Core.Path.{sym, ◌∙◌}
-use mathlib.Core.Bool.{false}
 use native.Mathlib.Omega.{arith}
 use borrow.Author.Count.{below_none, below_more}
 use Rattle.criteria.specs.Check.{lacks_past}

@@ -1,6 +1,5 @@
 -- The row of the first n events: it is that of the first i so far. Assumes nothing.
 use native.Mathlib.Omega.{arith}
-use Prim.Native.Nat.{◌-◌}
 use mathlib.Core.Path.{◌≡◌}
 use Rattle.orders.proofs.SearchLaws.{first-none, first_more}
 use borrow.Author.Rules.{rules}

@@ -1,8 +1,8 @@
 -- The lowest view that is not the past of its event and that event: every one below is. Assumes nothing.
 use native.Mathlib.Omega.{arith}
-use Prim.Native.Nat.{◌-◌, ◌≤◌, ◌<◌}
+use Prim.Native.Nat.{◌≤◌, ◌<◌}
 use mathlib.Core.Path.{◌≡◌, sym, ◌∙◌}
-use mathlib.Core.Bool.{false, ◌||◌}
+use mathlib.Core.Bool.{◌||◌}
 use borrow.Author.Count.{below_none, below_more}
 use lib.ListN.{get_or}
 use lib.Dec.{eqb}

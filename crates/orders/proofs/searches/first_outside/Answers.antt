@@ -1,8 +1,7 @@
 -- The lowest view with an event outside the past before an own event: no view below has one. Assumes nothing.
 use native.Mathlib.Omega.{arith}
-use Prim.Native.Nat.{◌-◌, ◌≤◌, ◌<◌}
+use Prim.Native.Nat.{◌≤◌, ◌<◌}
 use mathlib.Core.Path.{sym, ◌∙◌}
-use mathlib.Core.Bool.{false}
 use borrow.Author.Count.{below_none, below_more}
 use lib.ListN.{get_or}
 use Rattle.orders.proofs.SearchLaws.{outside}

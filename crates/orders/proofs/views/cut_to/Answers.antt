@@ -1,6 +1,6 @@
 -- `cut_to` meets its contract: the events so far are those of the first i entries that are kept. Assumes nothing.
 use native.Mathlib.Omega.{arith}
-use Prim.Native.Nat.{ℕ, ◌≤◌, ◌<◌, ◌-◌, ◌+◌}
+use Prim.Native.Nat.{ℕ, ◌≤◌, ◌<◌, ◌+◌}
 use mathlib.Core.Path.{◌≡◌, refl, ap, ◌∙◌}
 use lib.ListN.{take, get_or, set, length-set}
 use Rattle.criteria.specs.Tests.{one}

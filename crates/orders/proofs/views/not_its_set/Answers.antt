@@ -1,10 +1,9 @@
 -- A view and its set: the whole is judged as the entries that are left are, against what is not marked off. Assumes nothing.
-use Prim.Native.Nat.{◌-◌, ◌≤◌, ◌<◌}
+use Prim.Native.Nat.{◌≤◌, ◌<◌}
 use mathlib.Core.Path.{◌≡◌, refl, sym, ◌∙◌}
 use native.Mathlib.Omega.{arith}
 use borrow.Author.Tests.{not-true, not-false}
 use lib.ListN.{length, get_or}
-use Rattle.orders.specs.Rows.{in_row}
 use Rattle.orders.proofs.ViewLaws.{set-turn-stops, set-turn-on, set-over}
 use Rattle.orders.proofs.views.not_its_set.Goals as goal
 

@@ -1,5 +1,5 @@
 -- Only e is of the process: no entry passed is of it and another event. Assumes nothing.
-use Prim.Native.Nat.{◌-◌, ◌<◌}
+use Prim.Native.Nat.{◌<◌}
 use native.Mathlib.Omega.{arith}
 use mathlib.Core.Bool.{false≢true}
 use lib.ListN.{get_or}

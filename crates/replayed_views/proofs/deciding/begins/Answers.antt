@@ -1,7 +1,5 @@
 -- Two views begin alike: while nothing was bad, the entries so far are equal. Assumes nothing.
-use Prim.Native.Nat.{◌-◌}
 use native.Mathlib.Omega.{arith}
-use mathlib.Core.Bool.{false}
 use borrow.Author.Count.{below_more}
 use borrow.Author.Tests.{not-true, not-false, eqb-true}
 use Rattle.criteria.proofs.Lists.{or-false}

@@ -1,9 +1,7 @@
 -- Two answers: what is left to compare says the same as the whole. Assumes nothing.
-use Prim.Native.Nat.{◌-◌}
 use mathlib.Core.Path.{◌≡◌, sym, ◌∙◌}
 use native.Mathlib.Omega.{arith}
 use lib.ListN.{length}
-use Rattle.objects.proofs.StateLaws.{plain}
 use Rattle.replays.proofs.ReplayLaws.{same-counts, same-starts, same_differs, same-agrees, same_ends}
 use Rattle.replays.proofs.replay.same_values.Goals as goal
 

@@ -1,6 +1,6 @@
 -- `visible_views` meets its contract: the first k are made. Assumes nothing.
 use native.Mathlib.Omega.{arith}
-use Prim.Native.Nat.{◌<◌, ◌-◌}
+use Prim.Native.Nat.{◌<◌}
 use mathlib.Core.Path.{refl, ◌∙◌}
 use lib.ListN.{length-set}
 use Rattle.replays.specs.Visible.{no_visible}

@@ -1,6 +1,6 @@
 -- `all_events` meets its contract: the numbers below e are in the array. Assumes nothing.
 use native.Mathlib.Omega.{arith}
-use Prim.Native.Nat.{ℕ, ◌<◌, ◌-◌}
+use Prim.Native.Nat.{ℕ, ◌<◌}
 use mathlib.Core.Path.{◌≡◌, ap, sym, ◌∙◌}
 use Rattle.history.specs.Record.{pad}
 use Rattle.history.proofs.PadLaws.{pad-none}

@@ -1,6 +1,6 @@
 -- `list_of` meets its contract: the first i events are in the array, with zeros behind them. Assumes nothing.
 use native.Mathlib.Omega.{arith}
-use Prim.Native.Nat.{ℕ, ◌<◌, ◌-◌}
+use Prim.Native.Nat.{ℕ, ◌<◌}
 use mathlib.Core.Path.{◌≡◌, ap, ◌∙◌}
 use lib.ListN.{take}
 use Rattle.history.specs.Record.{pad}

@@ -1,6 +1,6 @@
 -- `place_of` meets its contract: the event does not stand before place i. Assumes nothing.
 use native.Mathlib.Omega.{arith}
-use Prim.Native.Nat.{◌<◌, ◌-◌}
+use Prim.Native.Nat.{◌<◌}
 use mathlib.Core.Path.{◌≡◌, refl, sym, ◌∙◌}
 use Rattle.weakened.proofs.ListLaws.{place-on, place_here, place-nowhere}
 use borrow.Author.Rules.{rules}

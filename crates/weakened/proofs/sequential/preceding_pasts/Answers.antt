@@ -1,6 +1,6 @@
 -- `preceding_pasts` meets its contract: the pasts of the first e events are in the array. Assumes nothing.
 use native.Mathlib.Omega.{arith}
-use Prim.Native.Nat.{◌<◌, ◌-◌}
+use Prim.Native.Nat.{◌<◌}
 use mathlib.Core.Path.{◌≡◌}
 use lib.ListN.{take}
 use Rattle.weakened.proofs.SequentialLaws.{past_of, pasts-none, pasts-more, pasts-done}

@@ -1,6 +1,6 @@
 -- `up_to_views` meets its contract: the views of the first e events are made. Assumes nothing.
 use native.Mathlib.Omega.{arith}
-use Prim.Native.Nat.{◌<◌, ◌-◌}
+use Prim.Native.Nat.{◌<◌}
 use mathlib.Core.Path.{◌≡◌}
 use lib.ListN.{take}
 use Rattle.criteria.specs.Weaken.{up_to_in}

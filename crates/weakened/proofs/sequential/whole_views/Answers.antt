@@ -1,6 +1,6 @@
 -- `whole_views` meets its contract: the first k views are made, each the whole order. Assumes nothing.
 use native.Mathlib.Omega.{arith}
-use Prim.Native.Nat.{◌<◌, ◌-◌}
+use Prim.Native.Nat.{◌<◌}
 use mathlib.Core.Path.{◌≡◌, sym, ap, ◌∙◌}
 use lib.ListN.{length, take}
 use Rattle.certificate.specs.Record.{event_list_of, entries_in}

@@ -1,6 +1,6 @@
 -- `own_parts` meets its contract: the views of the first e events are made. Assumes nothing.
 use native.Mathlib.Omega.{arith}
-use Prim.Native.Nat.{ℕ, ◌<◌, ◌-◌}
+use Prim.Native.Nat.{ℕ, ◌<◌}
 use mathlib.Core.Path.{◌≡◌, refl, ap, ◌∙◌}
 use lib.ListN.{length-set}
 use Rattle.certificate.specs.Record.{event_list_of}

@@ -1,6 +1,6 @@
 -- The value at the end that the kind says, if there is one. Assumes nothing.
 use native.Mathlib.Omega.{arith}
-use Rattle.objects.proofs.StateLaws.{plain, shows-none, shows-newest, shows-oldest}
+use Rattle.objects.proofs.StateLaws.{shows-none, shows-newest, shows-oldest}
 use Rattle.objects.proofs.state.State.ended.Goals as goal
 
 pub returns-then-oldest-end : goal.returns-then-oldest-end

@@ -1,6 +1,6 @@
 -- A pop takes away the value at the end that the kind says, if there is one. Assumes nothing.
 use native.Mathlib.Omega.{arith}
-use Rattle.objects.proofs.StateLaws.{plain, pop-none, pop-newest, pop-oldest}
+use Rattle.objects.proofs.StateLaws.{pop-none, pop-newest, pop-oldest}
 use Rattle.objects.proofs.state.State.popped.Goals as goal
 
 pub returns-then-oldest-end : goal.returns-then-oldest-end

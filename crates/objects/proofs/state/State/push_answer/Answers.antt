@@ -1,7 +1,7 @@
 -- A push answers its value where the object holds as many as it can. Assumes nothing.
 use mathlib.Core.Path.{sym, ◌∙◌}
 use mathlib.Core.Bool.{true, false}
-use Rattle.objects.proofs.StateLaws.{plain, push-answers}
+use Rattle.objects.proofs.StateLaws.{push-answers}
 use Rattle.objects.proofs.state.State.push_answer.Goals as goal
 
 pub returns-then-is_full : goal.returns-then-is_full

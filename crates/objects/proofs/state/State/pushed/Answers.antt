@@ -1,6 +1,6 @@
 -- A push puts the number behind the newest, unless the object holds as many as it can. Assumes nothing.
 use mathlib.Core.Path.{sym, ◌∙◌}
-use Rattle.objects.proofs.StateLaws.{plain, push-full, push-changes}
+use Rattle.objects.proofs.StateLaws.{push-full, push-changes}
 use Rattle.objects.proofs.state.State.pushed.Goals as goal
 
 pub returns-then-is_full : goal.returns-then-is_full

@@ -1,9 +1,8 @@
 -- A read copies the first eight numbers. Assumes nothing.
-use Prim.Native.Nat.{◌-◌}
 use mathlib.Core.Path.{◌≡◌, ◌∙◌}
 use native.Mathlib.Omega.{arith}
 use lib.ListN.{length-set}
-use Rattle.objects.proofs.StateLaws.{plain, copied-turn, read-answers}
+use Rattle.objects.proofs.StateLaws.{copied-turn, read-answers}
 use Rattle.objects.proofs.state.State.read.Goals as goal
 
 pub loop-i-preserved : goal.loop-i-preserved

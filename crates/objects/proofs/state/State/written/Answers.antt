@@ -3,7 +3,7 @@ use Prim.Native.Nat.{◌-◌}
 use native.Mathlib.Omega.{arith}
 use mathlib.Core.Path.{sym, ◌∙◌}
 use borrow.Author.Tests.{leb-true}
-use Rattle.objects.proofs.StateLaws.{plain, write-drops, write-adds}
+use Rattle.objects.proofs.StateLaws.{write-drops, write-adds}
 use Rattle.objects.proofs.state.State.written.Goals as goal
 
 pub overflow_sub-s : goal.overflow_sub-s
