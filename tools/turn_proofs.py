@@ -160,11 +160,15 @@ def turn_body(fn, place, var, body, todo):
     out = ""
     i = 0
     path_re = re.compile(r"(?<![\w.'₀-])(" + NAME + r")((?:\.(?:[\w₀']|-(?=[\w]))+)*)")
-    let_re = re.compile(r"let (" + NAME + r") = (" + NAME + r")((?:\.[\w₀'-]+)+) in\s*")
+    let_re = re.compile(r"let (" + NAME + r") = (" + NAME + r")((?:\.[\w₀'-]+)*) in\s*")
     while i < len(body):
         m = let_re.match(body, i) if body.startswith("let ", i) and (i == 0 or not re.match(r"[\w.'-]", body[i - 1])) else None
         if m and m.group(2) in alias:
-            name, root, path = m.group(1), m.group(2), m.group(3)[1:].split(".")
+            name, root, path = m.group(1), m.group(2), [p for p in m.group(3).split(".") if p]
+            if not path:
+                alias[name] = alias[root]
+                i = m.end()
+                continue
             kind = alias[root]
             full = (list(kind[2]) if kind[0] == "old" else []) + path
             at = kind[1]
@@ -260,6 +264,8 @@ def with_helpers(fn, row, answers, rows):
             bad = place not in asked
             bad = bad or any(uses_of(name, a[5]) and a[2] != place for a in answers)
             bad = bad or any(uses_of(name, r[3] + r[6]) and (r[1] != place or r[0] in inline) for r in rows)
+            own = next(r[3] + r[6] for r in rows if r[0] == name)
+            bad = bad or any(uses_of(n, own) for n in inline)
             if bad:
                 inline.add(name)
                 grew = True
@@ -298,7 +304,8 @@ def with_helpers(fn, row, answers, rows):
 
 def step_out(name, text):
     """Text without a function that only steps up to an earlier place."""
-    return re.sub(r"\(" + re.escape(name) + r" ([\w.]+|\([^()]*\))\)", lambda m: m.group(1).strip("()"), text)
+    text = re.sub(r"\(" + re.escape(name) + r" ([\w.]+|\([^()]*\))\)", lambda m: m.group(1).strip("()"), text)
+    return re.sub(r"(?<![\w.'-])" + re.escape(name) + r" ([\w.]+|\([^()]*\))", lambda m: m.group(1).strip("()"), text)
 
 
 def turn(folder, row, path):
@@ -306,7 +313,7 @@ def turn(folder, row, path):
     text = open(f"{path}/Proof.antt", encoding="utf-8").read()
     head, uses, blocks = split_items(text)
     todo, invs, answers, helpers, placed_rows = [], [], [], [], []
-    steps = {}
+    steps, goals = {}, {}
     dropped = 0
     first_inv = []
     for b in blocks:
@@ -366,6 +373,7 @@ def turn(folder, row, path):
             body = turn_body(fn, old_at, ps[0] if ps else "c", body, todo)
             more = "".join(" " + p for p in ps[1:])
             answers.append([comment, new, old_at, mm.group(1), more, body])
+            goals[name] = new
             continue
         whole = "\n".join(lines)
         loops = r"(?:\s+invariant-\S+?|\s+decreases-\S+?)*"
@@ -390,6 +398,9 @@ def turn(folder, row, path):
             todo.append("tie in a helper")
         helpers.append(("PLAIN", b))
     plain = [h[1] if isinstance(h, tuple) else h for h in helpers]
+    for a in answers:
+        for old, new in goals.items():
+            a[5] = re.sub(r"(?<![\w.'-])" + re.escape(old) + r" c(?![\w.'-])", f"{new} c", a[5])
     answers, placed = with_helpers(fn, row, answers, placed_rows)
     keep = [u for u in uses if not re.search(r"\.(Statement|Tie|Need\w*)\b", u)]
     mod = folder.replace("/", ".")

@@ -154,7 +154,7 @@ events-kept os es line at [] k = tt
 events-kept os es line at (p ∷ []) k = by_bool (eqb (length p) 0) (λ z. rw z (all-kept os es k)) (λ z. rw z tt)
 events-kept os es line at (p ∷ q ∷ ps) k =
     by_bool (eqb (event_line_before (length es) os p).fault 0)
-    (λ z. rw z (events-kept os _ (line + 1) (at + length p + 1) (q ∷ ps) (kept_more es _ k (line_kept (length es) os p))))
+    (λ z. rw z (events-kept os (es ++ (event_line_before (length es) os p).event ∷ []) (line + 1) (at + length p + 1) (q ∷ ps) (kept_more es _ k (line_kept (length es) os p))))
     (λ z. rw z tt)
 
 objects-kept : (os : List Object) (line at : ℕ) (ps : List (List ℕ)) → Kept (events_in (objects_from_before os line at ps).history)

@@ -10,7 +10,7 @@ use Rattle.certificate_writer.proofs.limits.blank_rows.Goals as goal
 
 pub loop-i-init : goal.loop-i-init
 loop-i-init c =
-    (search rules, c.all-1.given.0, refl)
+    (search rules, c.all-1.given, refl)
 
 pub returns-then-not-blank_row : goal.returns-then-not-blank_row
 returns-then-not-blank_row c =

@@ -11,7 +11,7 @@ use Rattle.certificate_writer.proofs.limits.good_rows.Goals as goal
 pub loop-i-init : goal.loop-i-init
 loop-i-init c =
     let l : length c.args.lengths ≡ 64 = search rules in
-    (omega (arith, c.requires.0), omega (arith, c.requires.0, c.all-1.given.0), refl)
+    (omega (arith, c.requires.0), omega (arith, c.requires.0, c.all-1.given), refl)
 
 pub returns-then-not-good_row : goal.returns-then-not-good_row
 returns-then-not-good_row c =

@@ -14,7 +14,7 @@ pub loop-i-init : goal.loop-i-init
 loop-i-init c =
     let k : length c.args.numbers ≡ 64 = search rules in
     let l : length c.args.lengths ≡ 64 = search rules in
-    (search rules, omega (arith, c.requires.0), omega (arith, c.requires.0), omega (arith, c.requires.0, c.all-1.given.0), writing_begins _ _ c.requires.2)
+    (search rules, omega (arith, c.requires.0), omega (arith, c.requires.0), omega (arith, c.requires.0, c.all-1.given), writing_begins _ _ c.requires.2)
 
 pub slice_bounds-put_list_line-count : goal.slice_bounds-put_list_line-count
 slice_bounds-put_list_line-count c = omega (arith, writing-from c.loop-i.invariant.4)

@@ -11,7 +11,7 @@ pub loop-i-init : goal.loop-i-init
 loop-i-init c =
     let k : length c.args.numbers ≡ 64 = search rules in
     let l : length c.args.lengths ≡ 64 = search rules in
-    (search rules, omega (arith, c.requires.0), omega (arith, c.requires.0), omega (arith, c.requires.0, c.all-1.given.0), omega arith, omega arith)
+    (search rules, omega (arith, c.requires.0), omega (arith, c.requires.0), omega (arith, c.requires.0, c.all-1.given), omega arith, omega arith)
 
 pub list_line_len-total-requires : goal.list_line_len-total-requires
 list_line_len-total-requires c =

@@ -6,12 +6,6 @@ use Rattle.certificate_reader.proofs.TwoTextLaws.{PlacedIn}
 use Rattle.checker.proofs.VerdictLaws.{answer-placed, carried-part, carried_none}
 use Rattle.checker.proofs.check.carried_line.Goals as goal
 
-in-history : (c : goal.In-HistoryText) → c.check-r.result.place.end ≤ length c.args.history.now
-in-history c = rw c.in-HistoryText.is at (placed c).to
-
-in-certificate : (c : goal.In-CertificateText) → c.check-r.result.place.end ≤ length c.args.text.now
-in-certificate c = rw c.in-CertificateText.is at (placed c).to
-
 pub slice_bounds-result-count-in-HistoryText : goal.slice_bounds-result-count-in-HistoryText
 slice_bounds-result-count-in-HistoryText c =
     let placed : PlacedIn c.args.history.now c.args.text.now c.check-r.result.place = answer-placed c.args.history.now c.args.text.now c.check-r.result c.check-r.ensures in
@@ -23,7 +17,10 @@ slice_bounds-result-start-in-HistoryText c =
     (placed).from
 
 pub slice_bounds-result-end-in-HistoryText : goal.slice_bounds-result-end-in-HistoryText
-slice_bounds-result-end-in-HistoryText c = in-history c
+slice_bounds-result-end-in-HistoryText c =
+    let placed : PlacedIn c.args.history.now c.args.text.now c.check-r.result.place = answer-placed c.args.history.now c.args.text.now c.check-r.result c.check-r.ensures in
+    let in-history : c.check-r.result.place.end ≤ length c.args.history.now = rw c.in-HistoryText.is at (placed).to in
+    in-history
 
 pub slice_bounds-result-count-in-CertificateText : goal.slice_bounds-result-count-in-CertificateText
 slice_bounds-result-count-in-CertificateText c =
@@ -36,7 +33,10 @@ slice_bounds-result-start-in-CertificateText c =
     (placed).from
 
 pub slice_bounds-result-end-in-CertificateText : goal.slice_bounds-result-end-in-CertificateText
-slice_bounds-result-end-in-CertificateText c = in-certificate c
+slice_bounds-result-end-in-CertificateText c =
+    let placed : PlacedIn c.args.history.now c.args.text.now c.check-r.result.place = answer-placed c.args.history.now c.args.text.now c.check-r.result c.check-r.ensures in
+    let in-certificate : c.check-r.result.place.end ≤ length c.args.text.now = rw c.in-CertificateText.is at (placed).to in
+    in-certificate
 
 pub returns-in-Neither : goal.returns-in-Neither
 returns-in-Neither c =

@@ -67,20 +67,18 @@ returns-then-is_found c =
     let order-found : finding_of c.order_fault-a.result
     ≡ order_fault c.order_rows-rows.result c.program_rows-program.result (cond (has_pasts c.args.c.criterion) c.args.h.count 0) = c.order_fault-a.ensures
     ∙ ap (order_fault c.order_rows-rows.result c.program_rows-program.result) c.past_count-among.ensures in
-    let s = begin c in
-    order-answers s.args.h s.pre.0 s.args.c s.args.views.now s.pre.1 (few-views)
+    order-answers c.args.h c.requires.0 c.args.c c.args.views.now c.requires.1 (few-views)
     c.program_rows-program.result c.order_rows-rows.result (is-program) c.order_rows-rows.ensures
     c.view_numbers-viewed.result c.view_numbers-viewed.ensures.0 c.processes_of-processes.result c.processes_of-processes.ensures
     (finding_of c.order_fault-a.result) (order-found) (search rules)
 
 pub view_fault-b-requires : goal.view_fault-b-requires
 view_fault-b-requires c =
-    let few-views : length (view_numbers c.args.c.criterion (events_in c.args.h)) ≤ 64 = omega (arith, number-count c.view_numbers-viewed.result _ c.view_numbers-viewed.ensures.0, c.view_numbers-viewed.ensures.1) in
-    let s = begin c in (
+    let few-views : length (view_numbers c.args.c.criterion (events_in c.args.h)) ≤ 64 = omega (arith, number-count c.view_numbers-viewed.result _ c.view_numbers-viewed.ensures.0, c.view_numbers-viewed.ensures.1) in (
       c.view_numbers-viewed.ensures.1,
-      few-of s.args.h s.pre.0,
-      short-views s.args.h s.pre.0 s.args.c s.args.views.now s.pre.1 (few-views) c.view_numbers-viewed.result.count c.view_numbers-viewed.ensures.1,
-      omega (arith, c.strict_count-strict.ensures, no-more-views (is_strict s.args.c.criterion) c.view_numbers-viewed.result.count),
+      few-of c.args.h c.requires.0,
+      short-views c.args.h c.requires.0 c.args.c c.args.views.now c.requires.1 (few-views) c.view_numbers-viewed.result.count c.view_numbers-viewed.ensures.1,
+      omega (arith, c.strict_count-strict.ensures, no-more-views (is_strict c.args.c.criterion) c.view_numbers-viewed.result.count),
     )
 
 pub returns-then-is_found-2 : goal.returns-then-is_found-2
@@ -92,29 +90,24 @@ returns-then-is_found-2 c =
     ∙ ap (order_fault c.order_rows-rows.result c.program_rows-program.result) c.past_count-among.ensures in
     let none_found : is_found (finding_of c.order_fault-a.result) ≡ false = search rules in
     let view-found : finding_of c.view_fault-b.result
-    ≡ view_fault (event_each ordered c.args.c.criterion) ordered c.args.views.now ordered c.args.c.lengths
+    ≡ view_fault (event_each c.args.c.criterion) c.args.views.now c.args.c.lengths
     c.view_numbers-viewed.result.numbers c.order_rows-rows.result
     c.processes_of-processes.result c.view_numbers-viewed.result.count
-    (cond (is_strict ordered c.args.c.criterion) c.view_numbers-viewed.result.count 0) ordered c.args.h.count = c.view_fault-b.ensures
-    ∙ ap₂ (λ (b : Bool) (n : ℕ). view_fault b ordered c.args.views.now ordered c.args.c.lengths c.view_numbers-viewed.result.numbers c.order_rows-rows.result c.processes_of-processes.result c.view_numbers-viewed.result.count n ordered c.args.h.count)
+    (cond (is_strict c.args.c.criterion) c.view_numbers-viewed.result.count 0) c.args.h.count = c.view_fault-b.ensures
+    ∙ ap₂ (λ (b : Bool) (n : ℕ). view_fault b c.args.views.now c.args.c.lengths c.view_numbers-viewed.result.numbers c.order_rows-rows.result c.processes_of-processes.result c.view_numbers-viewed.result.count n c.args.h.count)
     c.event_each-each.ensures c.strict_count-strict.ensures in
-    let o = ordered c in
-    let s = begin o in
-    let r = o.before.before.before.before in
-    let v = r.before.before.before.before in
-    view-answers s.args.h s.pre.0 s.args.c s.args.views.now s.pre.1 (few-views v)
-    r.before.program-rows.result r.order-rows.result (is-program r.before) r.order-rows.ensures
-    v.view-numbers.result v.view-numbers.ensures.0 r.before.before.processes-of.result r.before.before.processes-of.ensures
-    (finding_of o.order-fault.result) (finding_of c.view_fault-b.result) (order-found o) (none_found) (view-found) (sym c.is_found-2.ensures ∙ c.if-is_found-2.true)
+    view-answers c.args.h c.requires.0 c.args.c c.args.views.now c.requires.1 (few-views)
+    c.program_rows-program.result c.order_rows-rows.result (is-program) c.order_rows-rows.ensures
+    c.view_numbers-viewed.result c.view_numbers-viewed.ensures.0 c.processes_of-processes.result c.processes_of-processes.ensures
+    (finding_of c.order_fault-a.result) (finding_of c.view_fault-b.result) (order-found) (none_found) (view-found) (sym c.is_found-2.ensures ∙ c.if-is_found-2.true)
 
 pub replay_fault-requires : goal.replay_fault-requires
 replay_fault-requires c =
-    let few-views : length (view_numbers c.args.c.criterion (events_in c.args.h)) ≤ 64 = omega (arith, number-count c.view_numbers-viewed.result _ c.view_numbers-viewed.ensures.0, c.view_numbers-viewed.ensures.1) in
-    let s = begin c in (
-      s.pre.0,
+    let few-views : length (view_numbers c.args.c.criterion (events_in c.args.h)) ≤ 64 = omega (arith, number-count c.view_numbers-viewed.result _ c.view_numbers-viewed.ensures.0, c.view_numbers-viewed.ensures.1) in (
+      c.requires.0,
       number-count c.view_numbers-viewed.result _ c.view_numbers-viewed.ensures.0,
       c.view_numbers-viewed.ensures.1,
-      event-views s.args.h s.pre.0 s.args.c s.args.views.now s.pre.1 (few-views) c.view_numbers-viewed.result.count c.view_numbers-viewed.ensures.1,
+      event-views c.args.h c.requires.0 c.args.c c.args.views.now c.requires.1 (few-views) c.view_numbers-viewed.result.count c.view_numbers-viewed.ensures.1,
       λ k l. number_at c.view_numbers-viewed.result _ c.view_numbers-viewed.ensures.0 k,
     )
 
@@ -127,18 +120,14 @@ returns c =
     ∙ ap (order_fault c.order_rows-rows.result c.program_rows-program.result) c.past_count-among.ensures in
     let none_found : is_found (finding_of c.order_fault-a.result) ≡ false = search rules in
     let view-found : finding_of c.view_fault-b.result
-    ≡ view_fault (event_each ordered c.args.c.criterion) ordered c.args.views.now ordered c.args.c.lengths
+    ≡ view_fault (event_each c.args.c.criterion) c.args.views.now c.args.c.lengths
     c.view_numbers-viewed.result.numbers c.order_rows-rows.result
     c.processes_of-processes.result c.view_numbers-viewed.result.count
-    (cond (is_strict ordered c.args.c.criterion) c.view_numbers-viewed.result.count 0) ordered c.args.h.count = c.view_fault-b.ensures
-    ∙ ap₂ (λ (b : Bool) (n : ℕ). view_fault b ordered c.args.views.now ordered c.args.c.lengths c.view_numbers-viewed.result.numbers c.order_rows-rows.result c.processes_of-processes.result c.view_numbers-viewed.result.count n ordered c.args.h.count)
+    (cond (is_strict c.args.c.criterion) c.view_numbers-viewed.result.count 0) c.args.h.count = c.view_fault-b.ensures
+    ∙ ap₂ (λ (b : Bool) (n : ℕ). view_fault b c.args.views.now c.args.c.lengths c.view_numbers-viewed.result.numbers c.order_rows-rows.result c.processes_of-processes.result c.view_numbers-viewed.result.count n c.args.h.count)
     c.event_each-each.ensures c.strict_count-strict.ensures in
     let no-view : is_found (finding_of c.view_fault-b.result) ≡ false = search rules in
-    let o = ordered c in
-    let s = begin o in
-    let r = o.before.before.before.before in
-    let v = r.before.before.before.before in
-    replay-answers s.args.h s.pre.0 s.args.c s.args.views.now s.pre.1 (few-views v)
-    r.before.program-rows.result r.order-rows.result (is-program r.before) r.order-rows.ensures
-    v.view-numbers.result v.view-numbers.ensures.0 r.before.before.processes-of.result r.before.before.processes-of.ensures
-    (finding_of o.order-fault.result) (finding_of c.view_fault-b.result) (finding_of c.replay_fault.result) (order-found o) (none_found) (view-found) (no-view) c.replay_fault.ensures
+    replay-answers c.args.h c.requires.0 c.args.c c.args.views.now c.requires.1 (few-views)
+    c.program_rows-program.result c.order_rows-rows.result (is-program) c.order_rows-rows.ensures
+    c.view_numbers-viewed.result c.view_numbers-viewed.ensures.0 c.processes_of-processes.result c.processes_of-processes.ensures
+    (finding_of c.order_fault-a.result) (finding_of c.view_fault-b.result) (finding_of c.replay_fault.result) (order-found) (none_found) (view-found) (no-view) c.replay_fault.ensures

@@ -54,9 +54,7 @@ overflow_cast-n c =
     c.values_of-values.result c.counts_of-counts.result c.starts-begin.result
     (get_or c.args.views.now k []) (get_or c.args.lengths k 0) = view-ready (taken) c.args.c c.args.views.now c.args.lengths c.args.numbers c.args.m c.requires in
     let converges : is_converge c.args.c ≡ true = search rules in
-    let first-view : 0 < c.args.m = let s = begun c in
-    let a = s.args in
-    view-there (taken) a.c a.views.now a.t5 a.t6 a.m s.pre (converges) in
+    let first-view : 0 < c.args.m = view-there (taken) c.args.c c.args.views.now c.args.lengths c.args.numbers c.args.m c.requires (converges) in
     let h = (ready 0 (first-view)).short in omega (arith, h)
 
 pub first_wrong_cut-e-requires : goal.first_wrong_cut-e-requires
@@ -78,9 +76,7 @@ first_wrong_cut-e-requires c =
     c.values_of-values.result c.counts_of-counts.result c.starts-begin.result
     (get_or c.args.views.now k []) (get_or c.args.lengths k 0) = view-ready (taken) c.args.c c.args.views.now c.args.lengths c.args.numbers c.args.m c.requires in
     let converges : is_converge c.args.c ≡ true = search rules in
-    let first-view : 0 < c.args.m = let s = begun c in
-    let a = s.args in
-    view-there (taken) a.c a.views.now a.t5 a.t6 a.m s.pre (converges) in
+    let first-view : 0 < c.args.m = view-there (taken) c.args.c c.args.views.now c.args.lengths c.args.numbers c.args.m c.requires (converges) in
     ready 0 (first-view)
 
 pub returns-then-e-lt64 : goal.returns-then-e-lt64

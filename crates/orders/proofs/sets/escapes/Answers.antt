@@ -7,5 +7,5 @@ use Rattle.orders.proofs.sets.escapes.Goals as goal
 
 pub returns : goal.returns
 returns c =
-    c.«holds-some».ensures
+    c.holds_some.ensures
     ∙ any_same 64 (in_row c.except-row.result) (λ g. in_row c.args.a g && not (in_row c.args.b g)) (λ g l. c.except-row.ensures g)

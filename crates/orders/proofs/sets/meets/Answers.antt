@@ -7,5 +7,5 @@ use Rattle.orders.proofs.sets.meets.Goals as goal
 
 pub returns : goal.returns
 returns c =
-    c.«holds-some».ensures
+    c.holds_some.ensures
     ∙ any_same 64 (in_row c.both-row.result) (λ g. in_row c.args.a g && in_row c.args.b g) (λ g l. c.both-row.ensures g)

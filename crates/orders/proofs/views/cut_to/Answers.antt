@@ -9,9 +9,6 @@ use Rattle.orders.proofs.CutLaws.{cut-more}
 use borrow.Author.Rules.{rules}
 use Rattle.orders.proofs.views.cut_to.Goals as goal
 
-below : (c : goal.In-loop-i) → get_or c.args.view c.loop-i.i 0 < 64
-below c = c.requires.1 c.loop-i.i (next-i c)
-
 -- one more, or none
 few : (c : goal.After-one_if-count) → c.one_if-count.result ≤ 1
 few c = c.one_if-count.ensures.1
@@ -20,7 +17,10 @@ pub loop-i-init : goal.loop-i-init
 loop-i-init c = (search rules, search rules, search rules, refl, refl)
 
 pub in_row-requires : goal.in_row-requires
-in_row-requires c = below c
+in_row-requires c =
+    let next-i : c.loop-i.i < c.args.n = search rules in
+    let below : get_or c.args.view c.loop-i.i 0 < 64 = c.requires.1 c.loop-i.i (next-i) in
+    below
 
 pub overflow_add-count : goal.overflow_add-count
 overflow_add-count c =

@@ -3,7 +3,6 @@ use Prim.Native.Nat.{ℕ, ◌-◌}
 use native.Mathlib.Omega.{arith}
 use mathlib.Core.Path.{◌≡◌, refl, sym, ap, ◌∙◌}
 use mathlib.Core.Bool.{Bool, ◌&&◌}
-use mathlib.Core.Logic.{⊎_elim}
 use lib.ListN.{length, get_or, length-set, get_or-replicate}
 use lib.Dec.{eqb}
 use borrow.Author.Tests.{lt-ltb, le-ltb}
@@ -12,6 +11,7 @@ use Rattle.orders.proofs.BitLaws.{none_in}
 use Rattle.replays.specs.Replay.{no_light}
 use Rattle.replayed_views.proofs.ObjectLaws.{rows_on, rows-still}
 use Rattle.replayed_views.proofs.object.object_rows.Goals as goal
+use Rattle.replayed_views.proofs.object.object_rows.Goals.{then-o-lt16, else-o-lt16}
 
 pub loop-e-init : goal.loop-e-init
 loop-e-init c = (
@@ -23,10 +23,12 @@ loop-e-init c = (
 pub loop-e-preserved : goal.loop-e-preserved
 loop-e-preserved c =
     let x = (get_or c.args.events c.loop-e.e no_light).object in
-    ⊎_elim
-    (λ w. (omega arith, ap length w.2 ∙ length-set c.loop-e.rows x _ ∙ c.loop-e.invariant.1, rw w.2 (rows_on c.args.events c.loop-e.rows c.loop-e.e c.loop-e.invariant.2 w.1.result (omega (arith, w.0.taken, c.loop-e.invariant.1)) w.1.ensures)))
-    (λ w. (omega arith, ap length w.1 ∙ c.loop-e.invariant.1, rw w.1 (rows-still c.args.events c.loop-e.rows c.loop-e.e c.loop-e.invariant.2 w.0.left)))
-    c.if-o-lt16.branch
+    elim c.if-o-lt16.branch [
+      | then-o-lt16 w ↦
+          (omega arith, ap length w.rows-is ∙ length-set c.loop-e.rows x _ ∙ c.loop-e.invariant.1, rw w.rows-is (rows_on c.args.events c.loop-e.rows c.loop-e.e c.loop-e.invariant.2 w.with_event.result (omega (arith, w.if-o-lt16.true, c.loop-e.invariant.1)) w.with_event.ensures))
+      | else-o-lt16 w ↦
+          (omega arith, ap length w.rows-is ∙ c.loop-e.invariant.1, rw w.rows-is (rows-still c.args.events c.loop-e.rows c.loop-e.e c.loop-e.invariant.2 w.if-o-lt16.false))
+    ]
 
 pub returns : goal.returns
 returns c =

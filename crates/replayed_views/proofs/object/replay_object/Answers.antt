@@ -4,7 +4,6 @@ use Prim.Native.Nat.{ℕ, ◌≤◌, ◌<◌, ◌-◌}
 use native.Mathlib.Omega.{arith}
 use mathlib.Core.Path.{◌≡◌, refl, sym, ◌∙◌}
 use mathlib.Core.Bool.{true, false}
-use mathlib.Core.Logic.{⊎_elim}
 use mathlib.Core.List.{List, []}
 use mathlib.Core.Option.{Option}
 use lib.ListN.{length, take, get_or}
@@ -23,19 +22,7 @@ use Rattle.replayed_views.specs.Steps.{ReadyKept}
 use Rattle.replays.proofs.ReplayLaws.{stands_on, judged-given, judged-seen, judged-unseen, found_some}
 use Rattle.replayed_views.proofs.ObjectLaws.{entry_in, whole_part, part-stops, part-on, part-ends}
 use Rattle.replayed_views.proofs.object.replay_object.Goals as goal
-
--- what an event makes of the object: a state that follows, and no wrong answer that is visible
-follows : (c : goal.Joined-no-e) → (s : State) × Changed c.loop-i.s (op c) (number c) s
-    × Judged false (eqb (number c) c.args.e.0) c.args.values.now (recorded c) c.loop-i.s (op c) (number c) false
-    × (c.if-no-e.s ≡ s)
-follows c =
-    ⊎_elim
-    (λ w.
-    let j = judged-given false c.args.values.now (recorded c) c.loop-i.s (op c) (number c) w.1.result.answer w.1.ensures.1 w.5.ensures in
-    (w.1.result.state, w.1.ensures.0, judged-seen false (eqb (number c) c.args.e.0) c.args.values.now (recorded c) c.loop-i.s (op c) (number c) (eq-eqb (number c) c.args.e.0 w.0.taken) j w.6.left, w.8))
-    (λ w.
-    (w.1.result, w.1.ensures, judged-unseen false (eqb (number c) c.args.e.0) c.args.values.now (recorded c) c.loop-i.s (op c) (number c) (ne_eqb (number c) c.args.e.0 w.0.left), w.2))
-    c.if-no-e.branch
+use Rattle.replayed_views.proofs.object.replay_object.Goals.{then-no-e+else-not-fits_given, else-no-e}
 
 pub loop-i-init : goal.loop-i-init
 loop-i-init c = (omega arith, λ os r. (r.start, refl))
@@ -119,13 +106,24 @@ loop-i-preserved c =
     let place : ℕ = (get_or c.args.events c.args.e.0 no_light).object in
     let number : ℕ = get_or c.args.part c.loop-i.i 0 in
     let op : Op = (get_or c.args.events (number) no_light).op in
+    let recorded : Option (List ℕ) = recorded_as (get_or c.args.counts.now (number) 0) (get_or c.args.answers.now (number) []) in
     let in-part : c.loop-i.i < c.args.m = omega (arith, c.loop-i-test.true) in
     let part-holds : c.args.m ≤ length c.args.part = let e : length c.args.part ≡ 64 = c.well_formed.1.1.1.1.1.1.1.0.1.0.1 in
     omega (arith, e, c.requires.short) in
     let has-op : (os : List Object)
     → ReadyKept os c.args.size c.args.events c.args.values.now c.args.counts.now c.args.start c.args.part c.args.m (λ f. mem f (take c.args.m c.args.part)) c.args.e.0
     → has_op (get_or os (place) no_object).kind (op) ≡ true = λ os r. rw (r.same (number) (r.event c.loop-i.i (in-part)) (entry_in c.args.part c.args.m c.loop-i.i (in-part) (part-holds))) at (r.parts.op (number) (r.event c.loop-i.i (in-part))) in
-    let f = follows c in (
+    let follows : (s : State) × Changed c.loop-i.s (op) (number) s
+    × Judged false (eqb (number) c.args.e.0) c.args.values.now (recorded) c.loop-i.s (op) (number) false
+    × (c.if-no-e.s ≡ s) =
+    elim c.if-no-e.branch [
+      | then-no-e+else-not-fits_given w ↦
+          let j = judged-given false c.args.values.now (recorded) c.loop-i.s (op) (number) w.step-step.result.answer w.step-step.ensures.1 w.fits_given.ensures in
+          (w.step-step.result.state, w.step-step.ensures.0, judged-seen false (eqb (number) c.args.e.0) c.args.values.now (recorded) c.loop-i.s (op) (number) (eq-eqb (number) c.args.e.0 w.if-no-e.true) j w.if-not-fits_given.false-raw, w.s-is)
+      | else-no-e w ↦
+          (w.changed-s.result, w.changed-s.ensures, judged-unseen false (eqb (number) c.args.e.0) c.args.values.now (recorded) c.loop-i.s (op) (number) (ne_eqb (number) c.args.e.0 w.if-no-e.false), w.s-is)
+    ] in
+    let f = follows in (
       omega (arith, in-part),
       λ os r.
           let st = (c.loop-i.invariant.1 os r).0 in

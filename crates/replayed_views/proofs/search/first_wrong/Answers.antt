@@ -4,7 +4,6 @@ use native.Mathlib.Omega.{arith}
 use Prim.Native.Nat.{ℕ, ◌≤◌, ◌<◌, ◌-◌}
 use mathlib.Core.Path.{◌≡◌, sym, ap, ◌∙◌}
 use mathlib.Core.Bool.{true, ◌&&◌}
-use mathlib.Core.Logic.{⊎_elim}
 use mathlib.Core.List.{List, []}
 use mathlib.Core.Option.{Option, none}
 use lib.ListN.{get_or, take}
@@ -22,6 +21,7 @@ use Rattle.replayed_views.proofs.CutLaws.{keep_all, row-ready, row-wrong}
 use Rattle.replayed_views.proofs.SearchLaws.{wrong-here, wrong-not, known-short, known-right, place_found, place_none, none-on}
 use borrow.Author.Rules.{rules}
 use Rattle.replayed_views.proofs.search.first_wrong.Goals as goal
+use Rattle.replayed_views.proofs.search.first_wrong.Goals.{then-e-lt64, else-e-lt64}
 
 pub loop-k-init : goal.loop-k-init
 loop-k-init c = (search rules, λ i h. absurd (omega arith))
@@ -84,8 +84,8 @@ overflow_cast-o c =
     let next-k : c.loop-k.k < c.args.m = search rules in
     let ready : (k : ℕ) → k < c.args.m
     → Ready c.args.objects c.args.size c.args.events c.args.values.now c.args.counts.now c.args.starts (get_or c.args.views.now k []) (get_or c.args.lengths k 0) = c.requires.1 in
-    let object : ℕ = (get_or turn c.args.events c.deciding-e.result no_light).object in
-    let is-object : c.deciding-e.result < 64 → object < 16 = λ h. let i = turn c in (ready i i.before.loop.k (next-k i)).parts.object c.deciding-e.result (c.deciding-e.ensures h).0 in
+    let object : ℕ = (get_or c.args.events c.deciding-e.result no_light).object in
+    let is-object : c.deciding-e.result < 64 → object < 16 = λ h. (ready c.loop-k.k (next-k)).parts.object c.deciding-e.result (c.deciding-e.ensures h).0 in
     omega (arith, is-object c.if-e-lt64.true)
 
 pub offset_bounds-starts-o : goal.offset_bounds-starts-o
@@ -93,8 +93,8 @@ offset_bounds-starts-o c =
     let next-k : c.loop-k.k < c.args.m = search rules in
     let ready : (k : ℕ) → k < c.args.m
     → Ready c.args.objects c.args.size c.args.events c.args.values.now c.args.counts.now c.args.starts (get_or c.args.views.now k []) (get_or c.args.lengths k 0) = c.requires.1 in
-    let object : ℕ = (get_or turn c.args.events c.deciding-e.result no_light).object in
-    let is-object : c.deciding-e.result < 64 → object < 16 = λ h. let i = turn c in (ready i i.before.loop.k (next-k i)).parts.object c.deciding-e.result (c.deciding-e.ensures h).0 in
+    let object : ℕ = (get_or c.args.events c.deciding-e.result no_light).object in
+    let is-object : c.deciding-e.result < 64 → object < 16 = λ h. (ready c.loop-k.k (next-k)).parts.object c.deciding-e.result (c.deciding-e.ensures h).0 in
     omega (arith, is-object c.if-e-lt64.true)
 
 pub bounds-starts-o : goal.bounds-starts-o
@@ -102,8 +102,8 @@ bounds-starts-o c =
     let next-k : c.loop-k.k < c.args.m = search rules in
     let ready : (k : ℕ) → k < c.args.m
     → Ready c.args.objects c.args.size c.args.events c.args.values.now c.args.counts.now c.args.starts (get_or c.args.views.now k []) (get_or c.args.lengths k 0) = c.requires.1 in
-    let object : ℕ = (get_or turn c.args.events c.deciding-e.result no_light).object in
-    let is-object : c.deciding-e.result < 64 → object < 16 = λ h. let i = turn c in (ready i i.before.loop.k (next-k i)).parts.object c.deciding-e.result (c.deciding-e.ensures h).0 in
+    let object : ℕ = (get_or c.args.events c.deciding-e.result no_light).object in
+    let is-object : c.deciding-e.result < 64 → object < 16 = λ h. (ready c.loop-k.k (next-k)).parts.object c.deciding-e.result (c.deciding-e.ensures h).0 in
     is-object c.if-e-lt64.true
 
 pub offset_bounds-rows-o : goal.offset_bounds-rows-o
@@ -111,8 +111,8 @@ offset_bounds-rows-o c =
     let next-k : c.loop-k.k < c.args.m = search rules in
     let ready : (k : ℕ) → k < c.args.m
     → Ready c.args.objects c.args.size c.args.events c.args.values.now c.args.counts.now c.args.starts (get_or c.args.views.now k []) (get_or c.args.lengths k 0) = c.requires.1 in
-    let object : ℕ = (get_or turn c.args.events c.deciding-e.result no_light).object in
-    let is-object : c.deciding-e.result < 64 → object < 16 = λ h. let i = turn c in (ready i i.before.loop.k (next-k i)).parts.object c.deciding-e.result (c.deciding-e.ensures h).0 in
+    let object : ℕ = (get_or c.args.events c.deciding-e.result no_light).object in
+    let is-object : c.deciding-e.result < 64 → object < 16 = λ h. (ready c.loop-k.k (next-k)).parts.object c.deciding-e.result (c.deciding-e.ensures h).0 in
     omega (arith, is-object c.if-e-lt64.true)
 
 pub bounds-rows-o : goal.bounds-rows-o
@@ -120,8 +120,8 @@ bounds-rows-o c =
     let next-k : c.loop-k.k < c.args.m = search rules in
     let ready : (k : ℕ) → k < c.args.m
     → Ready c.args.objects c.args.size c.args.events c.args.values.now c.args.counts.now c.args.starts (get_or c.args.views.now k []) (get_or c.args.lengths k 0) = c.requires.1 in
-    let object : ℕ = (get_or turn c.args.events c.deciding-e.result no_light).object in
-    let is-object : c.deciding-e.result < 64 → object < 16 = λ h. let i = turn c in (ready i i.before.loop.k (next-k i)).parts.object c.deciding-e.result (c.deciding-e.ensures h).0 in
+    let object : ℕ = (get_or c.args.events c.deciding-e.result no_light).object in
+    let is-object : c.deciding-e.result < 64 → object < 16 = λ h. (ready c.loop-k.k (next-k)).parts.object c.deciding-e.result (c.deciding-e.ensures h).0 in
     is-object c.if-e-lt64.true
 
 pub replay_row-found-requires : goal.replay_row-found-requires
@@ -129,23 +129,19 @@ replay_row-found-requires c =
     let next-k : c.loop-k.k < c.args.m = search rules in
     let ready : (k : ℕ) → k < c.args.m
     → Ready c.args.objects c.args.size c.args.events c.args.values.now c.args.counts.now c.args.starts (get_or c.args.views.now k []) (get_or c.args.lengths k 0) = c.requires.1 in
-    let object : ℕ = (get_or turn c.args.events c.deciding-e.result no_light).object in
+    let object : ℕ = (get_or c.args.events c.deciding-e.result no_light).object in
     let row : ℕ = get_or c.object_rows-rows.result (object) 0 in
-    let is-object : c.deciding-e.result < 64 → object < 16 = λ h. let i = turn c in (ready i i.before.loop.k (next-k i)).parts.object c.deciding-e.result (c.deciding-e.ensures h).0 in
-    let is_row : c.deciding-e.result < 64 → (f : ℕ) → f < turn c.args.size
-    → in_row (row) f ≡ true && eqb (get_or turn c.args.events f no_light).object (object) = λ h f l. let i = turn c in
-    i.before.before.before.object-rows.ensures (object) (is-object h) f (omega (arith, (ready i i.before.loop.k (next-k i)).parts.small)) in
-    let i = turn c in
-    let l = i.before.loop in
-    let a = i.args in
-    row-ready a.objects a.size a.t2 a.values.now a.counts.now (get_or a.views.now l.k []) (get_or a.t9 l.k 0) (row) c.deciding-e.result a.t7 (ready i l.k (next-k i)) (c.deciding-e.ensures c.if-e-lt64.true).0 (λ _. true) (is_row c.if-e-lt64.true)
+    let is-object : c.deciding-e.result < 64 → object < 16 = λ h. (ready c.loop-k.k (next-k)).parts.object c.deciding-e.result (c.deciding-e.ensures h).0 in
+    let is_row : c.deciding-e.result < 64 → (f : ℕ) → f < c.args.size
+    → in_row (row) f ≡ true && eqb (get_or c.args.events f no_light).object (object) = λ h f l. c.object_rows-rows.ensures (object) (is-object h) f (omega (arith, (ready c.loop-k.k (next-k)).parts.small)) in
+    row-ready c.args.objects c.args.size c.args.events c.args.values.now c.args.counts.now (get_or c.args.views.now c.loop-k.k []) (get_or c.args.lengths c.loop-k.k 0) (row) c.deciding-e.result c.args.starts (ready c.loop-k.k (next-k)) (c.deciding-e.ensures c.if-e-lt64.true).0 (λ _. true) (is_row c.if-e-lt64.true)
 
 pub replay-found-requires : goal.replay-found-requires
 replay-found-requires c =
     let next-k : c.loop-k.k < c.args.m = search rules in
     let ready : (k : ℕ) → k < c.args.m
     → Ready c.args.objects c.args.size c.args.events c.args.values.now c.args.counts.now c.args.starts (get_or c.args.views.now k []) (get_or c.args.lengths k 0) = c.requires.1 in
-    let i = turn c in ready i i.before.loop.k (next-k i)
+    ready c.loop-k.k (next-k)
 
 pub returns-then-found-lt64 : goal.returns-then-found-lt64
 returns-then-found-lt64 c =
@@ -158,38 +154,27 @@ returns-then-found-lt64 c =
     let ready : (k : ℕ) → k < c.args.m
     → Ready c.args.objects c.args.size c.args.events c.args.values.now c.args.counts.now c.args.starts (get_or c.args.views.now k []) (get_or c.args.lengths k 0) = c.requires.1 in
     let place : ℕ = get_or c.earlier_views-earlier.result c.loop-k.k 0 in
-    let object : ℕ = (get_or turn c.args.events c.deciding-e.result no_light).object in
+    let object : ℕ = (get_or c.args.events c.deciding-e.result no_light).object in
     let row : ℕ = get_or c.object_rows-rows.result (object) 0 in
-    let is-object : c.deciding-e.result < 64 → object < 16 = λ h. let i = turn c in (ready i i.before.loop.k (next-k i)).parts.object c.deciding-e.result (c.deciding-e.ensures h).0 in
-    let is_row : c.deciding-e.result < 64 → (f : ℕ) → f < turn c.args.size
-    → in_row (row) f ≡ true && eqb (get_or turn c.args.events f no_light).object (object) = λ h f l. let i = turn c in
-    i.before.before.before.object-rows.ensures (object) (is-object h) f (omega (arith, (ready i i.before.loop.k (next-k i)).parts.small)) in
-    let right-before : let s = start c in
-    first_wrong (history s) (is_visible (history s) (get_or s.args.t11 (place) no_visible)) (contents s) (take c.length_below-known.result (get_or s.args.views.now (place) [])) ≡ none = let i = turn c in
-    let l = i.before.loop in
-    let s = start i in
-    known-right (place i) l.k (get_or s.args.t9 (place i) 0) c.length_below-known.result c.length_below-known.ensures (history s) (contents s) s.args.t11 (get_or s.args.views.now (place i) []) (l.inv.1 (place i)) in
-    let found_here : let i = turn c in found_event c.if-e-lt64.found ≡ wrong_of i i.before.loop.k = let i = turn c in
-    let l = i.before.loop in
-    let s = start i in
-    let a = s.args in
-    ⊎_elim
-    (λ w.
-    let h : c.deciding-e.result < 64 = w.0.taken in
-    let p = c.deciding-e.ensures h in
-    ap found_event w.5
-    ∙ w.4.ensures
-    ∙ sym (row-wrong a.objects a.size a.t2 a.values.now a.counts.now (get_or a.views.now l.k []) (get_or a.t9 l.k 0) (row) c.deciding-e.result a.t7 (ready i l.k (next-k i)) p.0 (λ _. true) (is_row h) s.good.1.1.1.1.1.1.0.1.0.1 a.answers.now)
-    ∙ ap (first_wrong (history s) (only c.deciding-e.result) (contents s)) (keep_all (view_of s l.k))
-    ∙ sym (decided a.t2 a.size (get_or a.t11 (place i) no_visible) (take c.length_below-known.result (get_or a.views.now (place i) [])) (get_or a.t11 l.k no_visible) (view_of s l.k) c.deciding-e.result p.1 a.objects a.values.now a.answers.now a.counts.now (contents s) (right-before)))
-    (λ w. ap found_event w.2 ∙ w.1.ensures)
-    c.if-e-lt64.branch in
-    let i = turn c in
-    let l = i.before.loop in
-    let s = start i in
+    let is-object : c.deciding-e.result < 64 → object < 16 = λ h. (ready c.loop-k.k (next-k)).parts.object c.deciding-e.result (c.deciding-e.ensures h).0 in
+    let is_row : c.deciding-e.result < 64 → (f : ℕ) → f < c.args.size
+    → in_row (row) f ≡ true && eqb (get_or c.args.events f no_light).object (object) = λ h f l. c.object_rows-rows.ensures (object) (is-object h) f (omega (arith, (ready c.loop-k.k (next-k)).parts.small)) in
+    let right-before : first_wrong (history) (is_visible (history) (get_or c.args.who (place) no_visible)) (contents) (take c.length_below-known.result (get_or c.args.views.now (place) [])) ≡ none = known-right (place) c.loop-k.k (get_or c.args.lengths (place) 0) c.length_below-known.result c.length_below-known.ensures (history) (contents) c.args.who (get_or c.args.views.now (place) []) (c.loop-k.invariant.1 (place)) in
+    let found_here : found_event c.if-e-lt64.found ≡ wrong_of c.loop-k.k =
+    elim c.if-e-lt64.branch [
+      | then-e-lt64 w ↦
+          let h : c.deciding-e.result < 64 = w.if-e-lt64.true in
+          let p = c.deciding-e.ensures h in
+          ap found_event w.found-is
+          ∙ w.replay_row-found.ensures
+          ∙ sym (row-wrong c.args.objects c.args.size c.args.events c.args.values.now c.args.counts.now (get_or c.args.views.now c.loop-k.k []) (get_or c.args.lengths c.loop-k.k 0) (row) c.deciding-e.result c.args.starts (ready c.loop-k.k (next-k)) p.0 (λ _. true) (is_row h) c.well_formed.1.1.1.1.1.1.0.1.0.1 c.args.answers.now)
+          ∙ ap (first_wrong (history) (only c.deciding-e.result) (contents)) (keep_all (view_of c.loop-k.k))
+          ∙ sym (decided c.args.events c.args.size (get_or c.args.who (place) no_visible) (take c.length_below-known.result (get_or c.args.views.now (place) [])) (get_or c.args.who c.loop-k.k no_visible) (view_of c.loop-k.k) c.deciding-e.result p.1 c.args.objects c.args.values.now c.args.answers.now c.args.counts.now (contents) (right-before))
+      | else-e-lt64 w ↦ ap found_event w.found-is ∙ w.replay-found.ensures
+    ] in
     let h : c.if-e-lt64.found < 64 = search rules in
-    place_found s.args.m (searched s) l.k c.if-e-lt64.found (next-k i) h l.inv.1
-    (wrong-here l.k c.if-e-lt64.found (wrong_of s l.k) (found_here) h)
+    place_found c.args.m (searched) c.loop-k.k c.if-e-lt64.found (next-k) h c.loop-k.invariant.1
+    (wrong-here c.loop-k.k c.if-e-lt64.found (wrong_of c.loop-k.k) (found_here) h)
 
 pub loop-k-preserved : goal.loop-k-preserved
 loop-k-preserved c =
@@ -202,38 +187,27 @@ loop-k-preserved c =
     let ready : (k : ℕ) → k < c.args.m
     → Ready c.args.objects c.args.size c.args.events c.args.values.now c.args.counts.now c.args.starts (get_or c.args.views.now k []) (get_or c.args.lengths k 0) = c.requires.1 in
     let place : ℕ = get_or c.earlier_views-earlier.result c.loop-k.k 0 in
-    let object : ℕ = (get_or turn c.args.events c.deciding-e.result no_light).object in
+    let object : ℕ = (get_or c.args.events c.deciding-e.result no_light).object in
     let row : ℕ = get_or c.object_rows-rows.result (object) 0 in
-    let is-object : c.deciding-e.result < 64 → object < 16 = λ h. let i = turn c in (ready i i.before.loop.k (next-k i)).parts.object c.deciding-e.result (c.deciding-e.ensures h).0 in
-    let is_row : c.deciding-e.result < 64 → (f : ℕ) → f < turn c.args.size
-    → in_row (row) f ≡ true && eqb (get_or turn c.args.events f no_light).object (object) = λ h f l. let i = turn c in
-    i.before.before.before.object-rows.ensures (object) (is-object h) f (omega (arith, (ready i i.before.loop.k (next-k i)).parts.small)) in
-    let right-before : let s = start c in
-    first_wrong (history s) (is_visible (history s) (get_or s.args.t11 (place) no_visible)) (contents s) (take c.length_below-known.result (get_or s.args.views.now (place) [])) ≡ none = let i = turn c in
-    let l = i.before.loop in
-    let s = start i in
-    known-right (place i) l.k (get_or s.args.t9 (place i) 0) c.length_below-known.result c.length_below-known.ensures (history s) (contents s) s.args.t11 (get_or s.args.views.now (place i) []) (l.inv.1 (place i)) in
-    let found_here : let i = turn c in found_event c.if-e-lt64.found ≡ wrong_of i i.before.loop.k = let i = turn c in
-    let l = i.before.loop in
-    let s = start i in
-    let a = s.args in
-    ⊎_elim
-    (λ w.
-    let h : c.deciding-e.result < 64 = w.0.taken in
-    let p = c.deciding-e.ensures h in
-    ap found_event w.5
-    ∙ w.4.ensures
-    ∙ sym (row-wrong a.objects a.size a.t2 a.values.now a.counts.now (get_or a.views.now l.k []) (get_or a.t9 l.k 0) (row) c.deciding-e.result a.t7 (ready i l.k (next-k i)) p.0 (λ _. true) (is_row h) s.good.1.1.1.1.1.1.0.1.0.1 a.answers.now)
-    ∙ ap (first_wrong (history s) (only c.deciding-e.result) (contents s)) (keep_all (view_of s l.k))
-    ∙ sym (decided a.t2 a.size (get_or a.t11 (place i) no_visible) (take c.length_below-known.result (get_or a.views.now (place i) [])) (get_or a.t11 l.k no_visible) (view_of s l.k) c.deciding-e.result p.1 a.objects a.values.now a.answers.now a.counts.now (contents s) (right-before)))
-    (λ w. ap found_event w.2 ∙ w.1.ensures)
-    c.if-e-lt64.branch in
-    let i = turn c in
-    let l = i.before.loop in
-    let s = start i in
+    let is-object : c.deciding-e.result < 64 → object < 16 = λ h. (ready c.loop-k.k (next-k)).parts.object c.deciding-e.result (c.deciding-e.ensures h).0 in
+    let is_row : c.deciding-e.result < 64 → (f : ℕ) → f < c.args.size
+    → in_row (row) f ≡ true && eqb (get_or c.args.events f no_light).object (object) = λ h f l. c.object_rows-rows.ensures (object) (is-object h) f (omega (arith, (ready c.loop-k.k (next-k)).parts.small)) in
+    let right-before : first_wrong (history) (is_visible (history) (get_or c.args.who (place) no_visible)) (contents) (take c.length_below-known.result (get_or c.args.views.now (place) [])) ≡ none = known-right (place) c.loop-k.k (get_or c.args.lengths (place) 0) c.length_below-known.result c.length_below-known.ensures (history) (contents) c.args.who (get_or c.args.views.now (place) []) (c.loop-k.invariant.1 (place)) in
+    let found_here : found_event c.if-e-lt64.found ≡ wrong_of c.loop-k.k =
+    elim c.if-e-lt64.branch [
+      | then-e-lt64 w ↦
+          let h : c.deciding-e.result < 64 = w.if-e-lt64.true in
+          let p = c.deciding-e.ensures h in
+          ap found_event w.found-is
+          ∙ w.replay_row-found.ensures
+          ∙ sym (row-wrong c.args.objects c.args.size c.args.events c.args.values.now c.args.counts.now (get_or c.args.views.now c.loop-k.k []) (get_or c.args.lengths c.loop-k.k 0) (row) c.deciding-e.result c.args.starts (ready c.loop-k.k (next-k)) p.0 (λ _. true) (is_row h) c.well_formed.1.1.1.1.1.1.0.1.0.1 c.args.answers.now)
+          ∙ ap (first_wrong (history) (only c.deciding-e.result) (contents)) (keep_all (view_of c.loop-k.k))
+          ∙ sym (decided c.args.events c.args.size (get_or c.args.who (place) no_visible) (take c.length_below-known.result (get_or c.args.views.now (place) [])) (get_or c.args.who c.loop-k.k no_visible) (view_of c.loop-k.k) c.deciding-e.result p.1 c.args.objects c.args.values.now c.args.answers.now c.args.counts.now (contents) (right-before))
+      | else-e-lt64 w ↦ ap found_event w.found-is ∙ w.replay-found.ensures
+    ] in
     let h : 64 ≤ c.if-e-lt64.found = search rules in (
-      omega (arith, next-k i),
-      none-on (searched s) l.k l.inv.1 (wrong-not l.k c.if-e-lt64.found (wrong_of s l.k) (found_here) h),
+      omega (arith, next-k),
+      none-on (searched) c.loop-k.k c.loop-k.invariant.1 (wrong-not c.loop-k.k c.if-e-lt64.found (wrong_of c.loop-k.k) (found_here) h),
     )
 
 pub returns : goal.returns

@@ -25,10 +25,10 @@ bounds-objects-at c =
     place-below _
 
 pub overflow_cast-at : goal.overflow_cast-at
-overflow_cast-at c = let h = array-copy-out-o c in omega (arith, h)
+overflow_cast-at c = let h = bounds-objects-at c in omega (arith, h)
 
 pub offset_bounds-objects-at : goal.offset_bounds-objects-at
-offset_bounds-objects-at c = let h = array-copy-out-o c in omega (arith, h)
+offset_bounds-objects-at c = let h = bounds-objects-at c in omega (arith, h)
 
 pub loop-i-preserved : goal.loop-i-preserved
 loop-i-preserved c =

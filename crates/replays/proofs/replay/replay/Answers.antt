@@ -3,7 +3,6 @@ use Prim.Native.Nat.{ℕ, ◌≤◌, ◌<◌, ◌-◌}
 use native.Mathlib.Omega.{arith}
 use mathlib.Core.Path.{◌≡◌, refl, sym, ap, ◌∙◌}
 use mathlib.Core.Bool.{Bool, false}
-use mathlib.Core.Logic.{⊎_elim}
 use mathlib.Core.List.{List, []}
 use mathlib.Core.Option.{Option}
 use lib.ListN.{length, take, get_or, set, length-set}
@@ -16,23 +15,7 @@ use Rattle.replays.specs.Replay.{recorded_as, Stands, no_light}
 use Rattle.replays.specs.Steps.{sees_of, Judged}
 use Rattle.replays.proofs.ReplayLaws.{all-on, stands_on, unchanged, judged-given, judged-asked, judged-unasked, whole, turn_on, turn-stops, view-ends, found_some}
 use Rattle.replays.proofs.replay.replay.Goals as goal
-
--- what an event makes of its object: a state that follows, in its place, and no wrong answer that is visible
-follows : (c : goal.Joined-asks) → (s : State) × Changed (state c) (op c) (number c) s
-    × Judged (silent c) (seen c) c.args.values.now (recorded c) (state c) (op c) (number c) false
-    × (c.if-asks.states ≡ set c.loop-i.states (place c) s)
-follows c =
-    let unasked : c.asks.result ≡ false → Judged (silent c) (seen c) c.args.values.now (recorded c) (state c) (op c) (number c) false =
-    judged-unasked (silent c) (seen c) c.args.values.now (recorded c) (state c) (op c) (number c) c.asks.ensures in
-    ⊎_elim
-    (λ w.
-    let j = judged-given (silent c) c.args.values.now (recorded c) (state c) (op c) (number c) w.2.result.answer w.2.ensures.1 w.5.ensures in
-    (w.2.result.state, w.2.ensures.0, judged-asked (silent c) (seen c) c.args.values.now (recorded c) (state c) (op c) (number c) c.asks.ensures w.0.taken j w.6.left, w.8))
-    (⊎_elim
-    (λ w. (w.4.result, w.4.ensures, unasked w.0.left, w.5))
-    (λ w.
-    (state c, unchanged (state c) (op c) (number c) (sym w.1.ensures ∙ w.2.left) (ready c).0, unasked w.0.left, w.3 ∙ sym (set-get_or c.loop-i.states (place c) no_state))))
-    c.if-asks.branch
+use Rattle.replays.proofs.replay.replay.Goals.{then-asks+else-not-fits_given, else-asks+then-changes, else-asks+else-changes}
 
 pub loop-i-init : goal.loop-i-init
 loop-i-init c = (omega arith, c.well_formed.1.1.1.1.1.1.0.1.0.1, λ os r. (r.start, refl))
@@ -235,10 +218,31 @@ loop-i-preserved c =
     let place : ℕ = (get_or c.args.events (number) no_light).object in
     let state : State = get_or c.loop-i.states (place) no_state in
     let op : Op = (get_or c.args.events (number) no_light).op in
+    let recorded : Option (List ℕ) = recorded_as (get_or c.args.counts.now (number) 0) (get_or c.args.answers.now (number) []) in
+    let silent : Bool = (get_or c.args.events (number) no_light).silent in
+    let seen : Bool = sees_of c.args.who (get_or c.args.events (number) no_light).process.0 (number) in
     let in-view : c.loop-i.i < c.args.n = omega (arith, c.loop-i-test.true) in
+    let is-event : number < c.args.size = c.requires.event c.loop-i.i (in-view) in
+    let is-object : place < 16 = c.requires.parts.object (number) (is-event) in
     let view-holds : c.args.n ≤ length c.args.view = let e : length c.args.view ≡ 64 = c.well_formed.1.1.1.1.1.1.1.0.1.0.1 in
     omega (arith, e, c.requires.short) in
-    let f = follows c in (
+    let stands : Stands (get_or c.args.objects (place) no_object) c.loop-i.i (state) = (c.loop-i.invariant.2 c.args.objects c.requires).0 (place) (is-object) in
+    let ready : ((state).head ≤ (state).tail) × ((state).tail < 65) = let r = (stands).room in
+    let t = in-view in
+    ((stands).ends, omega (arith, r, c.requires.short, t)) in
+    let follows : (s : State) × Changed (state) (op) (number) s
+    × Judged (silent) (seen) c.args.values.now (recorded) (state) (op) (number) false
+    × (c.if-asks.states ≡ set c.loop-i.states (place) s) = let unasked : c.asks.result ≡ false → Judged (silent) (seen) c.args.values.now (recorded) (state) (op) (number) false =
+    judged-unasked (silent) (seen) c.args.values.now (recorded) (state) (op) (number) c.asks.ensures in
+    elim c.if-asks.branch [
+      | then-asks+else-not-fits_given w ↦
+          let j = judged-given (silent) c.args.values.now (recorded) (state) (op) (number) w.step-step.result.answer w.step-step.ensures.1 w.fits_given.ensures in
+          (w.step-step.result.state, w.step-step.ensures.0, judged-asked (silent) (seen) c.args.values.now (recorded) (state) (op) (number) c.asks.ensures w.if-asks.true j w.if-not-fits_given.false-raw, w.states-is)
+      | else-asks+then-changes w ↦ (w.changed-t.result, w.changed-t.ensures, unasked w.if-asks.false, w.states-is)
+      | else-asks+else-changes w ↦
+          (state, unchanged (state) (op) (number) (sym w.changes.ensures ∙ w.if-changes.false) (ready).0, unasked w.if-asks.false, w.states-is ∙ sym (set-get_or c.loop-i.states (place) no_state))
+    ] in
+    let f = follows in (
       omega arith,
       ap length f.3 ∙ length-set c.loop-i.states (place) f.0 ∙ c.loop-i.invariant.1,
       λ os r.

@@ -20,10 +20,10 @@ loop-i-preserved c =
       omega (arith, h),
       c.loop-i.invariant.1,
       search rules,
-      list-more c.args.events c.loop-i.auto c.loop-i.i (omega (arith, h, c.loop-i.invariant.1, c.requires)) (omega (arith, h, c.requires)) c.loop-i.invariant.3,
+      list-more c.args.events c.loop-i.kept c.loop-i.i (omega (arith, h, c.loop-i.invariant.1, c.requires)) (omega (arith, h, c.requires)) c.loop-i.invariant.3,
     )
 
 pub returns : goal.returns
 returns c =
     let z : c.loop-i.i ≡ c.args.n = omega (arith, c.loop-i.invariant.0) in
-    list_done c.args.events c.loop-i.auto c.args.n (omega (arith, c.loop-i.invariant.1, c.requires)) (c.loop-i.invariant.3 ∙ ap (λ (k : ℕ). pad 64 0 (take k c.args.events)) z)
+    list_done c.args.events c.loop-i.kept c.args.n (omega (arith, c.loop-i.invariant.1, c.requires)) (c.loop-i.invariant.3 ∙ ap (λ (k : ℕ). pad 64 0 (take k c.args.events)) z)

@@ -19,70 +19,60 @@ returns-then-not-may_be_made c =
 
 pub found-checked-requires : goal.found-checked-requires
 found-checked-requires c =
-    let s = start c in
-    search (rules, (within-limits s.args.h s.pre.0).declared)
+    search (rules, (within-limits c.args.h c.requires.0).declared)
 
 pub returns-then-is_found : goal.returns-then-is_found
 returns-then-is_found c =
     let may : may_be_made c.args.c.criterion c.args.wanted ≡ true = sym c.may_be_made.ensures ∙ not-false c.may_be_made.result c.if-not-may_be_made.false-raw in
-    let s = start c in
     let e : is_found (finding_of c.check_records-finding.result) ≡ true = sym c.is_found.ensures ∙ c.if-is_found.true in
     same_answer (ap (λ (x : Checked). record { checked = x; refusal = 0; length = 0 }) c.found-checked.ensures)
-    (faulty-record s.args.history.now s.args.h s.args.c s.args.t3 s.args.wanted s.args.buffer.now (may)
+    (faulty-record c.args.history.now c.args.h c.args.c c.args.views c.args.wanted c.args.buffer.now (may)
     c.check_records-finding.result c.check_records-finding.ensures e)
 
 pub crosses_wanted-requires : goal.crosses_wanted-requires
 crosses_wanted-requires c =
     let may : may_be_made c.args.c.criterion c.args.wanted ≡ true = sym c.may_be_made.ensures ∙ not-false c.may_be_made.result c.if-not-may_be_made.false-raw in
-    let passed : let s = start c in Passed s.args.h s.args.c s.args.t3 = let s = start c in
-    record {
-      history = s.pre.0;
-      certificate = s.pre.1;
+    let passed : Passed c.args.h c.args.c c.args.views = record {
+      history = c.requires.0;
+      certificate = c.requires.1;
       passes = sym c.check_records-finding.ensures ∙ not_found (finding_of c.check_records-finding.result) (search rules);
     } in
-    let order : let s = start c in OrderWanted s.args.wanted s.args.h s.args.c = let s = start c in
-    order-read s.args.history.now s.args.h s.args.c s.args.t3 s.args.wanted s.args.buffer.now (may) (passed) in
+    let order : OrderWanted c.args.wanted c.args.h c.args.c = order-read c.args.history.now c.args.h c.args.c c.args.views c.args.wanted c.args.buffer.now (may) (passed) in
     order
 
 pub returns-then-crosses_wanted : goal.returns-then-crosses_wanted
 returns-then-crosses_wanted c =
     let may : may_be_made c.args.c.criterion c.args.wanted ≡ true = sym c.may_be_made.ensures ∙ not-false c.may_be_made.result c.if-not-may_be_made.false-raw in
-    let passed : let s = start c in Passed s.args.h s.args.c s.args.t3 = let s = start c in
-    record {
-      history = s.pre.0;
-      certificate = s.pre.1;
+    let passed : Passed c.args.h c.args.c c.args.views = record {
+      history = c.requires.0;
+      certificate = c.requires.1;
       passes = sym c.check_records-finding.ensures ∙ not_found (finding_of c.check_records-finding.result) (search rules);
     } in
-    let s = start c in
     same_answer c.answer-then-crosses_wanted.ensures
-    (crossed-record s.args.history.now s.args.h s.args.c s.args.t3 s.args.wanted s.args.buffer.now (may) (passed)
-    (sym (c.crosses_wanted.ensures s.args.t3) ∙ c.if-crosses_wanted.true))
+    (crossed-record c.args.history.now c.args.h c.args.c c.args.views c.args.wanted c.args.buffer.now (may) (passed)
+    (sym (c.crosses_wanted.ensures c.args.views) ∙ c.if-crosses_wanted.true))
 
 pub record_wanted-d-requires : goal.record_wanted-d-requires
 record_wanted-d-requires c =
     let may : may_be_made c.args.c.criterion c.args.wanted ≡ true = sym c.may_be_made.ensures ∙ not-false c.may_be_made.result c.if-not-may_be_made.false-raw in
-    let passed : let s = start c in Passed s.args.h s.args.c s.args.t3 = let s = start c in
-    record {
-      history = s.pre.0;
-      certificate = s.pre.1;
+    let passed : Passed c.args.h c.args.c c.args.views = record {
+      history = c.requires.0;
+      certificate = c.requires.1;
       passes = sym c.check_records-finding.ensures ∙ not_found (finding_of c.check_records-finding.result) (search rules);
     } in
-    let order : let s = start c in OrderWanted s.args.wanted s.args.h s.args.c = let s = start c in
-    order-read s.args.history.now s.args.h s.args.c s.args.t3 s.args.wanted s.args.buffer.now (may) (passed) in
+    let order : OrderWanted c.args.wanted c.args.h c.args.c = order-read c.args.history.now c.args.h c.args.c c.args.views c.args.wanted c.args.buffer.now (may) (passed) in
     (passed, order)
 
 pub returns : goal.returns
 returns c =
     let may : may_be_made c.args.c.criterion c.args.wanted ≡ true = sym c.may_be_made.ensures ∙ not-false c.may_be_made.result c.if-not-may_be_made.false-raw in
-    let passed : let s = start c in Passed s.args.h s.args.c s.args.t3 = let s = start c in
-    record {
-      history = s.pre.0;
-      certificate = s.pre.1;
+    let passed : Passed c.args.h c.args.c c.args.views = record {
+      history = c.requires.0;
+      certificate = c.requires.1;
       passes = sym c.check_records-finding.ensures ∙ not_found (finding_of c.check_records-finding.result) (search rules);
     } in
-    let s = start c in
     same_answer c.answer-2.ensures
-    (written-record s.args.history.now s.args.h s.args.c s.args.t3 s.args.wanted s.args.buffer.now (may) (passed)
-    (sym (c.crosses_wanted.ensures s.args.t3) ∙ c.if-crosses_wanted.false)
+    (written-record c.args.history.now c.args.h c.args.c c.args.views c.args.wanted c.args.buffer.now (may) (passed)
+    (sym (c.crosses_wanted.ensures c.args.views) ∙ c.if-crosses_wanted.false)
     c.record_wanted-d.result _ c.record_wanted-d.ensures c.write_certificate-written.result _
     c.write_certificate-written.ensures.0 c.write_certificate-written.ensures.1)

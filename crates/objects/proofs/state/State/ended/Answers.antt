@@ -9,10 +9,10 @@ returns-then-oldest-end c =
 
 pub returns-then-s : goal.returns-then-s
 returns-then-s c =
-    let len = plain c.args.self.numbers c.well_formed.0.1.1.0.1.0.1 in
+    let len = c.well_formed.0.1.1.0.1.0.1 in
     shows-newest c.args.self c.one.result c.requires.0 (omega arith) (omega arith) c.if-s.true c.one.ensures
 
 pub returns-else-s : goal.returns-else-s
 returns-else-s c =
-    let len = plain c.args.self.numbers c.well_formed.0.1.1.0.1.0.1 in
+    let len = c.well_formed.0.1.1.0.1.0.1 in
     shows-oldest c.args.self c.one-else-s.result c.requires.0 (omega arith) (omega arith) c.if-s.false c.one-else-s.ensures

@@ -8,7 +8,7 @@ returns-then-oldest-end c number = pop-none c.args.self c.requires.0 c.if-oldest
 
 pub returns-then-newest : goal.returns-then-newest
 returns-then-newest c number =
-    let len = plain c.args.self.numbers c.well_formed.0.1.1.0.1.0.1 in
+    let len = c.well_formed.0.1.1.0.1.0.1 in
     pop-newest c.args.self c.requires.0 (omega arith) (omega arith) c.if-newest.true number
 
 pub returns-else-newest : goal.returns-else-newest

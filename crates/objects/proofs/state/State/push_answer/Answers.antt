@@ -6,10 +6,10 @@ use Rattle.objects.proofs.state.State.push_answer.Goals as goal
 
 pub returns-then-is_full : goal.returns-then-is_full
 returns-then-is_full c =
-    push-answers c.args.self c.one.result c.args.no.0 true (plain c.args.self.numbers c.well_formed.0.1.1.0.1.0.1) c.requires.1
+    push-answers c.args.self c.one.result c.args.no.0 true c.well_formed.0.1.1.0.1.0.1 c.requires.1
     (sym c.is_full.ensures ∙ c.if-is_full.true) c.one.ensures
 
 pub returns : goal.returns
 returns c =
-    push-answers c.args.self c.none.result c.args.no.0 false (plain c.args.self.numbers c.well_formed.0.1.1.0.1.0.1) c.requires.1
+    push-answers c.args.self c.none.result c.args.no.0 false c.well_formed.0.1.1.0.1.0.1 c.requires.1
     (sym c.is_full.ensures ∙ c.if-is_full.false) c.none.ensures

@@ -5,10 +5,10 @@ use Rattle.objects.proofs.state.State.pushed.Goals as goal
 
 pub returns-then-is_full : goal.returns-then-is_full
 returns-then-is_full c =
-    push-full c.args.self c.requires.0 (plain c.args.self.numbers c.well_formed.0.1.1.0.1.0.1) c.requires.1 _
+    push-full c.args.self c.requires.0 c.well_formed.0.1.1.0.1.0.1 c.requires.1 _
     (sym c.is_full.ensures ∙ c.if-is_full.true)
 
 pub returns : goal.returns
 returns c =
-    push-changes c.args.self c.requires.0 (plain c.args.self.numbers c.well_formed.0.1.1.0.1.0.1) c.requires.1 _
+    push-changes c.args.self c.requires.0 c.well_formed.0.1.1.0.1.0.1 c.requires.1 _
     (sym c.is_full.ensures ∙ c.if-is_full.false)

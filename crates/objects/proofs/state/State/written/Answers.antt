@@ -13,10 +13,10 @@ overflow_sub-s c =
 
 pub returns-then-is_full : goal.returns-then-is_full
 returns-then-is_full c =
-    write-drops c.args.self c.requires.0 (plain c.args.self.numbers c.well_formed.0.1.1.0.1.0.1) c.requires.1 _
+    write-drops c.args.self c.requires.0 c.well_formed.0.1.1.0.1.0.1 c.requires.1 _
     (sym c.is_full.ensures ∙ c.if-is_full.true)
 
 pub returns : goal.returns
 returns c =
-    write-adds c.args.self c.requires.0 (plain c.args.self.numbers c.well_formed.0.1.1.0.1.0.1) c.requires.1 _
+    write-adds c.args.self c.requires.0 c.well_formed.0.1.1.0.1.0.1 c.requires.1 _
     (sym c.is_full.ensures ∙ c.if-is_full.false)
