@@ -166,7 +166,7 @@ objects-kept os line at (p ∷ q ∷ ps) =
     (λ h. rw h (events-kept os [] (line + 1) (at + length p + 1) (q ∷ ps) tt))
     (λ h.
     by_bool (eqb (object_line (length os) p).fault 0)
-    (λ z. rw (h, z) (objects-kept _ (line + 1) (at + length p + 1) (q ∷ ps)))
+    (λ z. rw (h, z) (objects-kept (os ++ (object_line (length os) p).object ∷ []) (line + 1) (at + length p + 1) (q ∷ ps)))
     (λ z. rw (h, z) tt))
 
 lines-kept : (ps : List (List ℕ)) → Kept (events_in (lines_from_before ps).history)

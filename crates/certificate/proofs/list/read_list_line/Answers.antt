@@ -17,7 +17,7 @@ returns-then-a-n c =
 pub returns-then-b-n : goal.returns-then-b-n
 returns-then-b-n c =
     let first : Cut 32 c.args.line.now (take (c.find_from-a.result - 0) c.args.line.now ∷ []) (c.find_from-a.result + 1) = cut-next (cut-begins 32 c.args.line.now) _ c.find_from-a.ensures.0 (search rules) (search rules) in
-    let cut = cut-next (first) _ c.find_from-b.ensures.0 (search rules) (search rules) in
+    let cut = cut-next first _ c.find_from-b.ensures.0 (search rules) (search rules) in
     c.faulty_list-then-b-n.ensures
     ∙ sym (list_count c.args.past c.args.count c.args.own c.args.line.now _ cut.is
     (λ e. absurd (omega (arith, split-some 32 (drop (c.find_from-b.result + 1) c.args.line.now)))))
@@ -25,5 +25,5 @@ returns-then-b-n c =
 pub returns : goal.returns
 returns c =
     let first : Cut 32 c.args.line.now (take (c.find_from-a.result - 0) c.args.line.now ∷ []) (c.find_from-a.result + 1) = cut-next (cut-begins 32 c.args.line.now) _ c.find_from-a.ensures.0 (search rules) (search rules) in
-    let cut = cut-ends (first) _ c.find_from-b.ensures.0 (search rules) (search rules) in
+    let cut = cut-ends first _ c.find_from-b.ensures.0 (search rules) (search rules) in
     c.read_pair.ensures ∙ sym (list-pair c.args.past c.args.count c.args.own c.args.line.now _ cut refl)

@@ -24,7 +24,7 @@ digit_value-requires c =
 pub overflow_mul-result : goal.overflow_mul-result
 overflow_mul-result c =
     let first : is_digit (get_or c.args.text.now c.args.from 0) ≡ true = sym c.is_digit.ensures ∙ c.if-is_digit.true in
-    omega (arith, digit-to _ (first))
+    omega (arith, digit-to _ first)
 
 pub digit_value-requires-then-is_digit-2 : goal.digit_value-requires-then-is_digit-2
 digit_value-requires-then-is_digit-2 c =
@@ -35,7 +35,7 @@ pub overflow_add-result : goal.overflow_add-result
 overflow_add-result c =
     let first : is_digit (get_or c.args.text.now c.args.from 0) ≡ true = sym c.is_digit.ensures ∙ c.if-is_digit.true in
     let second : is_digit (get_or c.args.text.now (c.args.from + 1) 0) ≡ true = sym c.is_digit-then-is_digit.ensures ∙ c.if-is_digit-2.true in
-    omega (arith, digit-to _ (first), digit-to _ (second))
+    omega (arith, digit-to _ first, digit-to _ second)
 
 pub returns-then-is_digit-2 : goal.returns-then-is_digit-2
 returns-then-is_digit-2 c h =
@@ -43,7 +43,7 @@ returns-then-is_digit-2 c h =
     let first : is_digit (get_or c.args.text.now c.args.from 0) ≡ true = sym c.is_digit.ensures ∙ c.if-is_digit.true in
     let second : is_digit (get_or c.args.text.now (c.args.from + 1) 0) ≡ true = sym c.is_digit-then-is_digit.ensures ∙ c.if-is_digit-2.true in
     rw (c.digit_value.ensures, c.digit_value-then-is_digit-2.ensures)
-    (entry-two c.args.text.now c.args.from (two_bytes) (first) (second) c.if-b-eq48.false)
+    (entry-two c.args.text.now c.args.from two_bytes first second c.if-b-eq48.false)
 
 pub digit_value-requires-then-is_digit : goal.digit_value-requires-then-is_digit
 digit_value-requires-then-is_digit c =
@@ -54,7 +54,7 @@ pub returns-then-is_digit : goal.returns-then-is_digit
 returns-then-is_digit c h =
     let two_bytes : c.args.from + 1 < length c.args.text.now = search rules in
     let first : is_digit (get_or c.args.text.now c.args.from 0) ≡ true = sym c.is_digit.ensures ∙ c.if-is_digit.true in
-    rw c.digit_value-then-is_digit.ensures (entry-one c.args.text.now c.args.from (two_bytes) (first))
+    rw c.digit_value-then-is_digit.ensures (entry-one c.args.text.now c.args.from two_bytes first)
 
 pub returns : goal.returns
 returns c h = absurd (omega arith)

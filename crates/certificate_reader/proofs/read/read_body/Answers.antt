@@ -22,7 +22,7 @@ returns-then-has_pasts c =
     passed_on _ _ c.read_past_part.result _ c.args.rows.now
     (body-pasts c.args.criterion (take c.args.count c.args.events) 2 c.args.from (split 10 (drop c.args.from c.args.text.now))
     (sym c.has_pasts.ensures ∙ c.if-has_pasts.true)
-    ∙ ap₂ (λ (n : ℕ) (ns : List ℕ). pasts_from c.args.criterion n ns 2 c.args.from (split 10 (drop c.args.from c.args.text.now))) (events-long) (same_numbers))
+    ∙ ap₂ (λ (n : ℕ) (ns : List ℕ). pasts_from c.args.criterion n ns 2 c.args.from (split 10 (drop c.args.from c.args.text.now))) events-long same_numbers)
     c.read_past_part.ensures
 
 pub read_view_part-requires : goal.read_view_part-requires
@@ -36,5 +36,5 @@ returns c =
     passed_on _ _ c.read_view_part.result _ c.args.rows.now
     (body-views c.args.criterion (take c.args.count c.args.events) 2 c.args.from (split 10 (drop c.args.from c.args.text.now))
     (sym c.has_pasts.ensures ∙ c.if-has_pasts.false)
-    ∙ ap₂ (λ (n : ℕ) (ns : List ℕ). views_from c.args.criterion n ns [] 2 c.args.from (split 10 (drop c.args.from c.args.text.now))) (events-long) (same_numbers))
+    ∙ ap₂ (λ (n : ℕ) (ns : List ℕ). views_from c.args.criterion n ns [] 2 c.args.from (split 10 (drop c.args.from c.args.text.now))) events-long same_numbers)
     c.read_view_part.ensures

@@ -22,7 +22,7 @@ pub returns-then-r : goal.returns-then-r
 returns-then-r c =
     let short : c.find_from-e.result < length c.args.text.now = strict _ _ c.find_from-e.ensures.2 c.if-e-text.false in
     passed_on _ _ c.read_body.result _ c.args.rows.now
-    (lines-named (take c.args.count c.args.events) c.args.text.now c.find_from-e.result c.find_from-e.ensures.0 (search rules) (short)
+    (lines-named (take c.args.count c.args.events) c.args.text.now c.find_from-e.result c.find_from-e.ensures.0 (search rules) short
     (sym (named-known (take (c.find_from-e.result - 0) c.args.text.now) c.read_criterion-r.result c.read_criterion-r.ensures) ∙ c.if-r.true)
     ∙ ap (λ (k : Criterion). body_from k (take c.args.count c.args.events) 2 (c.find_from-e.result + 1) (split 10 (drop (c.find_from-e.result + 1) c.args.text.now)))
     (sym (named-criterion (take (c.find_from-e.result - 0) c.args.text.now) c.read_criterion-r.result c.read_criterion-r.ensures c.if-r.true)))
@@ -32,6 +32,6 @@ pub returns : goal.returns
 returns c =
     let short : c.find_from-e.result < length c.args.text.now = strict _ _ c.find_from-e.ensures.2 c.if-e-text.false in
     refused _ c.refuse-2.result c.args.rows.now 2 1 0 (c.find_from-e.result - 0) c.refuse-2.ensures
-    (lines-bad (take c.args.count c.args.events) c.args.text.now c.find_from-e.result c.find_from-e.ensures.0 (search rules) (short)
+    (lines-bad (take c.args.count c.args.events) c.args.text.now c.find_from-e.result c.find_from-e.ensures.0 (search rules) short
     (sym (named-known (take (c.find_from-e.result - 0) c.args.text.now) c.read_criterion-r.result c.read_criterion-r.ensures) ∙ c.if-r.false))
     (λ z. absurd (omega arith))

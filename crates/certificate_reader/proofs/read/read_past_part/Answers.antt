@@ -25,7 +25,7 @@ returns-then-is_word c =
     passed_on _ _ c.read_pasts.result _ c.args.rows.now
     (pasts-part c.args.criterion c.args.count (take c.args.many c.args.numbers) c.args.first c.args.from _
     ∙ heading-is c.args.first c.args.text.now c.args.from c.find_from-e.result c.find_from-e.ensures.0 (search rules) (search rules) past_heading
-    (past_lines c.args.criterion c.args.count (take c.args.many c.args.numbers)) (short) (sym c.is_word.ensures ∙ c.if-is_word.true))
+    (past_lines c.args.criterion c.args.count (take c.args.many c.args.numbers)) short (sym c.is_word.ensures ∙ c.if-is_word.true))
     c.read_pasts.ensures
 
 pub returns : goal.returns
@@ -34,5 +34,5 @@ returns c =
     refused _ c.refuse-2.result c.args.rows.now 2 c.args.first c.args.from (c.find_from-e.result - c.args.from) c.refuse-2.ensures
     (pasts-part c.args.criterion c.args.count (take c.args.many c.args.numbers) c.args.first c.args.from _
     ∙ heading-not c.args.first c.args.text.now c.args.from c.find_from-e.result c.find_from-e.ensures.0 (search rules) (search rules) past_heading
-    (past_lines c.args.criterion c.args.count (take c.args.many c.args.numbers)) (short) (sym c.is_word.ensures ∙ c.if-is_word.false))
+    (past_lines c.args.criterion c.args.count (take c.args.many c.args.numbers)) short (sym c.is_word.ensures ∙ c.if-is_word.false))
     (λ z. absurd (omega arith))

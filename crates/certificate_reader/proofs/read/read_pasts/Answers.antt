@@ -36,13 +36,13 @@ loop-i-preserved c =
       omega (
         arith,
         read_short true c.args.count c.loop-i.i c.args.text.now c.loop-i.at c.loop-i.invariant.0 c.next_list-r.result c.next_list-r.ensures.0 c.next_list-r.ensures.1
-            (no-fault),
+            no-fault,
       ),
       search rules,
       search rules,
       length-set c.loop-i.pasts c.loop-i.i _ ∙ c.loop-i.invariant.3,
       pasts-more c.args.criterion c.args.count (take c.args.many c.args.numbers) c.args.text.now c.loop-i.invariant.4
-          (search rules) c.loop-i.invariant.0 c.next_list-r.result c.next_list-r.ensures.0 c.next_list-r.ensures.1 c.next_list-r.ensures.3 (no-fault)
+          (search rules) c.loop-i.invariant.0 c.next_list-r.result c.next_list-r.ensures.0 c.next_list-r.ensures.1 c.next_list-r.ensures.3 no-fault
           (search rules),
     )
 
@@ -54,7 +54,7 @@ read_view_part-requires c =
       c.loop-i.invariant.1,
       search rules,
       search rules,
-      c.loop-i.invariant.4.array-is ∙ ap (λ (ls : List (List ℕ)). pad 64 no_list (map event_list_of ls)) (sym (kept)),
+      c.loop-i.invariant.4.array-is ∙ ap (λ (ls : List (List ℕ)). pad 64 no_list (map event_list_of ls)) (sym kept),
     )
 
 pub returns : goal.returns
@@ -64,5 +64,5 @@ returns c =
     passed_on _ _ c.read_view_part.result _ c.args.rows.now
     (pasts-end c.args.criterion c.args.count (take c.args.many c.args.numbers) c.args.text.now c.loop-i.invariant.4 (search rules)
     ∙ ap (λ (ps : List (List ℕ)). views_from c.args.criterion c.args.count (take c.args.many c.args.numbers) ps c.loop-i.line c.loop-i.at (split 10 (drop c.loop-i.at c.args.text.now)))
-    (sym (kept)))
+    (sym kept))
     c.read_view_part.ensures

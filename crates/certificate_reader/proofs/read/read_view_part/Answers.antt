@@ -27,7 +27,7 @@ returns-then-is_word c =
     passed_on _ _ c.read_views.result _ c.args.rows.now
     (views-part c.args.criterion c.args.count (take c.args.many c.args.numbers) (map entries_in (take c.args.kept c.args.pasts)) c.args.first c.args.from _
     ∙ heading-is c.args.first c.args.text.now c.args.from c.find_from-e.result c.find_from-e.ensures.0 (search rules) (search rules) view_heading
-    (view_lines c.args.criterion c.args.count (take c.args.many c.args.numbers) (map entries_in (take c.args.kept c.args.pasts))) (short) (sym c.is_word.ensures ∙ c.if-is_word.true))
+    (view_lines c.args.criterion c.args.count (take c.args.many c.args.numbers) (map entries_in (take c.args.kept c.args.pasts))) short (sym c.is_word.ensures ∙ c.if-is_word.true))
     c.read_views.ensures
 
 pub returns : goal.returns
@@ -36,5 +36,5 @@ returns c =
     refused _ c.refuse-2.result c.args.rows.now 2 c.args.first c.args.from (c.find_from-e.result - c.args.from) c.refuse-2.ensures
     (views-part c.args.criterion c.args.count (take c.args.many c.args.numbers) (map entries_in (take c.args.kept c.args.pasts)) c.args.first c.args.from _
     ∙ heading-not c.args.first c.args.text.now c.args.from c.find_from-e.result c.find_from-e.ensures.0 (search rules) (search rules) view_heading
-    (view_lines c.args.criterion c.args.count (take c.args.many c.args.numbers) (map entries_in (take c.args.kept c.args.pasts))) (short) (sym c.is_word.ensures ∙ c.if-is_word.false))
+    (view_lines c.args.criterion c.args.count (take c.args.many c.args.numbers) (map entries_in (take c.args.kept c.args.pasts))) short (sym c.is_word.ensures ∙ c.if-is_word.false))
     (λ z. absurd (omega arith))

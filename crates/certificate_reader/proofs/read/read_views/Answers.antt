@@ -39,7 +39,7 @@ returns-then-fault-ne0 c =
     ∙ ap (λ (n : ℕ). next_read false c.args.count n c.loop-i.at (drop c.loop-i.at c.args.text.now)) (sym (get_or-take c.args.many c.args.numbers c.loop-i.i 0 h)) in
     refused _ c.refuse.result c.args.rows.now c.next_list-r.result.fault c.loop-i.line c.loop-i.at (c.next_list-r.result.end - c.loop-i.at) c.refuse.ensures
     (views-bad c.args.criterion c.args.count (take c.args.many c.args.numbers) (map entries_in (take c.args.kept c.args.pasts)) c.args.text.now c.loop-i.invariant.6
-    (next-number) c.loop-i.invariant.0 c.next_list-r.result (same_line) c.next_list-r.ensures.1 c.next_list-r.ensures.3 c.if-fault-ne0.true)
+    next-number c.loop-i.invariant.0 c.next_list-r.result same_line c.next_list-r.ensures.1 c.next_list-r.ensures.3 c.if-fault-ne0.true)
     c.if-fault-ne0.true
 
 pub overflow_cast-lengths : goal.overflow_cast-lengths
@@ -52,7 +52,7 @@ overflow_cast-lengths c =
     let no-fault : c.next_list-r.result.fault ≡ 0 = search rules in
     let few : c.next_list-r.result.list.count ≤ 64 = let k : c.next_list-r.result.list.count ≤ c.args.count =
     views-few c.args.criterion c.args.count (take c.args.many c.args.numbers) (map entries_in (take c.args.kept c.args.pasts)) c.args.text.now c.loop-i.invariant.6
-    (next-number) c.loop-i.invariant.0 c.next_list-r.result (same_line) c.next_list-r.ensures.1 c.next_list-r.ensures.3 (no-fault) in
+    next-number c.loop-i.invariant.0 c.next_list-r.result same_line c.next_list-r.ensures.1 c.next_list-r.ensures.3 no-fault in
     omega (arith, k, c.requires.2) in
     let h = few in omega arith
 
@@ -66,8 +66,8 @@ loop-i-preserved c =
     let no-fault : c.next_list-r.result.fault ≡ 0 = search rules in (
       omega (
         arith,
-        read_short false c.args.count (get_or (take c.args.many c.args.numbers) c.loop-i.i 0) c.args.text.now c.loop-i.at c.loop-i.invariant.0 c.next_list-r.result (same_line)
-            c.next_list-r.ensures.1 (no-fault),
+        read_short false c.args.count (get_or (take c.args.many c.args.numbers) c.loop-i.i 0) c.args.text.now c.loop-i.at c.loop-i.invariant.0 c.next_list-r.result same_line
+            c.next_list-r.ensures.1 no-fault,
       ),
       search rules,
       search rules,
@@ -75,7 +75,7 @@ loop-i-preserved c =
       length-set c.loop-i.read c.loop-i.i _ ∙ c.loop-i.invariant.4,
       length-set c.loop-i.lengths c.loop-i.i _ ∙ c.loop-i.invariant.5,
       views-more c.args.criterion c.args.count (take c.args.many c.args.numbers) (map entries_in (take c.args.kept c.args.pasts)) c.args.text.now c.loop-i.invariant.6
-          (next-number) c.loop-i.invariant.0 c.next_list-r.result (same_line) c.next_list-r.ensures.1 c.next_list-r.ensures.3 (no-fault)
+          next-number c.loop-i.invariant.0 c.next_list-r.result same_line c.next_list-r.ensures.1 c.next_list-r.ensures.3 no-fault
           (search rules),
     )
 

@@ -13,9 +13,9 @@ returns-then-not-good_row c = rw (sym c.good_row.ensures ∙ not-true _ c.if-not
 pub is_rising-requires : goal.is_rising-requires
 is_rising-requires c =
     let good : good_row c.args.count c.args.l.count c.args.l.events ≡ true = sym c.good_row.ensures ∙ not-false _ c.if-not-good_row.false-raw in
-    omega (arith, c.requires, row-few c.args.count c.args.l.count c.args.l.events (good))
+    omega (arith, c.requires, row-few c.args.count c.args.l.count c.args.l.events good)
 
 pub returns : goal.returns
 returns c =
     let good : good_row c.args.count c.args.l.count c.args.l.events ≡ true = sym c.good_row.ensures ∙ not-false _ c.if-not-good_row.false-raw in
-    rw (good) c.is_rising.ensures
+    rw good c.is_rising.ensures

@@ -23,7 +23,7 @@ slice_bounds-put_view_part-count c =
     let ms = view_part (take c.args.m c.args.numbers) (beginnings (take c.args.m c.args.lengths) (take c.args.m c.args.rows.now)) in
     writing-first (lines_text (ls ++ ms)) c.args.part.now (lines_text ls) (lines_text ms) c.requires.4 (lines-append ls ms) _ _
     c.put_past_part-a.ensures.0 c.put_past_part-a.ensures.1 in
-    writing-from (begun)
+    writing-from begun
 
 pub slice_bounds-put_view_part-start : goal.slice_bounds-put_view_part-start
 slice_bounds-put_view_part-start c =
@@ -33,7 +33,7 @@ slice_bounds-put_view_part-start c =
     let ms = view_part (take c.args.m c.args.numbers) (beginnings (take c.args.m c.args.lengths) (take c.args.m c.args.rows.now)) in
     writing-first (lines_text (ls ++ ms)) c.args.part.now (lines_text ls) (lines_text ms) c.requires.4 (lines-append ls ms) _ _
     c.put_past_part-a.ensures.0 c.put_past_part-a.ensures.1 in
-    writing-from (begun)
+    writing-from begun
 
 pub put_view_part-b-requires : goal.put_view_part-b-requires
 put_view_part-b-requires c =
@@ -43,7 +43,7 @@ put_view_part-b-requires c =
     let ms = view_part (take c.args.m c.args.numbers) (beginnings (take c.args.m c.args.lengths) (take c.args.m c.args.rows.now)) in
     writing-first (lines_text (ls ++ ms)) c.args.part.now (lines_text ls) (lines_text ms) c.requires.4 (lines-append ls ms) _ _
     c.put_past_part-a.ensures.0 c.put_past_part-a.ensures.1 in
-    (c.requires.2, c.requires.3, last-room (begun))
+    (c.requires.2, c.requires.3, last-room begun)
 
 pub overflow_add-result : goal.overflow_add-result
 overflow_add-result c =
@@ -53,7 +53,7 @@ overflow_add-result c =
     let ms = view_part (take c.args.m c.args.numbers) (beginnings (take c.args.m c.args.lengths) (take c.args.m c.args.rows.now)) in
     writing-first (lines_text (ls ++ ms)) c.args.part.now (lines_text ls) (lines_text ms) c.requires.4 (lines-append ls ms) _ _
     c.put_past_part-a.ensures.0 c.put_past_part-a.ensures.1 in
-    omega (arith, c.put_view_part-b.ensures.0, last_sum (begun))
+    omega (arith, c.put_view_part-b.ensures.0, last_sum begun)
 
 pub shape_of-part : goal.shape_of-part
 shape_of-part c =
@@ -63,7 +63,7 @@ shape_of-part c =
     let ms = view_part (take c.args.m c.args.numbers) (beginnings (take c.args.m c.args.lengths) (take c.args.m c.args.rows.now)) in
     writing-first (lines_text (ls ++ ms)) c.args.part.now (lines_text ls) (lines_text ms) c.requires.4 (lines-append ls ms) _ _
     c.put_past_part-a.ensures.0 c.put_past_part-a.ensures.1 in
-    last-length (begun) c.put_view_part-b.new.part c.put_view_part-b.ensures.1
+    last-length begun c.put_view_part-b.new.part c.put_view_part-b.ensures.1
 
 pub returns : goal.returns
 returns c =
@@ -73,5 +73,5 @@ returns c =
     let ms = view_part (take c.args.m c.args.numbers) (beginnings (take c.args.m c.args.lengths) (take c.args.m c.args.rows.now)) in
     writing-first (lines_text (ls ++ ms)) c.args.part.now (lines_text ls) (lines_text ms) c.requires.4 (lines-append ls ms) _ _
     c.put_past_part-a.ensures.0 c.put_past_part-a.ensures.1 in
-    last-part (begun) c.put_view_part-b.new.part c.put_view_part-b.ensures.1 c.put_view_part-b.result
+    last-part begun c.put_view_part-b.new.part c.put_view_part-b.ensures.1 c.put_view_part-b.result
     c.put_view_part-b.ensures.0

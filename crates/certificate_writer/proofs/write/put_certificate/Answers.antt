@@ -24,10 +24,10 @@ slice_bounds-put_both_parts-count c =
     (lines_text (past_part (pasts_in c.args.h.count c.args.c) ++ view_lines c.args.c c.args.rows.now c.view_numbers-views.result))
     c.put_criterion-a.new.part c.put_criterion-a.result = writing-first (certificate_text (events_in c.args.h) c.args.c c.args.rows.now) c.args.part.now (criterion_text c.args.c.criterion ++ 10 ∷ [])
     (lines_text (past_part (pasts_in c.args.h.count c.args.c) ++ view_lines c.args.c c.args.rows.now c.view_numbers-views.result)) c.requires.2
-    (text-with c.args.h c.args.c c.args.rows.now (events-long) c.requires.0 c.view_numbers-views.result c.view_numbers-views.ensures.0
+    (text-with c.args.h c.args.c c.args.rows.now events-long c.requires.0 c.view_numbers-views.result c.view_numbers-views.ensures.0
     (sym c.has_pasts.ensures ∙ c.if-has_pasts.true))
     _ _ c.put_criterion-a.ensures.0 c.put_criterion-a.ensures.1 in
-    writing-from (begun-with)
+    writing-from begun-with
 
 pub slice_bounds-put_both_parts-start : goal.slice_bounds-put_both_parts-start
 slice_bounds-put_both_parts-start c =
@@ -36,10 +36,10 @@ slice_bounds-put_both_parts-start c =
     (lines_text (past_part (pasts_in c.args.h.count c.args.c) ++ view_lines c.args.c c.args.rows.now c.view_numbers-views.result))
     c.put_criterion-a.new.part c.put_criterion-a.result = writing-first (certificate_text (events_in c.args.h) c.args.c c.args.rows.now) c.args.part.now (criterion_text c.args.c.criterion ++ 10 ∷ [])
     (lines_text (past_part (pasts_in c.args.h.count c.args.c) ++ view_lines c.args.c c.args.rows.now c.view_numbers-views.result)) c.requires.2
-    (text-with c.args.h c.args.c c.args.rows.now (events-long) c.requires.0 c.view_numbers-views.result c.view_numbers-views.ensures.0
+    (text-with c.args.h c.args.c c.args.rows.now events-long c.requires.0 c.view_numbers-views.result c.view_numbers-views.ensures.0
     (sym c.has_pasts.ensures ∙ c.if-has_pasts.true))
     _ _ c.put_criterion-a.ensures.0 c.put_criterion-a.ensures.1 in
-    writing-from (begun-with)
+    writing-from begun-with
 
 pub put_both_parts-b-requires : goal.put_both_parts-b-requires
 put_both_parts-b-requires c =
@@ -48,15 +48,15 @@ put_both_parts-b-requires c =
     (lines_text (past_part (pasts_in c.args.h.count c.args.c) ++ view_lines c.args.c c.args.rows.now c.view_numbers-views.result))
     c.put_criterion-a.new.part c.put_criterion-a.result = writing-first (certificate_text (events_in c.args.h) c.args.c c.args.rows.now) c.args.part.now (criterion_text c.args.c.criterion ++ 10 ∷ [])
     (lines_text (past_part (pasts_in c.args.h.count c.args.c) ++ view_lines c.args.c c.args.rows.now c.view_numbers-views.result)) c.requires.2
-    (text-with c.args.h c.args.c c.args.rows.now (events-long) c.requires.0 c.view_numbers-views.result c.view_numbers-views.ensures.0
+    (text-with c.args.h c.args.c c.args.rows.now events-long c.requires.0 c.view_numbers-views.result c.view_numbers-views.ensures.0
     (sym c.has_pasts.ensures ∙ c.if-has_pasts.true))
     _ _ c.put_criterion-a.ensures.0 c.put_criterion-a.ensures.1 in (
       c.requires.0,
-      pasts-short c.args.h c.args.c c.args.rows.now (events-long) c.requires.0 c.view_numbers-views.result c.view_numbers-views.ensures.0 c.requires.1
+      pasts-short c.args.h c.args.c c.args.rows.now events-long c.requires.0 c.view_numbers-views.result c.view_numbers-views.ensures.0 c.requires.1
           (sym c.has_pasts.ensures ∙ c.if-has_pasts.true),
       c.view_numbers-views.ensures.1,
-      views-short c.args.h c.args.c c.args.rows.now (events-long) c.requires.0 c.view_numbers-views.result c.view_numbers-views.ensures.0 c.requires.1,
-      last-room (begun-with),
+      views-short c.args.h c.args.c c.args.rows.now events-long c.requires.0 c.view_numbers-views.result c.view_numbers-views.ensures.0 c.requires.1,
+      last-room begun-with,
     )
 
 pub overflow_add-result : goal.overflow_add-result
@@ -67,10 +67,10 @@ overflow_add-result c =
     (lines_text (past_part (pasts_in c.args.h.count c.args.c) ++ view_lines c.args.c c.args.rows.now c.view_numbers-views.result))
     c.put_criterion-a.new.part c.put_criterion-a.result = writing-first (certificate_text (events_in c.args.h) c.args.c c.args.rows.now) c.args.part.now (criterion_text c.args.c.criterion ++ 10 ∷ [])
     (lines_text (past_part (pasts_in c.args.h.count c.args.c) ++ view_lines c.args.c c.args.rows.now c.view_numbers-views.result)) c.requires.2
-    (text-with c.args.h c.args.c c.args.rows.now (events-long) c.requires.0 c.view_numbers-views.result c.view_numbers-views.ensures.0
+    (text-with c.args.h c.args.c c.args.rows.now events-long c.requires.0 c.view_numbers-views.result c.view_numbers-views.ensures.0
     (sym c.has_pasts.ensures ∙ c.if-has_pasts.true))
     _ _ c.put_criterion-a.ensures.0 c.put_criterion-a.ensures.1 in
-    omega (arith, part-short, c.put_both_parts-b.ensures.0, last_sum (begun-with))
+    omega (arith, part-short, c.put_both_parts-b.ensures.0, last_sum begun-with)
 
 pub shape_of-part-then-has_pasts : goal.shape_of-part-then-has_pasts
 shape_of-part-then-has_pasts c =
@@ -79,10 +79,10 @@ shape_of-part-then-has_pasts c =
     (lines_text (past_part (pasts_in c.args.h.count c.args.c) ++ view_lines c.args.c c.args.rows.now c.view_numbers-views.result))
     c.put_criterion-a.new.part c.put_criterion-a.result = writing-first (certificate_text (events_in c.args.h) c.args.c c.args.rows.now) c.args.part.now (criterion_text c.args.c.criterion ++ 10 ∷ [])
     (lines_text (past_part (pasts_in c.args.h.count c.args.c) ++ view_lines c.args.c c.args.rows.now c.view_numbers-views.result)) c.requires.2
-    (text-with c.args.h c.args.c c.args.rows.now (events-long) c.requires.0 c.view_numbers-views.result c.view_numbers-views.ensures.0
+    (text-with c.args.h c.args.c c.args.rows.now events-long c.requires.0 c.view_numbers-views.result c.view_numbers-views.ensures.0
     (sym c.has_pasts.ensures ∙ c.if-has_pasts.true))
     _ _ c.put_criterion-a.ensures.0 c.put_criterion-a.ensures.1 in
-    last-length (begun-with) c.put_both_parts-b.new.part c.put_both_parts-b.ensures.1
+    last-length begun-with c.put_both_parts-b.new.part c.put_both_parts-b.ensures.1
 
 pub returns-then-has_pasts : goal.returns-then-has_pasts
 returns-then-has_pasts c =
@@ -91,10 +91,10 @@ returns-then-has_pasts c =
     (lines_text (past_part (pasts_in c.args.h.count c.args.c) ++ view_lines c.args.c c.args.rows.now c.view_numbers-views.result))
     c.put_criterion-a.new.part c.put_criterion-a.result = writing-first (certificate_text (events_in c.args.h) c.args.c c.args.rows.now) c.args.part.now (criterion_text c.args.c.criterion ++ 10 ∷ [])
     (lines_text (past_part (pasts_in c.args.h.count c.args.c) ++ view_lines c.args.c c.args.rows.now c.view_numbers-views.result)) c.requires.2
-    (text-with c.args.h c.args.c c.args.rows.now (events-long) c.requires.0 c.view_numbers-views.result c.view_numbers-views.ensures.0
+    (text-with c.args.h c.args.c c.args.rows.now events-long c.requires.0 c.view_numbers-views.result c.view_numbers-views.ensures.0
     (sym c.has_pasts.ensures ∙ c.if-has_pasts.true))
     _ _ c.put_criterion-a.ensures.0 c.put_criterion-a.ensures.1 in
-    last-part (begun-with) c.put_both_parts-b.new.part c.put_both_parts-b.ensures.1 c.put_both_parts-b.result
+    last-part begun-with c.put_both_parts-b.new.part c.put_both_parts-b.ensures.1 c.put_both_parts-b.result
     c.put_both_parts-b.ensures.0
 
 pub slice_bounds-put_view_part-count : goal.slice_bounds-put_view_part-count
@@ -103,10 +103,10 @@ slice_bounds-put_view_part-count c =
     let begun-without : Writing (certificate_text (events_in c.args.h) c.args.c c.args.rows.now) c.args.part.now
     (lines_text (view_lines c.args.c c.args.rows.now c.view_numbers-views.result)) c.put_criterion-a.new.part c.put_criterion-a.result = writing-first (certificate_text (events_in c.args.h) c.args.c c.args.rows.now) c.args.part.now (criterion_text c.args.c.criterion ++ 10 ∷ [])
     (lines_text (view_lines c.args.c c.args.rows.now c.view_numbers-views.result)) c.requires.2
-    (text-without c.args.h c.args.c c.args.rows.now (events-long) c.requires.0 c.view_numbers-views.result c.view_numbers-views.ensures.0
+    (text-without c.args.h c.args.c c.args.rows.now events-long c.requires.0 c.view_numbers-views.result c.view_numbers-views.ensures.0
     (sym c.has_pasts.ensures ∙ c.if-has_pasts.false))
     _ _ c.put_criterion-a.ensures.0 c.put_criterion-a.ensures.1 in
-    writing-from (begun-without)
+    writing-from begun-without
 
 pub slice_bounds-put_view_part-start : goal.slice_bounds-put_view_part-start
 slice_bounds-put_view_part-start c =
@@ -114,10 +114,10 @@ slice_bounds-put_view_part-start c =
     let begun-without : Writing (certificate_text (events_in c.args.h) c.args.c c.args.rows.now) c.args.part.now
     (lines_text (view_lines c.args.c c.args.rows.now c.view_numbers-views.result)) c.put_criterion-a.new.part c.put_criterion-a.result = writing-first (certificate_text (events_in c.args.h) c.args.c c.args.rows.now) c.args.part.now (criterion_text c.args.c.criterion ++ 10 ∷ [])
     (lines_text (view_lines c.args.c c.args.rows.now c.view_numbers-views.result)) c.requires.2
-    (text-without c.args.h c.args.c c.args.rows.now (events-long) c.requires.0 c.view_numbers-views.result c.view_numbers-views.ensures.0
+    (text-without c.args.h c.args.c c.args.rows.now events-long c.requires.0 c.view_numbers-views.result c.view_numbers-views.ensures.0
     (sym c.has_pasts.ensures ∙ c.if-has_pasts.false))
     _ _ c.put_criterion-a.ensures.0 c.put_criterion-a.ensures.1 in
-    writing-from (begun-without)
+    writing-from begun-without
 
 pub put_view_part-b-requires : goal.put_view_part-b-requires
 put_view_part-b-requires c =
@@ -125,12 +125,12 @@ put_view_part-b-requires c =
     let begun-without : Writing (certificate_text (events_in c.args.h) c.args.c c.args.rows.now) c.args.part.now
     (lines_text (view_lines c.args.c c.args.rows.now c.view_numbers-views.result)) c.put_criterion-a.new.part c.put_criterion-a.result = writing-first (certificate_text (events_in c.args.h) c.args.c c.args.rows.now) c.args.part.now (criterion_text c.args.c.criterion ++ 10 ∷ [])
     (lines_text (view_lines c.args.c c.args.rows.now c.view_numbers-views.result)) c.requires.2
-    (text-without c.args.h c.args.c c.args.rows.now (events-long) c.requires.0 c.view_numbers-views.result c.view_numbers-views.ensures.0
+    (text-without c.args.h c.args.c c.args.rows.now events-long c.requires.0 c.view_numbers-views.result c.view_numbers-views.ensures.0
     (sym c.has_pasts.ensures ∙ c.if-has_pasts.false))
     _ _ c.put_criterion-a.ensures.0 c.put_criterion-a.ensures.1 in (
       c.view_numbers-views.ensures.1,
-      views-short c.args.h c.args.c c.args.rows.now (events-long) c.requires.0 c.view_numbers-views.result c.view_numbers-views.ensures.0 c.requires.1,
-      last-room (begun-without),
+      views-short c.args.h c.args.c c.args.rows.now events-long c.requires.0 c.view_numbers-views.result c.view_numbers-views.ensures.0 c.requires.1,
+      last-room begun-without,
     )
 
 pub overflow_add-result-2 : goal.overflow_add-result-2
@@ -140,10 +140,10 @@ overflow_add-result-2 c =
     let begun-without : Writing (certificate_text (events_in c.args.h) c.args.c c.args.rows.now) c.args.part.now
     (lines_text (view_lines c.args.c c.args.rows.now c.view_numbers-views.result)) c.put_criterion-a.new.part c.put_criterion-a.result = writing-first (certificate_text (events_in c.args.h) c.args.c c.args.rows.now) c.args.part.now (criterion_text c.args.c.criterion ++ 10 ∷ [])
     (lines_text (view_lines c.args.c c.args.rows.now c.view_numbers-views.result)) c.requires.2
-    (text-without c.args.h c.args.c c.args.rows.now (events-long) c.requires.0 c.view_numbers-views.result c.view_numbers-views.ensures.0
+    (text-without c.args.h c.args.c c.args.rows.now events-long c.requires.0 c.view_numbers-views.result c.view_numbers-views.ensures.0
     (sym c.has_pasts.ensures ∙ c.if-has_pasts.false))
     _ _ c.put_criterion-a.ensures.0 c.put_criterion-a.ensures.1 in
-    omega (arith, part-short, c.put_view_part-b.ensures.0, last_sum (begun-without))
+    omega (arith, part-short, c.put_view_part-b.ensures.0, last_sum begun-without)
 
 pub shape_of-part : goal.shape_of-part
 shape_of-part c =
@@ -151,10 +151,10 @@ shape_of-part c =
     let begun-without : Writing (certificate_text (events_in c.args.h) c.args.c c.args.rows.now) c.args.part.now
     (lines_text (view_lines c.args.c c.args.rows.now c.view_numbers-views.result)) c.put_criterion-a.new.part c.put_criterion-a.result = writing-first (certificate_text (events_in c.args.h) c.args.c c.args.rows.now) c.args.part.now (criterion_text c.args.c.criterion ++ 10 ∷ [])
     (lines_text (view_lines c.args.c c.args.rows.now c.view_numbers-views.result)) c.requires.2
-    (text-without c.args.h c.args.c c.args.rows.now (events-long) c.requires.0 c.view_numbers-views.result c.view_numbers-views.ensures.0
+    (text-without c.args.h c.args.c c.args.rows.now events-long c.requires.0 c.view_numbers-views.result c.view_numbers-views.ensures.0
     (sym c.has_pasts.ensures ∙ c.if-has_pasts.false))
     _ _ c.put_criterion-a.ensures.0 c.put_criterion-a.ensures.1 in
-    last-length (begun-without) c.put_view_part-b.new.part c.put_view_part-b.ensures.1
+    last-length begun-without c.put_view_part-b.new.part c.put_view_part-b.ensures.1
 
 pub returns : goal.returns
 returns c =
@@ -162,8 +162,8 @@ returns c =
     let begun-without : Writing (certificate_text (events_in c.args.h) c.args.c c.args.rows.now) c.args.part.now
     (lines_text (view_lines c.args.c c.args.rows.now c.view_numbers-views.result)) c.put_criterion-a.new.part c.put_criterion-a.result = writing-first (certificate_text (events_in c.args.h) c.args.c c.args.rows.now) c.args.part.now (criterion_text c.args.c.criterion ++ 10 ∷ [])
     (lines_text (view_lines c.args.c c.args.rows.now c.view_numbers-views.result)) c.requires.2
-    (text-without c.args.h c.args.c c.args.rows.now (events-long) c.requires.0 c.view_numbers-views.result c.view_numbers-views.ensures.0
+    (text-without c.args.h c.args.c c.args.rows.now events-long c.requires.0 c.view_numbers-views.result c.view_numbers-views.ensures.0
     (sym c.has_pasts.ensures ∙ c.if-has_pasts.false))
     _ _ c.put_criterion-a.ensures.0 c.put_criterion-a.ensures.1 in
-    last-part (begun-without) c.put_view_part-b.new.part c.put_view_part-b.ensures.1 c.put_view_part-b.result
+    last-part begun-without c.put_view_part-b.new.part c.put_view_part-b.ensures.1 c.put_view_part-b.result
     c.put_view_part-b.ensures.0

@@ -21,25 +21,25 @@ bounds-part-k c =
     let room : length (list_text (take c.args.n c.args.row)) < length c.args.part.now = omega (arith, c.requires.1, length-append (list_text (take c.args.n c.args.row)) (10 ∷ [])) in
     let listed : (c.put_list-k.result ≡ length (list_text (take c.args.n c.args.row))) × (c.put_list-k.new.part ≡ fill (list_text (take c.args.n c.args.row)) c.args.part.now) = rw (sym (items-are c.args.row c.widen-items.result c.args.n c.widen-items.ensures)) c.put_list-k.ensures in
     let r = room in
-    omega (arith, (listed).0, ap length (listed).1 ∙ fill-length (list_text (take c.args.n c.args.row)) c.args.part.now (omega arith))
+    omega (arith, listed.0, ap length listed.1 ∙ fill-length (list_text (take c.args.n c.args.row)) c.args.part.now (omega arith))
 
 pub overflow_add-result : goal.overflow_add-result
 overflow_add-result c =
     let room : length (list_text (take c.args.n c.args.row)) < length c.args.part.now = omega (arith, c.requires.1, length-append (list_text (take c.args.n c.args.row)) (10 ∷ [])) in
     let listed : (c.put_list-k.result ≡ length (list_text (take c.args.n c.args.row))) × (c.put_list-k.new.part ≡ fill (list_text (take c.args.n c.args.row)) c.args.part.now) = rw (sym (items-are c.args.row c.widen-items.result c.args.n c.widen-items.ensures)) c.put_list-k.ensures in
-    omega (arith, (listed).0, room)
+    omega (arith, listed.0, room)
 
 pub shape_of-part : goal.shape_of-part
 shape_of-part c =
     let room : length (list_text (take c.args.n c.args.row)) < length c.args.part.now = omega (arith, c.requires.1, length-append (list_text (take c.args.n c.args.row)) (10 ∷ [])) in
     let listed : (c.put_list-k.result ≡ length (list_text (take c.args.n c.args.row))) × (c.put_list-k.new.part ≡ fill (list_text (take c.args.n c.args.row)) c.args.part.now) = rw (sym (items-are c.args.row c.widen-items.result c.args.n c.widen-items.ensures)) c.put_list-k.ensures in
     let r = room in
-    simp length-set (ap length (listed).1 ∙ fill-length (list_text (take c.args.n c.args.row)) c.args.part.now (omega arith))
+    simp length-set (ap length listed.1 ∙ fill-length (list_text (take c.args.n c.args.row)) c.args.part.now (omega arith))
 
 pub returns : goal.returns
 returns c =
     let room : length (list_text (take c.args.n c.args.row)) < length c.args.part.now = omega (arith, c.requires.1, length-append (list_text (take c.args.n c.args.row)) (10 ∷ [])) in
     let listed : (c.put_list-k.result ≡ length (list_text (take c.args.n c.args.row))) × (c.put_list-k.new.part ≡ fill (list_text (take c.args.n c.args.row)) c.args.part.now) = rw (sym (items-are c.args.row c.widen-items.result c.args.n c.widen-items.ensures)) c.put_list-k.ensures in (
-      omega (arith, (listed).0, length-append (list_text (take c.args.n c.args.row)) (10 ∷ [])),
-      fill-byte (list_text (take c.args.n c.args.row)) c.args.part.now _ _ 10 (listed).0 (listed).1 (room),
+      omega (arith, listed.0, length-append (list_text (take c.args.n c.args.row)) (10 ∷ [])),
+      fill-byte (list_text (take c.args.n c.args.row)) c.args.part.now _ _ 10 listed.0 listed.1 room,
     )

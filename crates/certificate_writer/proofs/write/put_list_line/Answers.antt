@@ -20,39 +20,39 @@ slice_bounds-put_events-count c =
     let begun : Writing (list_line c.args.own (take c.args.n c.args.row) ++ 10 ∷ []) c.args.part.now (list_text (take c.args.n c.args.row) ++ 10 ∷ []) c.put_own-k.new.part c.put_own-k.result = let xs = take c.args.n c.args.row in
     writing-first (list_line c.args.own xs ++ 10 ∷ []) c.args.part.now (spell c.args.own ++ 32 ∷ []) (list_text xs ++ 10 ∷ []) c.requires.1
     (line-parts c.args.own xs) _ _ c.put_own-k.ensures.0 c.put_own-k.ensures.1 in
-    writing-from (begun)
+    writing-from begun
 
 pub slice_bounds-put_events-start : goal.slice_bounds-put_events-start
 slice_bounds-put_events-start c =
     let begun : Writing (list_line c.args.own (take c.args.n c.args.row) ++ 10 ∷ []) c.args.part.now (list_text (take c.args.n c.args.row) ++ 10 ∷ []) c.put_own-k.new.part c.put_own-k.result = let xs = take c.args.n c.args.row in
     writing-first (list_line c.args.own xs ++ 10 ∷ []) c.args.part.now (spell c.args.own ++ 32 ∷ []) (list_text xs ++ 10 ∷ []) c.requires.1
     (line-parts c.args.own xs) _ _ c.put_own-k.ensures.0 c.put_own-k.ensures.1 in
-    writing-from (begun)
+    writing-from begun
 
 pub put_events-m-requires : goal.put_events-m-requires
 put_events-m-requires c =
     let begun : Writing (list_line c.args.own (take c.args.n c.args.row) ++ 10 ∷ []) c.args.part.now (list_text (take c.args.n c.args.row) ++ 10 ∷ []) c.put_own-k.new.part c.put_own-k.result = let xs = take c.args.n c.args.row in
     writing-first (list_line c.args.own xs ++ 10 ∷ []) c.args.part.now (spell c.args.own ++ 32 ∷ []) (list_text xs ++ 10 ∷ []) c.requires.1
     (line-parts c.args.own xs) _ _ c.put_own-k.ensures.0 c.put_own-k.ensures.1 in
-    (search rules, last-room (begun))
+    (search rules, last-room begun)
 
 pub overflow_add-result : goal.overflow_add-result
 overflow_add-result c =
     let begun : Writing (list_line c.args.own (take c.args.n c.args.row) ++ 10 ∷ []) c.args.part.now (list_text (take c.args.n c.args.row) ++ 10 ∷ []) c.put_own-k.new.part c.put_own-k.result = let xs = take c.args.n c.args.row in
     writing-first (list_line c.args.own xs ++ 10 ∷ []) c.args.part.now (spell c.args.own ++ 32 ∷ []) (list_text xs ++ 10 ∷ []) c.requires.1
     (line-parts c.args.own xs) _ _ c.put_own-k.ensures.0 c.put_own-k.ensures.1 in
-    omega (arith, c.put_events-m.ensures.0, last_sum (begun))
+    omega (arith, c.put_events-m.ensures.0, last_sum begun)
 
 pub shape_of-part : goal.shape_of-part
 shape_of-part c =
     let begun : Writing (list_line c.args.own (take c.args.n c.args.row) ++ 10 ∷ []) c.args.part.now (list_text (take c.args.n c.args.row) ++ 10 ∷ []) c.put_own-k.new.part c.put_own-k.result = let xs = take c.args.n c.args.row in
     writing-first (list_line c.args.own xs ++ 10 ∷ []) c.args.part.now (spell c.args.own ++ 32 ∷ []) (list_text xs ++ 10 ∷ []) c.requires.1
     (line-parts c.args.own xs) _ _ c.put_own-k.ensures.0 c.put_own-k.ensures.1 in
-    last-length (begun) c.put_events-m.new.part c.put_events-m.ensures.1
+    last-length begun c.put_events-m.new.part c.put_events-m.ensures.1
 
 pub returns : goal.returns
 returns c =
     let begun : Writing (list_line c.args.own (take c.args.n c.args.row) ++ 10 ∷ []) c.args.part.now (list_text (take c.args.n c.args.row) ++ 10 ∷ []) c.put_own-k.new.part c.put_own-k.result = let xs = take c.args.n c.args.row in
     writing-first (list_line c.args.own xs ++ 10 ∷ []) c.args.part.now (spell c.args.own ++ 32 ∷ []) (list_text xs ++ 10 ∷ []) c.requires.1
     (line-parts c.args.own xs) _ _ c.put_own-k.ensures.0 c.put_own-k.ensures.1 in
-    last-part (begun) c.put_events-m.new.part c.put_events-m.ensures.1 c.put_events-m.result c.put_events-m.ensures.0
+    last-part begun c.put_events-m.new.part c.put_events-m.ensures.1 c.put_events-m.result c.put_events-m.ensures.0

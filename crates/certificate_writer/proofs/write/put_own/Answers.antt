@@ -34,5 +34,5 @@ pub returns : goal.returns
 returns c =
     let room : length (spell c.args.own) < length c.args.part.now = omega (arith, c.requires, length-append (spell c.args.own) (32 ∷ [])) in (
       omega (arith, c.put_number-k.ensures.0, length-append (spell c.args.own) (32 ∷ [])),
-      fill-byte (spell c.args.own) c.args.part.now _ _ 32 c.put_number-k.ensures.0 c.put_number-k.ensures.1 (room),
+      fill-byte (spell c.args.own) c.args.part.now _ _ 32 c.put_number-k.ensures.0 c.put_number-k.ensures.1 room,
     )

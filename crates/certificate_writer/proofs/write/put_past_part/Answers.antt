@@ -19,7 +19,7 @@ put_bytes-h-requires c =
     let few : c.args.k ≤ length c.args.pasts = let l : length c.args.pasts ≡ 64 = search rules in
     omega (arith, c.requires.0) in
     first-room (lines_text (past_part (map entries_in (take c.args.k c.args.pasts)))) c.args.part.now (past_heading ++ 10 ∷ [])
-    (lines_text (list_lines (count_from 0 c.args.k) (map entries_in (take c.args.k c.args.pasts)))) c.requires.2 (past-part c.args.pasts c.args.k (few))
+    (lines_text (list_lines (count_from 0 c.args.k) (map entries_in (take c.args.k c.args.pasts)))) c.requires.2 (past-part c.args.pasts c.args.k few)
 
 pub slice_bounds-put_pasts-count : goal.slice_bounds-put_pasts-count
 slice_bounds-put_pasts-count c =
@@ -28,8 +28,8 @@ slice_bounds-put_pasts-count c =
     let begun : Writing (lines_text (past_part (map entries_in (take c.args.k c.args.pasts)))) c.args.part.now
     (lines_text (list_lines (count_from 0 c.args.k) (map entries_in (take c.args.k c.args.pasts)))) c.put_bytes-h.new.part c.put_bytes-h.result = writing-first (lines_text (past_part (map entries_in (take c.args.k c.args.pasts)))) c.args.part.now (past_heading ++ 10 ∷ [])
     (lines_text (list_lines (count_from 0 c.args.k) (map entries_in (take c.args.k c.args.pasts)))) c.requires.2
-    (past-part c.args.pasts c.args.k (few)) _ _ c.put_bytes-h.ensures.0 c.put_bytes-h.ensures.1 in
-    writing-from (begun)
+    (past-part c.args.pasts c.args.k few) _ _ c.put_bytes-h.ensures.0 c.put_bytes-h.ensures.1 in
+    writing-from begun
 
 pub slice_bounds-put_pasts-start : goal.slice_bounds-put_pasts-start
 slice_bounds-put_pasts-start c =
@@ -38,8 +38,8 @@ slice_bounds-put_pasts-start c =
     let begun : Writing (lines_text (past_part (map entries_in (take c.args.k c.args.pasts)))) c.args.part.now
     (lines_text (list_lines (count_from 0 c.args.k) (map entries_in (take c.args.k c.args.pasts)))) c.put_bytes-h.new.part c.put_bytes-h.result = writing-first (lines_text (past_part (map entries_in (take c.args.k c.args.pasts)))) c.args.part.now (past_heading ++ 10 ∷ [])
     (lines_text (list_lines (count_from 0 c.args.k) (map entries_in (take c.args.k c.args.pasts)))) c.requires.2
-    (past-part c.args.pasts c.args.k (few)) _ _ c.put_bytes-h.ensures.0 c.put_bytes-h.ensures.1 in
-    writing-from (begun)
+    (past-part c.args.pasts c.args.k few) _ _ c.put_bytes-h.ensures.0 c.put_bytes-h.ensures.1 in
+    writing-from begun
 
 pub put_pasts-w-requires : goal.put_pasts-w-requires
 put_pasts-w-requires c =
@@ -48,8 +48,8 @@ put_pasts-w-requires c =
     let begun : Writing (lines_text (past_part (map entries_in (take c.args.k c.args.pasts)))) c.args.part.now
     (lines_text (list_lines (count_from 0 c.args.k) (map entries_in (take c.args.k c.args.pasts)))) c.put_bytes-h.new.part c.put_bytes-h.result = writing-first (lines_text (past_part (map entries_in (take c.args.k c.args.pasts)))) c.args.part.now (past_heading ++ 10 ∷ [])
     (lines_text (list_lines (count_from 0 c.args.k) (map entries_in (take c.args.k c.args.pasts)))) c.requires.2
-    (past-part c.args.pasts c.args.k (few)) _ _ c.put_bytes-h.ensures.0 c.put_bytes-h.ensures.1 in
-    (c.requires.0, c.requires.1, last-room (begun))
+    (past-part c.args.pasts c.args.k few) _ _ c.put_bytes-h.ensures.0 c.put_bytes-h.ensures.1 in
+    (c.requires.0, c.requires.1, last-room begun)
 
 pub overflow_add-result : goal.overflow_add-result
 overflow_add-result c =
@@ -58,8 +58,8 @@ overflow_add-result c =
     let begun : Writing (lines_text (past_part (map entries_in (take c.args.k c.args.pasts)))) c.args.part.now
     (lines_text (list_lines (count_from 0 c.args.k) (map entries_in (take c.args.k c.args.pasts)))) c.put_bytes-h.new.part c.put_bytes-h.result = writing-first (lines_text (past_part (map entries_in (take c.args.k c.args.pasts)))) c.args.part.now (past_heading ++ 10 ∷ [])
     (lines_text (list_lines (count_from 0 c.args.k) (map entries_in (take c.args.k c.args.pasts)))) c.requires.2
-    (past-part c.args.pasts c.args.k (few)) _ _ c.put_bytes-h.ensures.0 c.put_bytes-h.ensures.1 in
-    omega (arith, c.put_pasts-w.ensures.0, last_sum (begun))
+    (past-part c.args.pasts c.args.k few) _ _ c.put_bytes-h.ensures.0 c.put_bytes-h.ensures.1 in
+    omega (arith, c.put_pasts-w.ensures.0, last_sum begun)
 
 pub shape_of-part : goal.shape_of-part
 shape_of-part c =
@@ -68,8 +68,8 @@ shape_of-part c =
     let begun : Writing (lines_text (past_part (map entries_in (take c.args.k c.args.pasts)))) c.args.part.now
     (lines_text (list_lines (count_from 0 c.args.k) (map entries_in (take c.args.k c.args.pasts)))) c.put_bytes-h.new.part c.put_bytes-h.result = writing-first (lines_text (past_part (map entries_in (take c.args.k c.args.pasts)))) c.args.part.now (past_heading ++ 10 ∷ [])
     (lines_text (list_lines (count_from 0 c.args.k) (map entries_in (take c.args.k c.args.pasts)))) c.requires.2
-    (past-part c.args.pasts c.args.k (few)) _ _ c.put_bytes-h.ensures.0 c.put_bytes-h.ensures.1 in
-    last-length (begun) c.put_pasts-w.new.part c.put_pasts-w.ensures.1
+    (past-part c.args.pasts c.args.k few) _ _ c.put_bytes-h.ensures.0 c.put_bytes-h.ensures.1 in
+    last-length begun c.put_pasts-w.new.part c.put_pasts-w.ensures.1
 
 pub returns : goal.returns
 returns c =
@@ -78,5 +78,5 @@ returns c =
     let begun : Writing (lines_text (past_part (map entries_in (take c.args.k c.args.pasts)))) c.args.part.now
     (lines_text (list_lines (count_from 0 c.args.k) (map entries_in (take c.args.k c.args.pasts)))) c.put_bytes-h.new.part c.put_bytes-h.result = writing-first (lines_text (past_part (map entries_in (take c.args.k c.args.pasts)))) c.args.part.now (past_heading ++ 10 ∷ [])
     (lines_text (list_lines (count_from 0 c.args.k) (map entries_in (take c.args.k c.args.pasts)))) c.requires.2
-    (past-part c.args.pasts c.args.k (few)) _ _ c.put_bytes-h.ensures.0 c.put_bytes-h.ensures.1 in
-    last-part (begun) c.put_pasts-w.new.part c.put_pasts-w.ensures.1 c.put_pasts-w.result c.put_pasts-w.ensures.0
+    (past-part c.args.pasts c.args.k few) _ _ c.put_bytes-h.ensures.0 c.put_bytes-h.ensures.1 in
+    last-part begun c.put_pasts-w.new.part c.put_pasts-w.ensures.1 c.put_pasts-w.result c.put_pasts-w.ensures.0

@@ -22,7 +22,7 @@ slice_bounds-put_views-count c =
     Writing (lines_text (view_part (take c.args.m c.args.numbers) views)) c.args.part.now (lines_text (list_lines (take c.args.m c.args.numbers) views)) c.put_bytes-h.new.part c.put_bytes-h.result = let views = beginnings (take c.args.m c.args.lengths) (take c.args.m c.args.rows.now) in
     writing-first (lines_text (view_part (take c.args.m c.args.numbers) views)) c.args.part.now (view_heading ++ 10 ∷ [])
     (lines_text (list_lines (take c.args.m c.args.numbers) views)) c.requires.2 (view-part (take c.args.m c.args.numbers) views) _ _ c.put_bytes-h.ensures.0 c.put_bytes-h.ensures.1 in
-    writing-from (begun)
+    writing-from begun
 
 pub slice_bounds-put_views-start : goal.slice_bounds-put_views-start
 slice_bounds-put_views-start c =
@@ -30,7 +30,7 @@ slice_bounds-put_views-start c =
     Writing (lines_text (view_part (take c.args.m c.args.numbers) views)) c.args.part.now (lines_text (list_lines (take c.args.m c.args.numbers) views)) c.put_bytes-h.new.part c.put_bytes-h.result = let views = beginnings (take c.args.m c.args.lengths) (take c.args.m c.args.rows.now) in
     writing-first (lines_text (view_part (take c.args.m c.args.numbers) views)) c.args.part.now (view_heading ++ 10 ∷ [])
     (lines_text (list_lines (take c.args.m c.args.numbers) views)) c.requires.2 (view-part (take c.args.m c.args.numbers) views) _ _ c.put_bytes-h.ensures.0 c.put_bytes-h.ensures.1 in
-    writing-from (begun)
+    writing-from begun
 
 pub put_views-w-requires : goal.put_views-w-requires
 put_views-w-requires c =
@@ -38,7 +38,7 @@ put_views-w-requires c =
     Writing (lines_text (view_part (take c.args.m c.args.numbers) views)) c.args.part.now (lines_text (list_lines (take c.args.m c.args.numbers) views)) c.put_bytes-h.new.part c.put_bytes-h.result = let views = beginnings (take c.args.m c.args.lengths) (take c.args.m c.args.rows.now) in
     writing-first (lines_text (view_part (take c.args.m c.args.numbers) views)) c.args.part.now (view_heading ++ 10 ∷ [])
     (lines_text (list_lines (take c.args.m c.args.numbers) views)) c.requires.2 (view-part (take c.args.m c.args.numbers) views) _ _ c.put_bytes-h.ensures.0 c.put_bytes-h.ensures.1 in
-    (c.requires.0, c.requires.1, last-room (begun))
+    (c.requires.0, c.requires.1, last-room begun)
 
 pub overflow_add-result : goal.overflow_add-result
 overflow_add-result c =
@@ -46,7 +46,7 @@ overflow_add-result c =
     Writing (lines_text (view_part (take c.args.m c.args.numbers) views)) c.args.part.now (lines_text (list_lines (take c.args.m c.args.numbers) views)) c.put_bytes-h.new.part c.put_bytes-h.result = let views = beginnings (take c.args.m c.args.lengths) (take c.args.m c.args.rows.now) in
     writing-first (lines_text (view_part (take c.args.m c.args.numbers) views)) c.args.part.now (view_heading ++ 10 ∷ [])
     (lines_text (list_lines (take c.args.m c.args.numbers) views)) c.requires.2 (view-part (take c.args.m c.args.numbers) views) _ _ c.put_bytes-h.ensures.0 c.put_bytes-h.ensures.1 in
-    omega (arith, c.put_views-w.ensures.0, last_sum (begun))
+    omega (arith, c.put_views-w.ensures.0, last_sum begun)
 
 pub shape_of-part : goal.shape_of-part
 shape_of-part c =
@@ -54,7 +54,7 @@ shape_of-part c =
     Writing (lines_text (view_part (take c.args.m c.args.numbers) views)) c.args.part.now (lines_text (list_lines (take c.args.m c.args.numbers) views)) c.put_bytes-h.new.part c.put_bytes-h.result = let views = beginnings (take c.args.m c.args.lengths) (take c.args.m c.args.rows.now) in
     writing-first (lines_text (view_part (take c.args.m c.args.numbers) views)) c.args.part.now (view_heading ++ 10 ∷ [])
     (lines_text (list_lines (take c.args.m c.args.numbers) views)) c.requires.2 (view-part (take c.args.m c.args.numbers) views) _ _ c.put_bytes-h.ensures.0 c.put_bytes-h.ensures.1 in
-    last-length (begun) c.put_views-w.new.part c.put_views-w.ensures.1
+    last-length begun c.put_views-w.new.part c.put_views-w.ensures.1
 
 pub returns : goal.returns
 returns c =
@@ -62,4 +62,4 @@ returns c =
     Writing (lines_text (view_part (take c.args.m c.args.numbers) views)) c.args.part.now (lines_text (list_lines (take c.args.m c.args.numbers) views)) c.put_bytes-h.new.part c.put_bytes-h.result = let views = beginnings (take c.args.m c.args.lengths) (take c.args.m c.args.rows.now) in
     writing-first (lines_text (view_part (take c.args.m c.args.numbers) views)) c.args.part.now (view_heading ++ 10 ∷ [])
     (lines_text (list_lines (take c.args.m c.args.numbers) views)) c.requires.2 (view-part (take c.args.m c.args.numbers) views) _ _ c.put_bytes-h.ensures.0 c.put_bytes-h.ensures.1 in
-    last-part (begun) c.put_views-w.new.part c.put_views-w.ensures.1 c.put_views-w.result c.put_views-w.ensures.0
+    last-part begun c.put_views-w.new.part c.put_views-w.ensures.1 c.put_views-w.result c.put_views-w.ensures.0

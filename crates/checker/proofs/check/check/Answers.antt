@@ -19,7 +19,7 @@ check_records-finding-requires c =
 pub found-requires : goal.found-requires
 found-requires c =
     let no-fault : c.read_certificate-read.result.fault ≡ 0 = search rules in
-    few-objects c.args.history.now c.args.text.now c.read_certificate-read.result c.read_certificate-read.ensures.0 (no-fault) _ c.read_certificate-read.ensures.1
+    few-objects c.args.history.now c.args.text.now c.read_certificate-read.result c.read_certificate-read.ensures.0 no-fault _ c.read_certificate-read.ensures.1
 
 pub returns : goal.returns
 returns c =

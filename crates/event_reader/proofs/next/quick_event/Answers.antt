@@ -84,18 +84,18 @@ returns c h =
     subst (λ (k : ℕ). Stands (spell k ++ 32 ∷ []) c.args.from c.spaced_number-a.result.end c.args.text.now) e
     (spaced-stands _ _ _ c.spaced_number-a.result c.spaced_number-a.ensures (omega arith)) in
     let process-few : c.spaced_number-p.result.value < 8 = omega arith in
-    let process-stands : Stands (spell c.spaced_number-p.result.value ++ 32 ∷ []) c.spaced_number-a.result.end c.spaced_number-p.result.end c.args.text.now = spaced-stands _ _ _ c.spaced_number-p.result c.spaced_number-p.ensures (process-few) in
+    let process-stands : Stands (spell c.spaced_number-p.result.value ++ 32 ∷ []) c.spaced_number-a.result.end c.spaced_number-p.result.end c.args.text.now = spaced-stands _ _ _ c.spaced_number-p.result c.spaced_number-p.ensures process-few in
     let object-few : c.spaced_number-o.result.value < c.args.declared = omega arith in
-    let object-stands : Stands (spell c.spaced_number-o.result.value ++ 32 ∷ []) c.spaced_number-p.result.end c.spaced_number-o.result.end c.args.text.now = spaced-stands _ _ _ c.spaced_number-o.result c.spaced_number-o.ensures (object-few) in
+    let object-stands : Stands (spell c.spaced_number-o.result.value ++ 32 ∷ []) c.spaced_number-p.result.end c.spaced_number-o.result.end c.args.text.now = spaced-stands _ _ _ c.spaced_number-o.result c.spaced_number-o.ensures object-few in
     let value-told : (cond (takes_value c.op_at-w.result.op) (ltb c.value_at-v.result.value value_bound) (eqb c.value_at-v.result.value 0) ≡ true)
     × Stands (cond (takes_value c.op_at-w.result.op) (spell c.value_at-v.result.value) dash ++ 32 ∷ []) c.op_at-w.result.end c.value_at-v.result.end c.args.text.now = subst
     (λ (t : Bool). (cond t (ltb c.value_at-v.result.value value_bound) (eqb c.value_at-v.result.value 0) ≡ true)
     × Stands (cond t (spell c.value_at-v.result.value) dash ++ 32 ∷ []) c.op_at-w.result.end c.value_at-v.result.end c.args.text.now)
     c.takes_value.ensures (c.value_at-v.ensures (not-false _ c.if-not-v.false)) in
     fields-quick c.args.own c.args.objects c.args.declared c.spaced_number-p.result.value c.spaced_number-o.result.value
-    c.op_at-w.result.op c.value_at-v.result.value c.answer_at-s.result c.args.text.now c.requires.0 (declared-few)
-    (own-few) (own-stands) (process-few) (process-stands)
-    (object-few) (object-stands)
+    c.op_at-w.result.op c.value_at-v.result.value c.answer_at-s.result c.args.text.now c.requires.0 declared-few
+    own-few own-stands process-few process-stands
+    object-few object-stands
     (sym c.has_op.ensures ∙ not-false _ c.if-not-has_op.false-raw) (c.op_at-w.ensures (not-false _ c.if-not-w.false))
-    (value-told).0 (value-told).1
+    value-told.0 value-told.1
     (c.answer_at-s.ensures (not-false _ c.if-not-s.false)) (sym c.may_answer.ensures ∙ not-false _ c.if-not-may_answer.false-raw)

@@ -51,7 +51,7 @@ pub order_rows-rows-requires : goal.order_rows-rows-requires
 order_rows-rows-requires c =
     let few-views : length (view_numbers c.args.c.criterion (events_in c.args.h)) ≤ 64 = omega (arith, number-count c.view_numbers-viewed.result _ c.view_numbers-viewed.ensures.0, c.view_numbers-viewed.ensures.1) in (
       few-of c.args.h c.requires.0,
-      λ e k l. short-past c.args.h c.requires.0 c.args.c c.args.views.now c.requires.1 (few-views) k,
+      λ e k l. short-past c.args.h c.requires.0 c.args.c c.args.views.now c.requires.1 few-views k,
     )
 
 pub order_fault-a-requires : goal.order_fault-a-requires
@@ -67,17 +67,17 @@ returns-then-is_found c =
     let order-found : finding_of c.order_fault-a.result
     ≡ order_fault c.order_rows-rows.result c.program_rows-program.result (cond (has_pasts c.args.c.criterion) c.args.h.count 0) = c.order_fault-a.ensures
     ∙ ap (order_fault c.order_rows-rows.result c.program_rows-program.result) c.past_count-among.ensures in
-    order-answers c.args.h c.requires.0 c.args.c c.args.views.now c.requires.1 (few-views)
-    c.program_rows-program.result c.order_rows-rows.result (is-program) c.order_rows-rows.ensures
+    order-answers c.args.h c.requires.0 c.args.c c.args.views.now c.requires.1 few-views
+    c.program_rows-program.result c.order_rows-rows.result is-program c.order_rows-rows.ensures
     c.view_numbers-viewed.result c.view_numbers-viewed.ensures.0 c.processes_of-processes.result c.processes_of-processes.ensures
-    (finding_of c.order_fault-a.result) (order-found) (search rules)
+    (finding_of c.order_fault-a.result) order-found (search rules)
 
 pub view_fault-b-requires : goal.view_fault-b-requires
 view_fault-b-requires c =
     let few-views : length (view_numbers c.args.c.criterion (events_in c.args.h)) ≤ 64 = omega (arith, number-count c.view_numbers-viewed.result _ c.view_numbers-viewed.ensures.0, c.view_numbers-viewed.ensures.1) in (
       c.view_numbers-viewed.ensures.1,
       few-of c.args.h c.requires.0,
-      short-views c.args.h c.requires.0 c.args.c c.args.views.now c.requires.1 (few-views) c.view_numbers-viewed.result.count c.view_numbers-viewed.ensures.1,
+      short-views c.args.h c.requires.0 c.args.c c.args.views.now c.requires.1 few-views c.view_numbers-viewed.result.count c.view_numbers-viewed.ensures.1,
       omega (arith, c.strict_count-strict.ensures, no-more-views (is_strict c.args.c.criterion) c.view_numbers-viewed.result.count),
     )
 
@@ -96,10 +96,10 @@ returns-then-is_found-2 c =
     (cond (is_strict c.args.c.criterion) c.view_numbers-viewed.result.count 0) c.args.h.count = c.view_fault-b.ensures
     ∙ ap₂ (λ (b : Bool) (n : ℕ). view_fault b c.args.views.now c.args.c.lengths c.view_numbers-viewed.result.numbers c.order_rows-rows.result c.processes_of-processes.result c.view_numbers-viewed.result.count n c.args.h.count)
     c.event_each-each.ensures c.strict_count-strict.ensures in
-    view-answers c.args.h c.requires.0 c.args.c c.args.views.now c.requires.1 (few-views)
-    c.program_rows-program.result c.order_rows-rows.result (is-program) c.order_rows-rows.ensures
+    view-answers c.args.h c.requires.0 c.args.c c.args.views.now c.requires.1 few-views
+    c.program_rows-program.result c.order_rows-rows.result is-program c.order_rows-rows.ensures
     c.view_numbers-viewed.result c.view_numbers-viewed.ensures.0 c.processes_of-processes.result c.processes_of-processes.ensures
-    (finding_of c.order_fault-a.result) (finding_of c.view_fault-b.result) (order-found) (none_found) (view-found) (sym c.is_found-2.ensures ∙ c.if-is_found-2.true)
+    (finding_of c.order_fault-a.result) (finding_of c.view_fault-b.result) order-found none_found view-found (sym c.is_found-2.ensures ∙ c.if-is_found-2.true)
 
 pub replay_fault-requires : goal.replay_fault-requires
 replay_fault-requires c =
@@ -107,7 +107,7 @@ replay_fault-requires c =
       c.requires.0,
       number-count c.view_numbers-viewed.result _ c.view_numbers-viewed.ensures.0,
       c.view_numbers-viewed.ensures.1,
-      event-views c.args.h c.requires.0 c.args.c c.args.views.now c.requires.1 (few-views) c.view_numbers-viewed.result.count c.view_numbers-viewed.ensures.1,
+      event-views c.args.h c.requires.0 c.args.c c.args.views.now c.requires.1 few-views c.view_numbers-viewed.result.count c.view_numbers-viewed.ensures.1,
       λ k l. number_at c.view_numbers-viewed.result _ c.view_numbers-viewed.ensures.0 k,
     )
 
@@ -127,7 +127,7 @@ returns c =
     ∙ ap₂ (λ (b : Bool) (n : ℕ). view_fault b c.args.views.now c.args.c.lengths c.view_numbers-viewed.result.numbers c.order_rows-rows.result c.processes_of-processes.result c.view_numbers-viewed.result.count n c.args.h.count)
     c.event_each-each.ensures c.strict_count-strict.ensures in
     let no-view : is_found (finding_of c.view_fault-b.result) ≡ false = search rules in
-    replay-answers c.args.h c.requires.0 c.args.c c.args.views.now c.requires.1 (few-views)
-    c.program_rows-program.result c.order_rows-rows.result (is-program) c.order_rows-rows.ensures
+    replay-answers c.args.h c.requires.0 c.args.c c.args.views.now c.requires.1 few-views
+    c.program_rows-program.result c.order_rows-rows.result is-program c.order_rows-rows.ensures
     c.view_numbers-viewed.result c.view_numbers-viewed.ensures.0 c.processes_of-processes.result c.processes_of-processes.ensures
-    (finding_of c.order_fault-a.result) (finding_of c.view_fault-b.result) (finding_of c.replay_fault.result) (order-found) (none_found) (view-found) (no-view) c.replay_fault.ensures
+    (finding_of c.order_fault-a.result) (finding_of c.view_fault-b.result) (finding_of c.replay_fault.result) order-found none_found view-found no-view c.replay_fault.ensures

@@ -52,10 +52,10 @@ overflow_cast-n c =
     let ready : (k : ℕ) → k < c.args.m
     → Ready c.args.h.objects c.args.h.count c.light_events-events.result
     c.values_of-values.result c.counts_of-counts.result c.starts-begin.result
-    (get_or c.args.views.now k []) (get_or c.args.lengths k 0) = view-ready (taken) c.args.c c.args.views.now c.args.lengths c.args.numbers c.args.m c.requires in
+    (get_or c.args.views.now k []) (get_or c.args.lengths k 0) = view-ready taken c.args.c c.args.views.now c.args.lengths c.args.numbers c.args.m c.requires in
     let converges : is_converge c.args.c ≡ true = search rules in
-    let first-view : 0 < c.args.m = view-there (taken) c.args.c c.args.views.now c.args.lengths c.args.numbers c.args.m c.requires (converges) in
-    let h = (ready 0 (first-view)).short in omega (arith, h)
+    let first-view : 0 < c.args.m = view-there taken c.args.c c.args.views.now c.args.lengths c.args.numbers c.args.m c.requires converges in
+    let h = (ready 0 first-view).short in omega (arith, h)
 
 pub first_wrong_cut-e-requires : goal.first_wrong_cut-e-requires
 first_wrong_cut-e-requires c =
@@ -74,10 +74,10 @@ first_wrong_cut-e-requires c =
     let ready : (k : ℕ) → k < c.args.m
     → Ready c.args.h.objects c.args.h.count c.light_events-events.result
     c.values_of-values.result c.counts_of-counts.result c.starts-begin.result
-    (get_or c.args.views.now k []) (get_or c.args.lengths k 0) = view-ready (taken) c.args.c c.args.views.now c.args.lengths c.args.numbers c.args.m c.requires in
+    (get_or c.args.views.now k []) (get_or c.args.lengths k 0) = view-ready taken c.args.c c.args.views.now c.args.lengths c.args.numbers c.args.m c.requires in
     let converges : is_converge c.args.c ≡ true = search rules in
-    let first-view : 0 < c.args.m = view-there (taken) c.args.c c.args.views.now c.args.lengths c.args.numbers c.args.m c.requires (converges) in
-    ready 0 (first-view)
+    let first-view : 0 < c.args.m = view-there taken c.args.c c.args.views.now c.args.lengths c.args.numbers c.args.m c.requires converges in
+    ready 0 first-view
 
 pub returns-then-e-lt64 : goal.returns-then-e-lt64
 returns-then-e-lt64 c =
@@ -95,7 +95,7 @@ returns-then-e-lt64 c =
     } in
     let converges : is_converge c.args.c ≡ true = search rules in
     let h : c.first_wrong_cut-e.result < 64 = search rules in
-    event-fault (taken) c.args.c c.args.views.now c.args.lengths c.args.numbers c.args.m c.requires c.args.rows.now (converges)
+    event-fault taken c.args.c c.args.views.now c.args.lengths c.args.numbers c.args.m c.requires c.args.rows.now converges
     c.first_wrong_cut-e.result c.first_wrong_cut-e.ensures h
 
 pub returns-then-is_converge : goal.returns-then-is_converge
@@ -114,7 +114,7 @@ returns-then-is_converge c =
     } in
     let converges : is_converge c.args.c ≡ true = search rules in
     let h : 64 ≤ c.first_wrong_cut-e.result = search rules in
-    event-nothing (taken) c.args.c c.args.views.now c.args.lengths c.args.numbers c.args.m c.requires c.args.rows.now (converges)
+    event-nothing taken c.args.c c.args.views.now c.args.lengths c.args.numbers c.args.m c.requires c.args.rows.now converges
     c.first_wrong_cut-e.result c.first_wrong_cut-e.ensures h
 
 pub first_wrong-place-requires : goal.first_wrong-place-requires
@@ -134,7 +134,7 @@ first_wrong-place-requires c =
     let ready : (k : ℕ) → k < c.args.m
     → Ready c.args.h.objects c.args.h.count c.light_events-events.result
     c.values_of-values.result c.counts_of-counts.result c.starts-begin.result
-    (get_or c.args.views.now k []) (get_or c.args.lengths k 0) = view-ready (taken) c.args.c c.args.views.now c.args.lengths c.args.numbers c.args.m c.requires in
+    (get_or c.args.views.now k []) (get_or c.args.lengths k 0) = view-ready taken c.args.c c.args.views.now c.args.lengths c.args.numbers c.args.m c.requires in
     (c.requires.2, ready)
 
 pub bounds-numbers-at : goal.bounds-numbers-at
@@ -153,8 +153,8 @@ bounds-numbers-at c =
     } in
     let not-converges : is_converge c.args.c ≡ false = search rules in
     let h : c.first_wrong-place.result.event < 64 = search rules in
-    place-below (taken) c.args.c c.args.views.now c.args.lengths c.args.numbers c.args.m c.requires (in_rows c.args.rows.now) c.visible_views-who.result
-    (not-converges) c.visible_views-who.ensures c.first_wrong-place.result c.first_wrong-place.ensures h
+    place-below taken c.args.c c.args.views.now c.args.lengths c.args.numbers c.args.m c.requires (in_rows c.args.rows.now) c.visible_views-who.result
+    not-converges c.visible_views-who.ensures c.first_wrong-place.result c.first_wrong-place.ensures h
 
 pub returns-then-e-lt64-2 : goal.returns-then-e-lt64-2
 returns-then-e-lt64-2 c =
@@ -172,8 +172,8 @@ returns-then-e-lt64-2 c =
     } in
     let not-converges : is_converge c.args.c ≡ false = search rules in
     let h : c.first_wrong-place.result.event < 64 = search rules in
-    place-fault (taken) c.args.c c.args.views.now c.args.lengths c.args.numbers c.args.m c.requires (in_rows c.args.rows.now) c.visible_views-who.result
-    (not-converges) c.visible_views-who.ensures c.first_wrong-place.result c.first_wrong-place.ensures h
+    place-fault taken c.args.c c.args.views.now c.args.lengths c.args.numbers c.args.m c.requires (in_rows c.args.rows.now) c.visible_views-who.result
+    not-converges c.visible_views-who.ensures c.first_wrong-place.result c.first_wrong-place.ensures h
 
 pub returns : goal.returns
 returns c =
@@ -191,5 +191,5 @@ returns c =
     } in
     let not-converges : is_converge c.args.c ≡ false = search rules in
     let h : 64 ≤ c.first_wrong-place.result.event = search rules in
-    place-nothing (taken) c.args.c c.args.views.now c.args.lengths c.args.numbers c.args.m c.requires (in_rows c.args.rows.now) c.visible_views-who.result
-    (not-converges) c.visible_views-who.ensures c.first_wrong-place.result c.first_wrong-place.ensures h
+    place-nothing taken c.args.c c.args.views.now c.args.lengths c.args.numbers c.args.m c.requires (in_rows c.args.rows.now) c.visible_views-who.result
+    not-converges c.visible_views-who.ensures c.first_wrong-place.result c.first_wrong-place.ensures h

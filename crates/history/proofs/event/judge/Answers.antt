@@ -21,4 +21,4 @@ returns c =
     let judged : c.first_fault-fault.result ≡ judged_fault c.args.numbered c.args.own c.args.process c.args.number c.args.known c.args.op c.args.value c.args.list c.args.object = c.first_fault-fault.ensures
     ∙ judged-is c.args.numbered c.args.own c.args.process c.args.number c.args.known c.args.op c.args.value c.args.list c.args.object _ _ _ _
     c.has_op.ensures c.takes_value.ensures c.fits_dash.ensures c.may_answer.ensures in
-    sym (with-event _ _ (sym (judged) ∙ search rules))
+    sym (with-event _ _ (sym judged ∙ search rules))

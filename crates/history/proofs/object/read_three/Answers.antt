@@ -23,4 +23,4 @@ returns c =
     c.read_kind-word.ensures.0 c.read_kind-word.ensures.1 c.width_bound-bound.ensures.0
     c.optional_field-width.ensures.0 c.has_width-wide.ensures c.fits_dash-fits.ensures in
     three-object c.args.own c.args.a.now c.args.k.now c.args.w.now _ _ _ c.read_kind-word.ensures.1
-    c.width_bound-bound.ensures.0 c.optional_field-width.ensures.0 (sym (judged) ∙ search rules)
+    c.width_bound-bound.ensures.0 c.optional_field-width.ensures.0 (sym judged ∙ search rules)

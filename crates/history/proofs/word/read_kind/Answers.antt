@@ -7,7 +7,7 @@ pub returns-then-is_word : goal.returns-then-is_word
 unfolding is_kind kind_of
 returns-then-is_word c =
     let e1 = sym c.is_word.ensures ∙ c.if-is_word.true in
-    (rw (e1), rw (e1))
+    (rw e1, rw e1)
 
 pub returns-then-is_word-2 : goal.returns-then-is_word-2
 unfolding is_kind kind_of

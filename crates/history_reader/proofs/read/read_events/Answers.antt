@@ -29,29 +29,29 @@ returns-then-fault-ne0 c =
 pub bounds-events-count : goal.bounds-events-count
 bounds-events-count c =
     let no-fault : c.next_event-r.result.fault ≡ 0 = search rules in
-    let own-few : c.loop-at.count < 64 = event-few _ _ _ _ c.next_event-r.result.end c.next_event-r.ensures.1 (search rules) c.next_event-r.result c.next_event-r.ensures.0 (no-fault) in
+    let own-few : c.loop-at.count < 64 = event-few _ _ _ _ c.next_event-r.result.end c.next_event-r.ensures.1 (search rules) c.next_event-r.result c.next_event-r.ensures.0 no-fault in
     own-few
 
 pub overflow_add-count : goal.overflow_add-count
 overflow_add-count c =
     let no-fault : c.next_event-r.result.fault ≡ 0 = search rules in
-    let own-few : c.loop-at.count < 64 = event-few _ _ _ _ c.next_event-r.result.end c.next_event-r.ensures.1 (search rules) c.next_event-r.result c.next_event-r.ensures.0 (no-fault) in
+    let own-few : c.loop-at.count < 64 = event-few _ _ _ _ c.next_event-r.result.end c.next_event-r.ensures.1 (search rules) c.next_event-r.result c.next_event-r.ensures.0 no-fault in
     omega (arith, own-few)
 
 pub loop-at-preserved : goal.loop-at-preserved
 loop-at-preserved c =
     let no-fault : c.next_event-r.result.fault ≡ 0 = search rules in
-    let own-few : c.loop-at.count < 64 = event-few _ _ _ _ c.next_event-r.result.end c.next_event-r.ensures.1 (search rules) c.next_event-r.result c.next_event-r.ensures.0 (no-fault) in
+    let own-few : c.loop-at.count < 64 = event-few _ _ _ _ c.next_event-r.result.end c.next_event-r.ensures.1 (search rules) c.next_event-r.result c.next_event-r.ensures.0 no-fault in
     let h = own-few in (
       omega (
         arith,
-        event-short _ _ _ _ c.next_event-r.result.end c.next_event-r.ensures.1 (search rules) c.next_event-r.result c.next_event-r.ensures.0 (no-fault),
+        event-short _ _ _ _ c.next_event-r.result.end c.next_event-r.ensures.1 (search rules) c.next_event-r.result c.next_event-r.ensures.0 no-fault,
       ),
       search rules,
       filled_more c.loop-at.invariant.2 c.next_event-r.result.event h,
       c.loop-at.invariant.3
           ∙ events-more c.loop-at.line c.args.text.now c.loop-at.at c.next_event-r.result.end c.next_event-r.ensures.1 (search rules) (search rules) _ (search rules)
-          c.next_event-r.result c.loop-at.count c.next_event-r.ensures.0 _ (filled-count c.loop-at.invariant.2) (no-fault)
+          c.next_event-r.result c.loop-at.count c.next_event-r.ensures.0 _ (filled-count c.loop-at.invariant.2) no-fault
           ∙ ap (λ (es : List Event). events_from (take c.args.declared c.args.objects) es (c.loop-at.line + 1) (c.next_event-r.result.end + 1) (split 10 (drop (c.next_event-r.result.end + 1) c.args.text.now)))
           (sym (filled-take c.loop-at.invariant.2 c.next_event-r.result.event h)),
     )
@@ -61,5 +61,5 @@ returns c =
     let declared-long : length (take c.args.declared c.args.objects) ≡ c.args.declared = let l : length c.args.objects ≡ 16 = search rules in
     length-take-le c.args.declared c.args.objects (omega (arith, c.requires.2)) in
     ap₂ (λ (p : Place) (h : History). record { fault = 0; place = p; history = h }) c.nowhere-place.ensures
-    (history-made c.args.objects c.args.declared c.loop-at.events c.loop-at.count c.requires.3 (declared-long) c.loop-at.invariant.2)
+    (history-made c.args.objects c.args.declared c.loop-at.events c.loop-at.count c.requires.3 declared-long c.loop-at.invariant.2)
     ∙ sym (c.loop-at.invariant.3 ∙ events-done _ _ c.loop-at.line c.args.text.now c.loop-at.at (search rules))

@@ -34,7 +34,7 @@ returns-then-is_word c =
     let less : c.find_from-e.result < length c.args.text.now = strict _ _ c.find_from-e.ensures.2 c.if-e-text.false in
     c.read_events.ensures
     ∙ sym (c.loop-objects.invariant.3
-    ∙ objects-heading c.loop-objects.line c.args.text.now c.loop-objects.a c.find_from-e.result c.find_from-e.ensures.0 (search rules) (search rules) _ (less) (sym c.is_word.ensures ∙ c.if-is_word.true))
+    ∙ objects-heading c.loop-objects.line c.args.text.now c.loop-objects.a c.find_from-e.result c.find_from-e.ensures.0 (search rules) (search rules) _ less (sym c.is_word.ensures ∙ c.if-is_word.true))
 
 pub returns-then-fault-ne0 : goal.returns-then-fault-ne0
 returns-then-fault-ne0 c =
@@ -45,7 +45,7 @@ returns-then-fault-ne0 c =
     (sym (filled-count c.loop-objects.invariant.2)) in
     c.refuse-then-fault-ne0.ensures
     ∙ sym (c.loop-objects.invariant.3
-    ∙ objects-bad c.loop-objects.line c.args.text.now c.loop-objects.a c.find_from-e.result c.find_from-e.ensures.0 (search rules) (search rules) _ (less) (sym c.is_word.ensures ∙ c.if-is_word.false) c.read_object-r.result (same_object) c.if-fault-ne0.true)
+    ∙ objects-bad c.loop-objects.line c.args.text.now c.loop-objects.a c.find_from-e.result c.find_from-e.ensures.0 (search rules) (search rules) _ less (sym c.is_word.ensures ∙ c.if-is_word.false) c.read_object-r.result same_object c.if-fault-ne0.true)
 
 pub bounds-objects-declared : goal.bounds-objects-declared
 bounds-objects-declared c =
@@ -73,7 +73,7 @@ loop-objects-preserved c =
       search rules,
       filled_more c.loop-objects.invariant.2 c.read_object-r.result.object h,
       c.loop-objects.invariant.3
-          ∙ objects-more c.loop-objects.line c.args.text.now c.loop-objects.a c.find_from-e.result c.find_from-e.ensures.0 (search rules) (search rules) _ (less) (sym c.is_word.ensures ∙ c.if-is_word.false) c.read_object-r.result (same_object) (no-fault)
+          ∙ objects-more c.loop-objects.line c.args.text.now c.loop-objects.a c.find_from-e.result c.find_from-e.ensures.0 (search rules) (search rules) _ less (sym c.is_word.ensures ∙ c.if-is_word.false) c.read_object-r.result same_object no-fault
           ∙ ap (λ (os : List Object). objects_from os (c.loop-objects.line + 1) (c.find_from-e.result + 1) (split 10 (drop (c.find_from-e.result + 1) c.args.text.now)))
           (sym (filled-take c.loop-objects.invariant.2 c.read_object-r.result.object h)),
     )

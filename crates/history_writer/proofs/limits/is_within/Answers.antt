@@ -14,5 +14,5 @@ pub returns : goal.returns
 returns c =
     let objects-long : length c.args.h.objects ≡ 16 = c.well_formed.0.1.1.0.1.0.1 in
     let events-long : length c.args.h.events ≡ 64 = c.well_formed.0.1.1.1.1.0.1.0.1 in
-    within-is c.args.h _ _ _ _ c.if-declared-gt16.false c.if-count-gt64.false (objects-long) (events-long)
+    within-is c.args.h _ _ _ _ c.if-declared-gt16.false c.if-count-gt64.false objects-long events-long
     c.good_objects-used.ensures c.good_events-said.ensures c.blank_objects-unused.ensures c.blank_events-unsaid.ensures

@@ -35,5 +35,5 @@ returns c =
     let room : length (field_text c.args.items.now c.args.field) < length c.args.part.now = omega (arith, c.requires, length-append (field_text c.args.items.now c.args.field) (c.args.behind ∷ [])) in
     let t = field_text c.args.items.now c.args.field in (
       omega (arith, c.put_field-k.ensures.0, length-append t (c.args.behind ∷ [])),
-      fill-byte t c.args.part.now _ _ c.args.behind c.put_field-k.ensures.0 c.put_field-k.ensures.1 (room),
+      fill-byte t c.args.part.now _ _ c.args.behind c.put_field-k.ensures.0 c.put_field-k.ensures.1 room,
     )

@@ -18,39 +18,39 @@ slice_bounds-put_events-count c =
     let begun : Writing (lines_text (event_heading ∷ event_lines 0 (take c.args.n c.args.events))) c.args.part.now (lines_text (event_lines 0 (take c.args.n c.args.events))) c.put_bytes-k.new.part c.put_bytes-k.result = let ls = event_lines 0 (take c.args.n c.args.events) in
     writing-first (lines_text (event_heading ∷ ls)) c.args.part.now (event_heading ++ 10 ∷ []) (lines_text ls) c.requires.2
     (lines_more event_heading ls) _ _ c.put_bytes-k.ensures.0 c.put_bytes-k.ensures.1 in
-    writing-from (begun)
+    writing-from begun
 
 pub slice_bounds-put_events-start : goal.slice_bounds-put_events-start
 slice_bounds-put_events-start c =
     let begun : Writing (lines_text (event_heading ∷ event_lines 0 (take c.args.n c.args.events))) c.args.part.now (lines_text (event_lines 0 (take c.args.n c.args.events))) c.put_bytes-k.new.part c.put_bytes-k.result = let ls = event_lines 0 (take c.args.n c.args.events) in
     writing-first (lines_text (event_heading ∷ ls)) c.args.part.now (event_heading ++ 10 ∷ []) (lines_text ls) c.requires.2
     (lines_more event_heading ls) _ _ c.put_bytes-k.ensures.0 c.put_bytes-k.ensures.1 in
-    writing-from (begun)
+    writing-from begun
 
 pub put_events-m-requires : goal.put_events-m-requires
 put_events-m-requires c =
     let begun : Writing (lines_text (event_heading ∷ event_lines 0 (take c.args.n c.args.events))) c.args.part.now (lines_text (event_lines 0 (take c.args.n c.args.events))) c.put_bytes-k.new.part c.put_bytes-k.result = let ls = event_lines 0 (take c.args.n c.args.events) in
     writing-first (lines_text (event_heading ∷ ls)) c.args.part.now (event_heading ++ 10 ∷ []) (lines_text ls) c.requires.2
     (lines_more event_heading ls) _ _ c.put_bytes-k.ensures.0 c.put_bytes-k.ensures.1 in
-    (c.requires.0, c.requires.1, last-room (begun))
+    (c.requires.0, c.requires.1, last-room begun)
 
 pub overflow_add-result : goal.overflow_add-result
 overflow_add-result c =
     let begun : Writing (lines_text (event_heading ∷ event_lines 0 (take c.args.n c.args.events))) c.args.part.now (lines_text (event_lines 0 (take c.args.n c.args.events))) c.put_bytes-k.new.part c.put_bytes-k.result = let ls = event_lines 0 (take c.args.n c.args.events) in
     writing-first (lines_text (event_heading ∷ ls)) c.args.part.now (event_heading ++ 10 ∷ []) (lines_text ls) c.requires.2
     (lines_more event_heading ls) _ _ c.put_bytes-k.ensures.0 c.put_bytes-k.ensures.1 in
-    omega (arith, c.put_events-m.ensures.0, last_sum (begun))
+    omega (arith, c.put_events-m.ensures.0, last_sum begun)
 
 pub shape_of-part : goal.shape_of-part
 shape_of-part c =
     let begun : Writing (lines_text (event_heading ∷ event_lines 0 (take c.args.n c.args.events))) c.args.part.now (lines_text (event_lines 0 (take c.args.n c.args.events))) c.put_bytes-k.new.part c.put_bytes-k.result = let ls = event_lines 0 (take c.args.n c.args.events) in
     writing-first (lines_text (event_heading ∷ ls)) c.args.part.now (event_heading ++ 10 ∷ []) (lines_text ls) c.requires.2
     (lines_more event_heading ls) _ _ c.put_bytes-k.ensures.0 c.put_bytes-k.ensures.1 in
-    last-length (begun) c.put_events-m.new.part c.put_events-m.ensures.1
+    last-length begun c.put_events-m.new.part c.put_events-m.ensures.1
 
 pub returns : goal.returns
 returns c =
     let begun : Writing (lines_text (event_heading ∷ event_lines 0 (take c.args.n c.args.events))) c.args.part.now (lines_text (event_lines 0 (take c.args.n c.args.events))) c.put_bytes-k.new.part c.put_bytes-k.result = let ls = event_lines 0 (take c.args.n c.args.events) in
     writing-first (lines_text (event_heading ∷ ls)) c.args.part.now (event_heading ++ 10 ∷ []) (lines_text ls) c.requires.2
     (lines_more event_heading ls) _ _ c.put_bytes-k.ensures.0 c.put_bytes-k.ensures.1 in
-    last-part (begun) c.put_events-m.new.part c.put_events-m.ensures.1 c.put_events-m.result c.put_events-m.ensures.0
+    last-part begun c.put_events-m.new.part c.put_events-m.ensures.1 c.put_events-m.result c.put_events-m.ensures.0

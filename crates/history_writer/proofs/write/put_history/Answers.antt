@@ -21,14 +21,14 @@ slice_bounds-put_event_half-count c =
     let begun : Writing (history_text c.args.h) c.args.part.now (lines_text (event_heading ∷ event_lines 0 (events_in c.args.h))) c.put_object_half-k.new.part
     c.put_object_half-k.result = writing-first (history_text c.args.h) c.args.part.now (lines_text (object_heading ∷ object_lines 0 (objects_in c.args.h)))
     (lines_text (event_heading ∷ event_lines 0 (events_in c.args.h))) c.requires.1 (halves c.args.h) _ _ c.put_object_half-k.ensures.0 c.put_object_half-k.ensures.1 in
-    writing-from (begun)
+    writing-from begun
 
 pub slice_bounds-put_event_half-start : goal.slice_bounds-put_event_half-start
 slice_bounds-put_event_half-start c =
     let begun : Writing (history_text c.args.h) c.args.part.now (lines_text (event_heading ∷ event_lines 0 (events_in c.args.h))) c.put_object_half-k.new.part
     c.put_object_half-k.result = writing-first (history_text c.args.h) c.args.part.now (lines_text (object_heading ∷ object_lines 0 (objects_in c.args.h)))
     (lines_text (event_heading ∷ event_lines 0 (events_in c.args.h))) c.requires.1 (halves c.args.h) _ _ c.put_object_half-k.ensures.0 c.put_object_half-k.ensures.1 in
-    writing-from (begun)
+    writing-from begun
 
 pub put_event_half-m-requires : goal.put_event_half-m-requires
 put_event_half-m-requires c =
@@ -36,26 +36,26 @@ put_event_half-m-requires c =
     c.put_object_half-k.result = writing-first (history_text c.args.h) c.args.part.now (lines_text (object_heading ∷ object_lines 0 (objects_in c.args.h)))
     (lines_text (event_heading ∷ event_lines 0 (events_in c.args.h))) c.requires.1 (halves c.args.h) _ _ c.put_object_half-k.ensures.0 c.put_object_half-k.ensures.1 in
     let l = within-limits c.args.h c.requires.0 in
-    (l.count, goods-short (objects_in c.args.h) (events_in c.args.h) l.events, last-room (begun))
+    (l.count, goods-short (objects_in c.args.h) (events_in c.args.h) l.events, last-room begun)
 
 pub overflow_add-result : goal.overflow_add-result
 overflow_add-result c =
     let begun : Writing (history_text c.args.h) c.args.part.now (lines_text (event_heading ∷ event_lines 0 (events_in c.args.h))) c.put_object_half-k.new.part
     c.put_object_half-k.result = writing-first (history_text c.args.h) c.args.part.now (lines_text (object_heading ∷ object_lines 0 (objects_in c.args.h)))
     (lines_text (event_heading ∷ event_lines 0 (events_in c.args.h))) c.requires.1 (halves c.args.h) _ _ c.put_object_half-k.ensures.0 c.put_object_half-k.ensures.1 in
-    omega (arith, c.put_event_half-m.ensures.0, last_sum (begun))
+    omega (arith, c.put_event_half-m.ensures.0, last_sum begun)
 
 pub shape_of-part : goal.shape_of-part
 shape_of-part c =
     let begun : Writing (history_text c.args.h) c.args.part.now (lines_text (event_heading ∷ event_lines 0 (events_in c.args.h))) c.put_object_half-k.new.part
     c.put_object_half-k.result = writing-first (history_text c.args.h) c.args.part.now (lines_text (object_heading ∷ object_lines 0 (objects_in c.args.h)))
     (lines_text (event_heading ∷ event_lines 0 (events_in c.args.h))) c.requires.1 (halves c.args.h) _ _ c.put_object_half-k.ensures.0 c.put_object_half-k.ensures.1 in
-    last-length (begun) c.put_event_half-m.new.part c.put_event_half-m.ensures.1
+    last-length begun c.put_event_half-m.new.part c.put_event_half-m.ensures.1
 
 pub returns : goal.returns
 returns c =
     let begun : Writing (history_text c.args.h) c.args.part.now (lines_text (event_heading ∷ event_lines 0 (events_in c.args.h))) c.put_object_half-k.new.part
     c.put_object_half-k.result = writing-first (history_text c.args.h) c.args.part.now (lines_text (object_heading ∷ object_lines 0 (objects_in c.args.h)))
     (lines_text (event_heading ∷ event_lines 0 (events_in c.args.h))) c.requires.1 (halves c.args.h) _ _ c.put_object_half-k.ensures.0 c.put_object_half-k.ensures.1 in
-    last-part (begun) c.put_event_half-m.new.part c.put_event_half-m.ensures.1 c.put_event_half-m.result
+    last-part begun c.put_event_half-m.new.part c.put_event_half-m.ensures.1 c.put_event_half-m.result
     c.put_event_half-m.ensures.0

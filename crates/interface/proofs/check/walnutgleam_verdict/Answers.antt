@@ -18,8 +18,8 @@ places_of-all-requires c =
 pub returns : goal.returns
 returns c =
     let checked : verdict_of c.check-v.result ≡ check_text c.args.history.now c.args.certificate.now = verdict-is c.args.history.now c.args.certificate.now c.check-v.result c.check-v.ensures in (
-      c.answer_number.ensures ∙ ap (λ (v : Verdict). v.number) (checked),
+      c.answer_number.ensures ∙ ap (λ (v : Verdict). v.number) checked,
       c.put_places.ensures
           ∙ ap (λ (l : List ℕ). placed l c.args.places.now) c.places_of-all.ensures
-          ∙ ap (λ (v : Verdict). placed (places_of v) c.args.places.now) (checked),
+          ∙ ap (λ (v : Verdict). placed (places_of v) c.args.places.now) checked,
     )

@@ -17,7 +17,7 @@ loop-i-init c = (search rules, search rules, ap length c.no_rows-rows.ensures, r
 pub marks-row-requires : goal.marks-row-requires
 marks-row-requires c =
     let next-i : c.loop-i.i < c.args.n = search rules in
-    let short : (d : EventList) → ShortList (get_or c.args.pasts c.loop-i.i d) = λ d. rw (any-default c.args.pasts c.loop-i.i d no_list (omega (arith, c.loop-i.invariant.1, c.requires.0, next-i))) (c.requires.1 c.loop-i.i (next-i)) in
+    let short : (d : EventList) → ShortList (get_or c.args.pasts c.loop-i.i d) = λ d. rw (any-default c.args.pasts c.loop-i.i d no_list (omega (arith, c.loop-i.invariant.1, c.requires.0, next-i))) (c.requires.1 c.loop-i.i next-i) in
     let s = short _ in (s.few, s.entries)
 
 pub loop-i-preserved : goal.loop-i-preserved

@@ -15,43 +15,43 @@ loop-i-init c =
 pub overflow_cast-p : goal.overflow_cast-p
 overflow_cast-p c =
     let next-i : c.loop-i.i < c.args.n = search rules in
-    let its-process : get_or c.args.processes c.loop-i.i 0 < 8 = c.requires.1 c.loop-i.i (next-i) in
+    let its-process : get_or c.args.processes c.loop-i.i 0 < 8 = c.requires.1 c.loop-i.i next-i in
     omega (arith, its-process)
 
 pub offset_bounds-earlier-p : goal.offset_bounds-earlier-p
 offset_bounds-earlier-p c =
     let next-i : c.loop-i.i < c.args.n = search rules in
-    let its-process : get_or c.args.processes c.loop-i.i 0 < 8 = c.requires.1 c.loop-i.i (next-i) in
+    let its-process : get_or c.args.processes c.loop-i.i 0 < 8 = c.requires.1 c.loop-i.i next-i in
     omega (arith, its-process)
 
 pub bounds-earlier-p : goal.bounds-earlier-p
 bounds-earlier-p c =
     let next-i : c.loop-i.i < c.args.n = search rules in
-    let its-process : get_or c.args.processes c.loop-i.i 0 < 8 = c.requires.1 c.loop-i.i (next-i) in
+    let its-process : get_or c.args.processes c.loop-i.i 0 < 8 = c.requires.1 c.loop-i.i next-i in
     its-process
 
 pub offset_bounds-earlier-p-in-loop-i : goal.offset_bounds-earlier-p-in-loop-i
 offset_bounds-earlier-p-in-loop-i c =
     let next-i : c.loop-i.i < c.args.n = search rules in
-    let its-process : get_or c.args.processes c.loop-i.i 0 < 8 = c.requires.1 c.loop-i.i (next-i) in
+    let its-process : get_or c.args.processes c.loop-i.i 0 < 8 = c.requires.1 c.loop-i.i next-i in
     omega (arith, its-process)
 
 pub bounds-earlier-p-in-loop-i : goal.bounds-earlier-p-in-loop-i
 bounds-earlier-p-in-loop-i c =
     let next-i : c.loop-i.i < c.args.n = search rules in
-    let its-process : get_or c.args.processes c.loop-i.i 0 < 8 = c.requires.1 c.loop-i.i (next-i) in
+    let its-process : get_or c.args.processes c.loop-i.i 0 < 8 = c.requires.1 c.loop-i.i next-i in
     its-process
 
 pub loop-i-preserved : goal.loop-i-preserved
 loop-i-preserved c =
     let next-i : c.loop-i.i < c.args.n = search rules in
-    let its-process : get_or c.args.processes c.loop-i.i 0 < 8 = c.requires.1 c.loop-i.i (next-i) in
+    let its-process : get_or c.args.processes c.loop-i.i 0 < 8 = c.requires.1 c.loop-i.i next-i in
     let p = get_or c.args.processes c.loop-i.i 0 in (
       search rules,
       length-set c.loop-i.rows c.loop-i.i _ ∙ c.loop-i.invariant.1,
       length-set c.loop-i.earlier p _ ∙ c.loop-i.invariant.2,
-      program-more c.args.processes c.loop-i.i c.loop-i.rows (get_or c.loop-i.earlier p 0) (omega (arith, c.loop-i.invariant.1, c.requires.0, next-i)) c.loop-i.invariant.3 (c.loop-i.invariant.4 p (its-process)),
-      earlier_more c.args.processes c.loop-i.i c.loop-i.earlier c.with_event.result c.loop-i.invariant.2 p refl (its-process) c.with_event.ensures c.loop-i.invariant.4,
+      program-more c.args.processes c.loop-i.i c.loop-i.rows (get_or c.loop-i.earlier p 0) (omega (arith, c.loop-i.invariant.1, c.requires.0, next-i)) c.loop-i.invariant.3 (c.loop-i.invariant.4 p its-process),
+      earlier_more c.args.processes c.loop-i.i c.loop-i.earlier c.with_event.result c.loop-i.invariant.2 p refl its-process c.with_event.ensures c.loop-i.invariant.4,
     )
 
 pub returns : goal.returns

@@ -15,19 +15,19 @@ loop-k-init c = (omega arith, below_none _)
 pub overflow_cast-length : goal.overflow_cast-length
 overflow_cast-length c =
     let next-k : c.loop-k.k < c.args.m = c.loop-k-test.true in
-    let few : get_or c.args.lengths c.loop-k.k 0 ≤ 64 = c.requires.1.few c.loop-k.k (next-k) in
+    let few : get_or c.args.lengths c.loop-k.k 0 ≤ 64 = c.requires.1.few c.loop-k.k next-k in
     omega (arith, few)
 
 pub against_order-requires : goal.against_order-requires
 against_order-requires c =
     let next-k : c.loop-k.k < c.args.m = c.loop-k-test.true in
-    let few : get_or c.args.lengths c.loop-k.k 0 ≤ 64 = c.requires.1.few c.loop-k.k (next-k) in
-    (few, c.requires.1.entries c.loop-k.k (next-k), c.requires.2 c.loop-k.k (next-k))
+    let few : get_or c.args.lengths c.loop-k.k 0 ≤ 64 = c.requires.1.few c.loop-k.k next-k in
+    (few, c.requires.1.entries c.loop-k.k next-k, c.requires.2 c.loop-k.k next-k)
 
 pub returns-then-against_order : goal.returns-then-against_order
 returns-then-against_order c =
     let next-k : c.loop-k.k < c.args.m = c.loop-k-test.true in
-    found-at (inverted c.args.views.now c.args.lengths c.args.rows.now) c.args.m c.loop-k.k (next-k) c.loop-k.invariant.1
+    found-at (inverted c.args.views.now c.args.lengths c.args.rows.now) c.args.m c.loop-k.k next-k c.loop-k.invariant.1
     (sym c.against_order.ensures ∙ c.if-against_order.true)
 
 pub loop-k-preserved : goal.loop-k-preserved

@@ -17,20 +17,20 @@ loop-k-init c = (omega arith, below_none _)
 pub overflow_cast-length : goal.overflow_cast-length
 overflow_cast-length c =
     let next-k : c.loop-k.k < c.args.m = c.loop-k-test.true in
-    let few : get_or c.args.lengths c.loop-k.k 0 ≤ 64 = c.requires.1.few c.loop-k.k (next-k) in
+    let few : get_or c.args.lengths c.loop-k.k 0 ≤ 64 = c.requires.1.few c.loop-k.k next-k in
     omega (arith, few)
 
 pub not_its_set-requires : goal.not_its_set-requires
 not_its_set-requires c =
     let next-k : c.loop-k.k < c.args.m = c.loop-k-test.true in
-    let few : get_or c.args.lengths c.loop-k.k 0 ≤ 64 = c.requires.1.few c.loop-k.k (next-k) in
-    (few, c.requires.1.entries c.loop-k.k (next-k))
+    let few : get_or c.args.lengths c.loop-k.k 0 ≤ 64 = c.requires.1.few c.loop-k.k next-k in
+    (few, c.requires.1.entries c.loop-k.k next-k)
 
 pub returns-then-not_its_set : goal.returns-then-not_its_set
 returns-then-not_its_set c =
     let next-k : c.loop-k.k < c.args.m = c.loop-k-test.true in
     let judged : not_past c.args.views.now c.args.lengths c.args.rows.now c.loop-k.k ≡ c.not_its_set.result = sym (c.not_its_set.ensures ∙ set_same 64 (in_row c.with_event-past.result) (λ f. in_rows c.args.rows.now f c.loop-k.k || eqb f c.loop-k.k) (view_at c.args.views.now c.args.lengths c.loop-k.k) c.with_event-past.ensures) in
-    found-at (not_past c.args.views.now c.args.lengths c.args.rows.now) c.args.m c.loop-k.k (next-k) c.loop-k.invariant.1
+    found-at (not_past c.args.views.now c.args.lengths c.args.rows.now) c.args.m c.loop-k.k next-k c.loop-k.invariant.1
     (judged ∙ c.if-not_its_set.true)
 
 pub loop-k-preserved : goal.loop-k-preserved

@@ -15,19 +15,19 @@ loop-k-init c = (omega arith, below_none _)
 pub overflow_cast-length : goal.overflow_cast-length
 overflow_cast-length c =
     let next-k : c.loop-k.k < c.args.m = c.loop-k-test.true in
-    let few : get_or c.args.lengths c.loop-k.k 0 ≤ 64 = c.requires.1.few c.loop-k.k (next-k) in
+    let few : get_or c.args.lengths c.loop-k.k 0 ≤ 64 = c.requires.1.few c.loop-k.k next-k in
     omega (arith, few)
 
 pub outside_past-requires : goal.outside_past-requires
 outside_past-requires c =
     let next-k : c.loop-k.k < c.args.m = c.loop-k-test.true in
-    let few : get_or c.args.lengths c.loop-k.k 0 ≤ 64 = c.requires.1.few c.loop-k.k (next-k) in
-    (few, c.requires.1.entries c.loop-k.k (next-k))
+    let few : get_or c.args.lengths c.loop-k.k 0 ≤ 64 = c.requires.1.few c.loop-k.k next-k in
+    (few, c.requires.1.entries c.loop-k.k next-k)
 
 pub returns-then-outside_past : goal.returns-then-outside_past
 returns-then-outside_past c =
     let next-k : c.loop-k.k < c.args.m = c.loop-k-test.true in
-    found-at (outside c.args.views.now c.args.lengths c.args.rows.now c.args.processes c.args.numbers) c.args.m c.loop-k.k (next-k) c.loop-k.invariant.1
+    found-at (outside c.args.views.now c.args.lengths c.args.rows.now c.args.processes c.args.numbers) c.args.m c.loop-k.k next-k c.loop-k.invariant.1
     (sym c.outside_past.ensures ∙ c.if-outside_past.true)
 
 pub loop-k-preserved : goal.loop-k-preserved

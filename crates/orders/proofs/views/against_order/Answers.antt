@@ -9,7 +9,7 @@ use Rattle.orders.proofs.views.against_order.Goals as goal
 pub loop-i-init : goal.loop-i-init
 loop-i-init c =
     let fits : c.args.n ≤ length c.args.view = let e : length c.args.view ≡ 64 = c.well_formed.0.1.0.1 in omega (arith, c.requires.0) in
-    (omega arith, walk_start c.args.rows.now c.args.view c.args.n _ (fits) c.requires.1 c.requires.2 c.marks-later.ensures)
+    (omega arith, walk_start c.args.rows.now c.args.view c.args.n _ fits c.requires.1 c.requires.2 c.marks-later.ensures)
 
 pub overflow_cast-x : goal.overflow_cast-x
 overflow_cast-x c =
@@ -29,7 +29,7 @@ bounds-rows-x c =
 pub returns-then-meets : goal.returns-then-meets
 returns-then-meets c =
     let fits : c.args.n ≤ length c.args.view = let e : length c.args.view ≡ 64 = c.well_formed.0.1.0.1 in omega (arith, c.requires.0) in
-    sym (walk-turn-stops c.args.view c.args.n c.loop-i.i c.loop-i-test.true (fits) c.args.rows.now (take c.args.n c.args.view) c.loop-i.later c.loop-i.invariant.1 (sym c.meets.ensures ∙ c.if-meets.true))
+    sym (walk-turn-stops c.args.view c.args.n c.loop-i.i c.loop-i-test.true fits c.args.rows.now (take c.args.n c.args.view) c.loop-i.later c.loop-i.invariant.1 (sym c.meets.ensures ∙ c.if-meets.true))
 
 pub without_event-later-requires : goal.without_event-later-requires
 without_event-later-requires c =
@@ -39,7 +39,7 @@ without_event-later-requires c =
 pub loop-i-preserved : goal.loop-i-preserved
 loop-i-preserved c =
     let fits : c.args.n ≤ length c.args.view = let e : length c.args.view ≡ 64 = c.well_formed.0.1.0.1 in omega (arith, c.requires.0) in
-    (omega arith, walk-turn-on c.args.view c.args.n c.loop-i.i c.loop-i-test.true (fits) c.args.rows.now (take c.args.n c.args.view) c.loop-i.later c.loop-i.invariant.1 (sym c.meets.ensures ∙ c.if-meets.false) c.without_event-later.result c.without_event-later.ensures)
+    (omega arith, walk-turn-on c.args.view c.args.n c.loop-i.i c.loop-i-test.true fits c.args.rows.now (take c.args.n c.args.view) c.loop-i.later c.loop-i.invariant.1 (sym c.meets.ensures ∙ c.if-meets.false) c.without_event-later.result c.without_event-later.ensures)
 
 pub returns : goal.returns
 returns c =

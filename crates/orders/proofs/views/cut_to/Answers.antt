@@ -19,7 +19,7 @@ loop-i-init c = (search rules, search rules, search rules, refl, refl)
 pub in_row-requires : goal.in_row-requires
 in_row-requires c =
     let next-i : c.loop-i.i < c.args.n = search rules in
-    let below : get_or c.args.view c.loop-i.i 0 < 64 = c.requires.1 c.loop-i.i (next-i) in
+    let below : get_or c.args.view c.loop-i.i 0 < 64 = c.requires.1 c.loop-i.i next-i in
     below
 
 pub overflow_add-count : goal.overflow_add-count

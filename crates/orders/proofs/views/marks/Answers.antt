@@ -23,7 +23,7 @@ with_event-row-requires c = number c
 pub loop-i-preserved : goal.loop-i-preserved
 loop-i-preserved c =
     let fits : c.args.n ≤ length c.args.view = let e : length c.args.view ≡ 64 = c.well_formed.0.1.0.1 in omega (arith, c.requires.0) in
-    (omega arith, mark-turn c.args.view c.args.n c.loop-i.i c.loop-i-test.true (fits) c.loop-i.row c.with_event-row.result c.with_event-row.ensures c.loop-i.invariant.1)
+    (omega arith, mark-turn c.args.view c.args.n c.loop-i.i c.loop-i-test.true fits c.loop-i.row c.with_event-row.result c.with_event-row.ensures c.loop-i.invariant.1)
 
 pub returns : goal.returns
 returns c e =

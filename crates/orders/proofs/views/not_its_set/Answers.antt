@@ -25,7 +25,7 @@ pub returns-then-not-in_row : goal.returns-then-not-in_row
 returns-then-not-in_row c =
     let number : get_or c.args.view c.loop-i.i 0 < 64 = c.requires.1 c.loop-i.i c.loop-i-test.true in
     let fits : c.args.n ≤ length c.args.view = let e : length c.args.view ≡ 64 = c.well_formed.0.1.0.1 in omega (arith, c.requires.0) in
-    sym (c.loop-i.invariant.1 ∙ set-turn-stops c.args.view c.args.n c.loop-i.i c.loop-i-test.true (fits) c.loop-i.left (number) (sym c.in_row.ensures ∙ not-true _ c.if-not-in_row.true-raw))
+    sym (c.loop-i.invariant.1 ∙ set-turn-stops c.args.view c.args.n c.loop-i.i c.loop-i-test.true fits c.loop-i.left number (sym c.in_row.ensures ∙ not-true _ c.if-not-in_row.true-raw))
 
 pub without_event-left-requires : goal.without_event-left-requires
 without_event-left-requires c =
@@ -36,7 +36,7 @@ pub loop-i-preserved : goal.loop-i-preserved
 loop-i-preserved c =
     let fits : c.args.n ≤ length c.args.view = let e : length c.args.view ≡ 64 = c.well_formed.0.1.0.1 in omega (arith, c.requires.0) in (
       omega arith,
-      c.loop-i.invariant.1 ∙ set-turn-on c.args.view c.args.n c.loop-i.i c.loop-i-test.true (fits) c.loop-i.left c.without_event-left.result (sym c.in_row.ensures ∙ not-false _ c.if-not-in_row.false-raw) c.without_event-left.ensures,
+      c.loop-i.invariant.1 ∙ set-turn-on c.args.view c.args.n c.loop-i.i c.loop-i-test.true fits c.loop-i.left c.without_event-left.result (sym c.in_row.ensures ∙ not-false _ c.if-not-in_row.false-raw) c.without_event-left.ensures,
     )
 
 pub returns : goal.returns

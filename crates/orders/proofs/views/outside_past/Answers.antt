@@ -45,10 +45,10 @@ loop-i-preserved c =
     let fits : c.args.n ≤ length c.args.view = let e : length c.args.view ≡ 64 = c.well_formed.0.1.0.1 in omega (arith, c.requires.0) in
     let own : ℕ → Bool = λ e. eqb (get_or c.args.processes e 0) c.args.p in (
       omega arith,
-      mark-turn c.args.view c.args.n c.loop-i.i c.loop-i-test.true (fits) c.loop-i.before c.with_event-before.result c.with_event-before.ensures c.loop-i.invariant.1,
+      mark-turn c.args.view c.args.n c.loop-i.i c.loop-i-test.true fits c.loop-i.before c.with_event-before.result c.with_event-before.ensures c.loop-i.invariant.1,
       ap (λ (b : Bool). c.loop-i.bad || b)
           (ap (λ (b : Bool). own (get_or c.args.view c.loop-i.i 0) && b) c.escapes.ensures
-          ∙ outside-turn c.args.rows.now own c.args.view c.args.n c.loop-i.i c.loop-i.before c.loop-i-test.true (fits) c.requires.1 c.loop-i.invariant.1)
+          ∙ outside-turn c.args.rows.now own c.args.view c.args.n c.loop-i.i c.loop-i.before c.loop-i-test.true fits c.requires.1 c.loop-i.invariant.1)
           ∙ any-turn (outside_at (in_rows c.args.rows.now) own c.args.view) c.loop-i.i c.loop-i.bad c.loop-i.invariant.2,
     )
 
@@ -57,4 +57,4 @@ returns c =
     let fits : c.args.n ≤ length c.args.view = let e : length c.args.view ≡ 64 = c.well_formed.0.1.0.1 in omega (arith, c.requires.0) in
     let own : ℕ → Bool = λ e. eqb (get_or c.args.processes e 0) c.args.p in
     any-end (outside_at (in_rows c.args.rows.now) own c.args.view) c.args.n c.loop-i.i c.loop-i.bad c.loop-i.invariant.0 (omega arith) c.loop-i.invariant.2
-    ∙ outside-end (in_rows c.args.rows.now) own c.args.view c.args.n (fits)
+    ∙ outside-end (in_rows c.args.rows.now) own c.args.view c.args.n fits

@@ -18,8 +18,8 @@ pub returns-then-own : goal.returns-then-own
 returns-then-own c =
     let place : ℕ = (get_or c.args.events c.args.e.0 no_light).object in
     let kept : List ℕ = keep (in_row c.args.row) (take c.args.n c.args.view) in
-    sym (whole_part c.args.objects c.args.size c.args.events c.args.values.now c.args.answers.now c.args.counts.now c.args.e.0 (place) c.args.start (kept)
-    (part-silent c.args.objects c.args.size c.args.events c.args.values.now c.args.answers.now c.args.counts.now c.args.e.0 (place) c.requires.own (c.requires.parts.silent c.args.e.0 c.requires.own c.if-own.true) c.args.start (kept)))
+    sym (whole_part c.args.objects c.args.size c.args.events c.args.values.now c.args.answers.now c.args.counts.now c.args.e.0 place c.args.start kept
+    (part-silent c.args.objects c.args.size c.args.events c.args.values.now c.args.answers.now c.args.counts.now c.args.e.0 place c.requires.own (c.requires.parts.silent c.args.e.0 c.requires.own c.if-own.true) c.args.start kept))
 
 pub cut_to-cut-requires : goal.cut_to-cut-requires
 cut_to-cut-requires c =
@@ -28,10 +28,10 @@ cut_to-cut-requires c =
 pub replay_object-requires : goal.replay_object-requires
 replay_object-requires c =
     let part-long : length c.cut_to-cut.result.events ≡ 64 = search rules in
-    part-ready c.args.objects c.args.size c.args.events c.args.values.now c.args.counts.now c.args.view c.args.n c.args.row c.args.e.0 c.args.start c.requires c.cut_to-cut.result (part-long) c.cut_to-cut.ensures
+    part-ready c.args.objects c.args.size c.args.events c.args.values.now c.args.counts.now c.args.view c.args.n c.args.row c.args.e.0 c.args.start c.requires c.cut_to-cut.result part-long c.cut_to-cut.ensures
 
 pub returns : goal.returns
 returns c =
     let place : ℕ = (get_or c.args.events c.args.e.0 no_light).object in
     c.replay_object.ensures
-    ∙ ap (one_wrong (light_history c.args.objects c.args.size c.args.events c.args.values.now c.args.answers.now c.args.counts.now) c.args.e.0 (place) (contents_of c.args.values.now c.args.start)) c.cut_to-cut.ensures.0
+    ∙ ap (one_wrong (light_history c.args.objects c.args.size c.args.events c.args.values.now c.args.answers.now c.args.counts.now) c.args.e.0 place (contents_of c.args.values.now c.args.start)) c.cut_to-cut.ensures.0

@@ -11,20 +11,20 @@ pub returns-then-many-count : goal.returns-then-many-count
 returns-then-many-count c =
     let numbers : length c.args.given.numbers ≡ 8 = c.well_formed.1.1.1.0.1.1.0.1.0.1 in
     let places : length c.args.answer ≡ 8 = c.well_formed.1.0.1.0.1 in
-    sym (same-counts c.args.values.now c.args.answer c.args.given c.args.count (places) (numbers) c.requires.1 c.requires.2 c.if-many-count.true)
+    sym (same-counts c.args.values.now c.args.answer c.args.given c.args.count places numbers c.requires.1 c.requires.2 c.if-many-count.true)
 
 pub loop-i-init : goal.loop-i-init
 loop-i-init c =
     let numbers : length c.args.given.numbers ≡ 8 = c.well_formed.1.1.1.0.1.1.0.1.0.1 in
     let places : length c.args.answer ≡ 8 = c.well_formed.1.0.1.0.1 in
-    (omega arith, same-starts c.args.values.now c.args.answer c.args.given c.args.count (places) (numbers) c.requires.1 c.requires.2 c.if-many-count.false)
+    (omega arith, same-starts c.args.values.now c.args.answer c.args.given c.args.count places numbers c.requires.1 c.requires.2 c.if-many-count.false)
 
 pub returns-then-answer-i : goal.returns-then-answer-i
 returns-then-answer-i c =
     let numbers : length c.args.given.numbers ≡ 8 = c.well_formed.1.1.1.0.1.1.0.1.0.1 in
     let places : length c.args.answer ≡ 8 = c.well_formed.1.0.1.0.1 in
     sym (c.loop-i.invariant.1
-    ∙ same_differs c.args.values.now c.args.answer c.args.given c.args.count (places) (numbers) c.requires.1 c.requires.2 c.loop-i.i c.value-v.result (omega arith) c.value-v.ensures c.if-answer-i.true)
+    ∙ same_differs c.args.values.now c.args.answer c.args.given c.args.count places numbers c.requires.1 c.requires.2 c.loop-i.i c.value-v.result (omega arith) c.value-v.ensures c.if-answer-i.true)
 
 pub loop-i-preserved : goal.loop-i-preserved
 loop-i-preserved c =
@@ -32,7 +32,7 @@ loop-i-preserved c =
     let places : length c.args.answer ≡ 8 = c.well_formed.1.0.1.0.1 in (
       omega arith,
       c.loop-i.invariant.1
-          ∙ same-agrees c.args.values.now c.args.answer c.args.given c.args.count (places) (numbers) c.requires.1 c.requires.2 c.loop-i.i c.value-v.result (omega arith) c.value-v.ensures c.if-answer-i.false,
+          ∙ same-agrees c.args.values.now c.args.answer c.args.given c.args.count places numbers c.requires.1 c.requires.2 c.loop-i.i c.value-v.result (omega arith) c.value-v.ensures c.if-answer-i.false,
     )
 
 pub returns : goal.returns
@@ -40,4 +40,4 @@ returns c =
     let numbers : length c.args.given.numbers ≡ 8 = c.well_formed.1.1.1.0.1.1.0.1.0.1 in
     let places : length c.args.answer ≡ 8 = c.well_formed.1.0.1.0.1 in
     sym (c.loop-i.invariant.1
-    ∙ same_ends c.args.values.now c.args.answer c.args.given c.args.count (places) (numbers) c.requires.1 c.requires.2 c.loop-i.i (omega arith))
+    ∙ same_ends c.args.values.now c.args.answer c.args.given c.args.count places numbers c.requires.1 c.requires.2 c.loop-i.i (omega arith))

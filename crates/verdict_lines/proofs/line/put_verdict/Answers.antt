@@ -17,5 +17,5 @@ returns c =
     let e = printed-is (verdict_of c.args.v) c.fields_of-fields.result c.fields_of-fields.ensures.0 in
     writing-first (printed (verdict_of c.args.v)) c.args.buf.now names left
     (omega (arith, c.requires.0, c.fields_of-fields.ensures.1, ap length e, length-append names left)) e _ _ c.put_bytes-k.ensures.0 c.put_bytes-k.ensures.1 in
-    let w = last-part (begun) c.put_values-m.new.part c.put_values-m.ensures.1 c.put_values-m.result c.put_values-m.ensures.0 in
+    let w = last-part begun c.put_values-m.new.part c.put_values-m.ensures.1 c.put_values-m.result c.put_values-m.ensures.0 in
     (w.0, w.1, omega (arith, c.put_values-m.ensures.0, c.put_bytes-k.ensures.0, c.fields_of-fields.ensures.1))

@@ -16,4 +16,4 @@ put_verdict-length-requires c =
 pub returns : goal.returns
 returns c =
     let checked : verdict_of c.check-v.result ≡ check_text c.args.history.now c.args.text.now = verdict-is c.args.history.now c.args.text.now c.check-v.result c.check-v.ensures in
-    printed-whole _ c.put_verdict-length.result _ c.put_verdict-length.ensures.0 c.put_verdict-length.ensures.1 ∙ ap printed_in (checked)
+    printed-whole _ c.put_verdict-length.result _ c.put_verdict-length.ensures.0 c.put_verdict-length.ensures.1 ∙ ap printed_in checked

@@ -18,7 +18,7 @@ pub offset_bounds-views-last : goal.offset_bounds-views-last
 offset_bounds-views-last c =
     let next-k : c.loop-k.k < c.args.m = search rules in
     let some-event : 0 < c.args.n = by-lt 0 c.args.n (λ h. h) (λ h. absurd (omega (arith, next-k, c.requires.2 (omega (arith, h))))) in
-    let last-small : c.last_of-last.result < c.args.n = let z = last-below c.args.n (λ e. eqb (get_or c.args.processes e 0) (get_or c.args.numbers c.loop-k.k 0)) (some-event) in
+    let last-small : c.last_of-last.result < c.args.n = let z = last-below c.args.n (λ e. eqb (get_or c.args.processes e 0) (get_or c.args.numbers c.loop-k.k 0)) some-event in
     omega (arith, z, c.last_of-last.ensures.0) in
     omega (arith, last-small, c.requires.0)
 
@@ -26,7 +26,7 @@ pub bounds-views-last : goal.bounds-views-last
 bounds-views-last c =
     let next-k : c.loop-k.k < c.args.m = search rules in
     let some-event : 0 < c.args.n = by-lt 0 c.args.n (λ h. h) (λ h. absurd (omega (arith, next-k, c.requires.2 (omega (arith, h))))) in
-    let last-small : c.last_of-last.result < c.args.n = let z = last-below c.args.n (λ e. eqb (get_or c.args.processes e 0) (get_or c.args.numbers c.loop-k.k 0)) (some-event) in
+    let last-small : c.last_of-last.result < c.args.n = let z = last-below c.args.n (λ e. eqb (get_or c.args.processes e 0) (get_or c.args.numbers c.loop-k.k 0)) some-event in
     omega (arith, z, c.last_of-last.ensures.0) in
     omega (arith, last-small, c.requires.0)
 
@@ -34,7 +34,7 @@ pub bounds-sizes-last : goal.bounds-sizes-last
 bounds-sizes-last c =
     let next-k : c.loop-k.k < c.args.m = search rules in
     let some-event : 0 < c.args.n = by-lt 0 c.args.n (λ h. h) (λ h. absurd (omega (arith, next-k, c.requires.2 (omega (arith, h))))) in
-    let last-small : c.last_of-last.result < c.args.n = let z = last-below c.args.n (λ e. eqb (get_or c.args.processes e 0) (get_or c.args.numbers c.loop-k.k 0)) (some-event) in
+    let last-small : c.last_of-last.result < c.args.n = let z = last-below c.args.n (λ e. eqb (get_or c.args.processes e 0) (get_or c.args.numbers c.loop-k.k 0)) some-event in
     omega (arith, z, c.last_of-last.ensures.0) in
     omega (arith, last-small, c.requires.0)
 
@@ -42,7 +42,7 @@ pub completed_view-whole-requires : goal.completed_view-whole-requires
 completed_view-whole-requires c =
     let next-k : c.loop-k.k < c.args.m = search rules in
     let some-event : 0 < c.args.n = by-lt 0 c.args.n (λ h. h) (λ h. absurd (omega (arith, next-k, c.requires.2 (omega (arith, h))))) in
-    let last-small : c.last_of-last.result < c.args.n = let z = last-below c.args.n (λ e. eqb (get_or c.args.processes e 0) (get_or c.args.numbers c.loop-k.k 0)) (some-event) in
+    let last-small : c.last_of-last.result < c.args.n = let z = last-below c.args.n (λ e. eqb (get_or c.args.processes e 0) (get_or c.args.numbers c.loop-k.k 0)) some-event in
     omega (arith, z, c.last_of-last.ensures.0) in
     let h = last-small in
     (c.requires.0, c.requires.3.few c.last_of-last.result h, c.requires.3.entries c.last_of-last.result h, c.requires.4 c.last_of-last.result h)
@@ -61,8 +61,8 @@ loop-k-preserved c =
       omega (arith, h),
       length-set c.loop-k.rows c.loop-k.k _ ∙ c.loop-k.invariant.1,
       length-set c.loop-k.counts c.loop-k.k _ ∙ c.loop-k.invariant.2,
-      row-set (completed_at c.args.n c.args.processes c.args.views.now c.args.sizes c.args.numbers) c.loop-k.k g c.completed_view-whole.result (whole_is) c.loop-k.rows c.loop-k.invariant.3,
-      length-set-in (completed_at c.args.n c.args.processes c.args.views.now c.args.sizes c.args.numbers) c.loop-k.k g c.completed_view-whole.result (whole_is) c.loop-k.counts c.loop-k.invariant.4,
+      row-set (completed_at c.args.n c.args.processes c.args.views.now c.args.sizes c.args.numbers) c.loop-k.k g c.completed_view-whole.result whole_is c.loop-k.rows c.loop-k.invariant.3,
+      length-set-in (completed_at c.args.n c.args.processes c.args.views.now c.args.sizes c.args.numbers) c.loop-k.k g c.completed_view-whole.result whole_is c.loop-k.counts c.loop-k.invariant.4,
     )
 
 pub returns : goal.returns

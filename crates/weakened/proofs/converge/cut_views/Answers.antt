@@ -37,8 +37,8 @@ loop-e-preserved c =
       omega (arith, h),
       length-set c.loop-e.rows c.loop-e.e _ ∙ c.loop-e.invariant.1,
       length-set c.loop-e.counts c.loop-e.e _ ∙ c.loop-e.invariant.2,
-      row-set (cut_at c.args.order.now c.args.view c.args.n) c.loop-e.e g c.list_of-part.result (part-is) c.loop-e.rows c.loop-e.invariant.3,
-      length-set-in (cut_at c.args.order.now c.args.view c.args.n) c.loop-e.e g c.list_of-part.result (part-is) c.loop-e.counts c.loop-e.invariant.4,
+      row-set (cut_at c.args.order.now c.args.view c.args.n) c.loop-e.e g c.list_of-part.result part-is c.loop-e.rows c.loop-e.invariant.3,
+      length-set-in (cut_at c.args.order.now c.args.view c.args.n) c.loop-e.e g c.list_of-part.result part-is c.loop-e.counts c.loop-e.invariant.4,
     )
 
 pub returns : goal.returns

@@ -12,5 +12,5 @@ cut_to-cut-requires c =
 pub returns : goal.returns
 returns c =
     let part-long : length c.cut_to-cut.result.events ≡ 64 = search rules in
-    rising-done c.args.row c.args.n c.all_events-all.result c.cut_to-cut.result c.list_of.result c.requires c.all_events-all.ensures (part-long)
+    rising-done c.args.row c.args.n c.all_events-all.result c.cut_to-cut.result c.list_of.result c.requires c.all_events-all.ensures part-long
     c.cut_to-cut.ensures.0 c.cut_to-cut.ensures.1 c.list_of.ensures

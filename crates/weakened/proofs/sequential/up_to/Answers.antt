@@ -10,10 +10,10 @@ pub returns-then-k-n : goal.returns-then-k-n
 returns-then-k-n c =
     let long : length c.args.view ≡ 64 = search rules in
     let l : c.place_of-k.result < c.args.n = search rules in
-    up-to-inside c.args.view c.args.n c.args.e c.place_of-k.result c.list_of.result c.requires.0 (long) c.place_of-k.ensures.0 l c.list_of.ensures
+    up-to-inside c.args.view c.args.n c.args.e c.place_of-k.result c.list_of.result c.requires.0 long c.place_of-k.ensures.0 l c.list_of.ensures
 
 pub returns : goal.returns
 returns c =
     let long : length c.args.view ≡ 64 = search rules in
     let l : c.args.n ≤ c.place_of-k.result = search rules in
-    up-to-whole c.args.view c.args.n c.args.e c.place_of-k.result c.list_of-2.result c.requires.0 (long) c.place_of-k.ensures.0 l c.list_of-2.ensures
+    up-to-whole c.args.view c.args.n c.args.e c.place_of-k.result c.list_of-2.result c.requires.0 long c.place_of-k.ensures.0 l c.list_of-2.ensures

@@ -30,8 +30,8 @@ loop-k-preserved c =
       omega (arith, h),
       search rules,
       search rules,
-      row-set (λ _. entries_in c.list_of-whole.result) c.loop-k.k k c.list_of-whole.result (whole_is) c.loop-k.rows c.loop-k.invariant.3,
-      length-set-in (λ _. entries_in c.list_of-whole.result) c.loop-k.k k c.list_of-whole.result (whole_is) c.loop-k.counts c.loop-k.invariant.4,
+      row-set (λ _. entries_in c.list_of-whole.result) c.loop-k.k k c.list_of-whole.result whole_is c.loop-k.rows c.loop-k.invariant.3,
+      length-set-in (λ _. entries_in c.list_of-whole.result) c.loop-k.k k c.list_of-whole.result whole_is c.loop-k.counts c.loop-k.invariant.4,
     )
 
 pub returns : goal.returns

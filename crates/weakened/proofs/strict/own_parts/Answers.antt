@@ -17,26 +17,26 @@ loop-e-init c = (search rules, refl, refl, no_rows, no_lengths)
 pub offset_bounds-views-at : goal.offset_bounds-views-at
 offset_bounds-views-at c =
     let next-e : c.loop-e.e < c.args.n = search rules in
-    let at_small : c.place_of-at.result < c.args.m = omega (arith, c.place_of-at.ensures.0, c.requires.3 c.loop-e.e (next-e)) in
+    let at_small : c.place_of-at.result < c.args.m = omega (arith, c.place_of-at.ensures.0, c.requires.3 c.loop-e.e next-e) in
     omega (arith, at_small, c.requires.1)
 
 pub bounds-views-at : goal.bounds-views-at
 bounds-views-at c =
     let next-e : c.loop-e.e < c.args.n = search rules in
-    let at_small : c.place_of-at.result < c.args.m = omega (arith, c.place_of-at.ensures.0, c.requires.3 c.loop-e.e (next-e)) in
+    let at_small : c.place_of-at.result < c.args.m = omega (arith, c.place_of-at.ensures.0, c.requires.3 c.loop-e.e next-e) in
     omega (arith, at_small, c.requires.1)
 
 pub bounds-sizes-at : goal.bounds-sizes-at
 bounds-sizes-at c =
     let next-e : c.loop-e.e < c.args.n = search rules in
-    let at_small : c.place_of-at.result < c.args.m = omega (arith, c.place_of-at.ensures.0, c.requires.3 c.loop-e.e (next-e)) in
+    let at_small : c.place_of-at.result < c.args.m = omega (arith, c.place_of-at.ensures.0, c.requires.3 c.loop-e.e next-e) in
     omega (arith, at_small, c.requires.1)
 
 pub up_to-part-requires : goal.up_to-part-requires
 up_to-part-requires c =
     let next-e : c.loop-e.e < c.args.n = search rules in
-    let at_small : c.place_of-at.result < c.args.m = omega (arith, c.place_of-at.ensures.0, c.requires.3 c.loop-e.e (next-e)) in
-    (c.requires.2 c.place_of-at.result (at_small), omega (arith, next-e, c.requires.0))
+    let at_small : c.place_of-at.result < c.args.m = omega (arith, c.place_of-at.ensures.0, c.requires.3 c.loop-e.e next-e) in
+    (c.requires.2 c.place_of-at.result at_small, omega (arith, next-e, c.requires.0))
 
 pub overflow_cast-counts : goal.overflow_cast-counts
 overflow_cast-counts c = omega (arith, c.up_to-part.ensures.1)
@@ -52,8 +52,8 @@ loop-e-preserved c =
       omega (arith, h),
       length-set c.loop-e.rows c.loop-e.e _ ∙ c.loop-e.invariant.1,
       length-set c.loop-e.counts c.loop-e.e _ ∙ c.loop-e.invariant.2,
-      row-set (part_at c.args.processes c.args.views.now c.args.sizes c.args.numbers c.args.m) c.loop-e.e g c.up_to-part.result (part-is) c.loop-e.rows c.loop-e.invariant.3,
-      length-set-in (part_at c.args.processes c.args.views.now c.args.sizes c.args.numbers c.args.m) c.loop-e.e g c.up_to-part.result (part-is) c.loop-e.counts c.loop-e.invariant.4,
+      row-set (part_at c.args.processes c.args.views.now c.args.sizes c.args.numbers c.args.m) c.loop-e.e g c.up_to-part.result part-is c.loop-e.rows c.loop-e.invariant.3,
+      length-set-in (part_at c.args.processes c.args.views.now c.args.sizes c.args.numbers c.args.m) c.loop-e.e g c.up_to-part.result part-is c.loop-e.counts c.loop-e.invariant.4,
     )
 
 pub returns : goal.returns

@@ -13,12 +13,12 @@ returns-then-fault-ne0 c =
 pub make_record-requires : goal.make_record-requires
 make_record-requires c =
     let read_all : c.read_certificate-read.result.fault ≡ 0 = search rules in (
-      within-read c.args.history.now c.args.text.now c.read_certificate-read.result c.read_certificate-read.ensures.0 (read_all) _ c.read_certificate-read.ensures.1,
-      fits_read c.args.history.now c.args.text.now c.read_certificate-read.result c.read_certificate-read.ensures.0 (read_all) _ c.read_certificate-read.ensures.1,
+      within-read c.args.history.now c.args.text.now c.read_certificate-read.result c.read_certificate-read.ensures.0 read_all _ c.read_certificate-read.ensures.1,
+      fits_read c.args.history.now c.args.text.now c.read_certificate-read.result c.read_certificate-read.ensures.0 read_all _ c.read_certificate-read.ensures.1,
     )
 
 pub returns : goal.returns
 returns c =
     let read_all : c.read_certificate-read.result.fault ≡ 0 = search rules in
-    texts-read c.args.wanted c.args.history.now c.args.text.now c.args.buffer.now c.read_certificate-read.result c.read_certificate-read.ensures.0 (read_all) _ c.read_certificate-read.ensures.1
+    texts-read c.args.wanted c.args.history.now c.args.text.now c.args.buffer.now c.read_certificate-read.result c.read_certificate-read.ensures.0 read_all _ c.read_certificate-read.ensures.1
     c.make_record.result _ c.make_record.ensures

@@ -26,7 +26,7 @@ returns-then-is_found c =
     let may : may_be_made c.args.c.criterion c.args.wanted ≡ true = sym c.may_be_made.ensures ∙ not-false c.may_be_made.result c.if-not-may_be_made.false-raw in
     let e : is_found (finding_of c.check_records-finding.result) ≡ true = sym c.is_found.ensures ∙ c.if-is_found.true in
     same_answer (ap (λ (x : Checked). record { checked = x; refusal = 0; length = 0 }) c.found-checked.ensures)
-    (faulty-record c.args.history.now c.args.h c.args.c c.args.views c.args.wanted c.args.buffer.now (may)
+    (faulty-record c.args.history.now c.args.h c.args.c c.args.views c.args.wanted c.args.buffer.now may
     c.check_records-finding.result c.check_records-finding.ensures e)
 
 pub crosses_wanted-requires : goal.crosses_wanted-requires
@@ -37,7 +37,7 @@ crosses_wanted-requires c =
       certificate = c.requires.1;
       passes = sym c.check_records-finding.ensures ∙ not_found (finding_of c.check_records-finding.result) (search rules);
     } in
-    let order : OrderWanted c.args.wanted c.args.h c.args.c = order-read c.args.history.now c.args.h c.args.c c.args.views c.args.wanted c.args.buffer.now (may) (passed) in
+    let order : OrderWanted c.args.wanted c.args.h c.args.c = order-read c.args.history.now c.args.h c.args.c c.args.views c.args.wanted c.args.buffer.now may passed in
     order
 
 pub returns-then-crosses_wanted : goal.returns-then-crosses_wanted
@@ -49,7 +49,7 @@ returns-then-crosses_wanted c =
       passes = sym c.check_records-finding.ensures ∙ not_found (finding_of c.check_records-finding.result) (search rules);
     } in
     same_answer c.answer-then-crosses_wanted.ensures
-    (crossed-record c.args.history.now c.args.h c.args.c c.args.views c.args.wanted c.args.buffer.now (may) (passed)
+    (crossed-record c.args.history.now c.args.h c.args.c c.args.views c.args.wanted c.args.buffer.now may passed
     (sym (c.crosses_wanted.ensures c.args.views) ∙ c.if-crosses_wanted.true))
 
 pub record_wanted-d-requires : goal.record_wanted-d-requires
@@ -60,7 +60,7 @@ record_wanted-d-requires c =
       certificate = c.requires.1;
       passes = sym c.check_records-finding.ensures ∙ not_found (finding_of c.check_records-finding.result) (search rules);
     } in
-    let order : OrderWanted c.args.wanted c.args.h c.args.c = order-read c.args.history.now c.args.h c.args.c c.args.views c.args.wanted c.args.buffer.now (may) (passed) in
+    let order : OrderWanted c.args.wanted c.args.h c.args.c = order-read c.args.history.now c.args.h c.args.c c.args.views c.args.wanted c.args.buffer.now may passed in
     (passed, order)
 
 pub returns : goal.returns
@@ -72,7 +72,7 @@ returns c =
       passes = sym c.check_records-finding.ensures ∙ not_found (finding_of c.check_records-finding.result) (search rules);
     } in
     same_answer c.answer-2.ensures
-    (written-record c.args.history.now c.args.h c.args.c c.args.views c.args.wanted c.args.buffer.now (may) (passed)
+    (written-record c.args.history.now c.args.h c.args.c c.args.views c.args.wanted c.args.buffer.now may passed
     (sym (c.crosses_wanted.ensures c.args.views) ∙ c.if-crosses_wanted.false)
     c.record_wanted-d.result _ c.record_wanted-d.ensures c.write_certificate-written.result _
     c.write_certificate-written.ensures.0 c.write_certificate-written.ensures.1)
