@@ -1,9 +1,4 @@
 -- `main` meets its contract: the lines are the first bytes of the array. Assumes nothing.
-use Rattle.walnutgleam.proofs.main.Reads as reads
-use Rattle.walnutgleam.proofs.main.Lts as lts
-use Rattle.io.proofs.write_all.Reads as write-all-reads
-use Rattle.verdict_lines.proofs.print.print_check.Reads as print-check-reads
-use Rattle.walnutgleam.proofs.read_file.Reads as read-file-reads
 use mathlib.Core.Path.{sym}
 use lib.Seq.{length-take-le}
 use Rattle.verdict_lines.proofs.PieceLaws.{printed-fits}
