@@ -1,8 +1,7 @@
 # make help            these lines
 # make run [DIR=..]    proves and builds the program and runs it on the two texts of a folder (samples/Q if none is named)
-# make test            the whole gate: formatting, every proof, must-fail edit and program, then the archive called from C and beside a
-#                      plain check, the console, the test suite and the programs on the compiler's back ends; its last line is
-#                      'N passed, 0 failed'
+# make test            the whole gate: layout, every proof, must-fail edit and program, then the archive called from C and beside a plain
+#                      check, the console, the test suite and the programs tried with checks; its last line is 'N passed, 0 failed'
 # make archive         proves and writes target/libwalnutgleam.a, which include/walnutgleam.h declares
 # make install         puts header, archive and a pkg-config file under PREFIX (/usr/local)
 # make bench           the time of a check beside a plain one in C (bench/plain.c), and the stack that each function takes
@@ -23,31 +22,25 @@ PROGRAMS = $(patsubst crates/%/src/main.rt,%,$(wildcard crates/*/src/main.rt))
 WEAKENED = samples/Q-sequential samples/Q-pram samples/R samples/W samples/C samples/Q samples/width-9 samples/lost \
            samples/channel samples/stack samples/Q-strict samples/W-outside-past
 
-.PHONY: help run test outside archive install calls console suite fuzz bench agree back_ends setup rt
+.PHONY: help run test outside archive install calls console suite fuzz bench agree tries setup rt
 
 help:
 	@sed -n '/^# make/,/^$$/s/^# //p' Makefile
 
-# `rt ci` removes target/ and proves all from nothing; what comes after it finds its crates proved. The line with which it ended is
-# written again at the very end, so that it stands last only where everything passed.
+# `rt ci`, the archive, and the targets of `outside`: tools/gate says how.
 test: setup
-	rt fmt --check
-	@log=$$(mktemp) && trap 'rm -f "$$log"' EXIT && rt ci 2>&1 | tee "$$log" && tail -n 1 "$$log" > target/verdict
-	$(MAKE) outside
-	@cat target/verdict
+	@tools/gate
 
+# What `rt ci` does not check. The gate calls it once the archive stands, with ARCHIVED=yes.
 outside:
-	$(MAKE) -j2 --output-sync=target calls agree console suite back_ends
+	$(MAKE) -j2 --output-sync=target calls agree console suite tries
 
 run: rt
 	@tools/prove walnutgleam >&2
-	@cd $(DIR) && $(CURDIR)/target/bin/walnutgleam
+	@cd $(DIR) && $(CURDIR)/crates/walnutgleam/out/walnutgleam
 
 archive: rt
-	@tools/prove weakener
-	@echo "Proving interface and writing $(ARCHIVE)"
-	@rt staticlib interface > target/archive.log 2>&1 || { cat target/archive.log; exit 1; }
-	@cp target/staticlib/libinterface.a $(ARCHIVE)
+	$(if $(ARCHIVED),,@tools/archive)
 
 # Header, archive and pkg-config file below the folder $(1), for programs that look for them below $(2).
 define put_below
@@ -107,10 +100,11 @@ agree: archive
 	cc $(CC_FLAGS) -O2 bench/agree.c $(BENCH) $(ARCHIVE) -o target/tests/agree
 	target/tests/agree 100 samples/*
 
-# Nothing proves the compiler's back end, so each program is run on the interpreter, compiled at -O0 and at -O3, and with LLVM's
-# assumptions checked; all must write what its file stdout has.
-back_ends: rt
-	for program in $(PROGRAMS); do rt try $$program; done
+# Nothing proves the compiler's back end. `rt ci` runs each program as LLVM builds it, at -O3, and as Rattle's own compiler does, and holds
+# both to its file stdout; that stands for the runs at -O0 and -O3 of older kits. Here each program is run once more, on the interpreter, where
+# it reads no file, and compiled with run-time checks.
+tries: rt
+	for program in $(PROGRAMS); do tools/try $$program; done
 
 # cargo comes with rustc.
 setup: rt

@@ -86,8 +86,7 @@ fn put_places(places: &mut [u32], all: [u32; 7])
 }
 
 // The answer of the check of two texts.
-#[unsafe(no_mangle)]
-pub extern "C" fn walnutgleam_check(history: &[u8], certificate: &[u8]) -> u32
+pub fn walnutgleam_check(history: &[u8], certificate: &[u8]) -> u32
     ensures { result ≡ (check_text history.now certificate.now).number }
 {
     let checked = check(history, certificate);
@@ -95,8 +94,7 @@ pub extern "C" fn walnutgleam_check(history: &[u8], certificate: &[u8]) -> u32
 }
 
 // The same answer; its places go into a lent slice.
-#[unsafe(no_mangle)]
-pub extern "C" fn walnutgleam_verdict(history: &[u8], certificate: &[u8], places: &mut [u32]) -> u32
+pub fn walnutgleam_verdict(history: &[u8], certificate: &[u8], places: &mut [u32]) -> u32
     ensures { (result ≡ (check_text history.now certificate.now).number) × (places.new ≡ placed (places_of (check_text history.now certificate.now)) places.old) }
 {
     let v = check(history, certificate);

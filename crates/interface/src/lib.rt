@@ -1,4 +1,5 @@
-// The C interface: functions that a C program calls by name. include/walnutgleam.h declares them.
+// The operations as numbers, lengths and bytes: what the C interface has. The crate interface_c exports them, and include/walnutgleam.h
+// declares them.
 
 #![tactic(auto)]
 

@@ -10,12 +10,7 @@ use history_reader::read::read_history;
 use history_writer::write::write_history;
 
 // A history text, into a lent buffer.
-#[unsafe(no_mangle)]
-pub extern "C" fn walnutgleam_rewrite_history(
-    history: &[u8],
-    buffer: &mut [u8],
-    length: &mut u64,
-) -> u32
+pub fn walnutgleam_rewrite_history(history: &[u8], buffer: &mut [u8], length: &mut u64) -> u32
     ensures { (result ≡ rewritten (read_history history.now).fault history.now buffer.old) × (buffer.new ≡ rewritten_bytes (read_history history.now).fault history.now buffer.old) × (length.new ≡ rewritten_length (read_history history.now).fault history.now buffer.old) }
 {
     let read = read_history(history);
@@ -31,8 +26,7 @@ pub extern "C" fn walnutgleam_rewrite_history(
 }
 
 // A certificate text of a history text, into a lent buffer.
-#[unsafe(no_mangle)]
-pub extern "C" fn walnutgleam_rewrite_certificate(
+pub fn walnutgleam_rewrite_certificate(
     history: &[u8],
     certificate: &[u8],
     buffer: &mut [u8],

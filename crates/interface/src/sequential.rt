@@ -6,8 +6,7 @@ use crate::made::made_number;
 use weakener::sequential::sequential;
 
 // The answer of putting a certificate text in one line, into a lent buffer.
-#[unsafe(no_mangle)]
-pub extern "C" fn walnutgleam_sequential(
+pub fn walnutgleam_sequential(
     history: &[u8],
     certificate: &[u8],
     buffer: &mut [u8],

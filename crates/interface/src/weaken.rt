@@ -6,8 +6,7 @@ use crate::made::made_number;
 use weakener::weaken::weaken;
 
 // The answer of weakening a certificate text to the criterion wanted, into a lent buffer.
-#[unsafe(no_mangle)]
-pub extern "C" fn walnutgleam_weaken(
+pub fn walnutgleam_weaken(
     history: &[u8],
     certificate: &[u8],
     wanted: u32,
