@@ -27,8 +27,8 @@ WEAKENED = samples/Q-sequential samples/Q-pram samples/R samples/W samples/C sam
 help:
 	@sed -n '/^# make/,/^$$/s/^# //p' Makefile
 
-# `rt ci`, the archive, and the targets of `outside`: tools/gate says how.
-test: setup
+# `rt ci`, the archive, and the targets of `outside`, which install what they need: tools/gate says how.
+test: rt
 	@tools/gate
 
 # What `rt ci` does not check. The gate calls it once the archive stands, with ARCHIVED=yes.
