@@ -3,4 +3,5 @@ pub mod Word
 pub mod Number
 pub mod List
 pub mod Fill
+pub mod Options
 pub mod Steps
