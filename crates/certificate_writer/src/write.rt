@@ -10,6 +10,7 @@ ghost use Rattle.certificate.specs.Record.{entries_in, beginnings};
 ghost use Rattle.certificate.specs.Criteria.{count_from};
 ghost use Rattle.certificate.specs.CertificateText.{list_line, list_lines, criterion_text, past_part, view_part, certificate_text};
 ghost use Rattle.certificate.specs.Readable.{fits};
+ghost use Rattle.history_writer.specs.WriteHistory.{written_of};
 ghost use Rattle.certificate_writer.specs.WriteCertificate.{certificate_written, certificate_after};
 ghost use Rattle.certificate_writer.specs.Steps.Lines.{short_lists};
 
@@ -19,16 +20,10 @@ use certificate::numbers::view_numbers;
 use certificate::record::{Certificate, Criterion, EventList};
 use history::record::History;
 use history_writer::limits::is_within;
+use history_writer::write::WriteFault;
 use layout::fill::put_bytes;
 use layout::list::{list_len, put_list};
 use layout::number::{number_len, put_number};
-
-// The answer's number, and the length of the text or 0.
-#[derive(Clone, Copy)]
-pub struct CertificateWritten {
-    pub number: u8,
-    pub length: usize,
-}
 
 // The events of a row, as items of a list.
 fn widen(row: [u8; 64]) -> [u32; 64]
@@ -282,38 +277,23 @@ fn put_certificate(part: &mut [u8], h: History, c: Certificate, rows: &[[u8; 64]
     a + b
 }
 
-// Writes the text of a certificate of a history into the first bytes of a buffer. A record that is not within its limits or whose
-// history is not (9) and a buffer that is too short (18) are refused, and the buffer stays as it was.
+// Writes the text of a certificate of a history into the first bytes of a buffer, and gives its length. A record that is not within its
+// limits or whose history is not (9) and a buffer that is too short (18) are refused, and the buffer stays as it was.
 pub fn write_certificate(
     buf: &mut [u8],
     h: History,
     c: Certificate,
     rows: &[[u8; 64]; 64],
-) -> CertificateWritten
-    ensures { (result ≡ certificate_written h c rows.now buf.old) × (buf.new ≡ certificate_after h c rows.now buf.old) }
+) -> Result<usize, WriteFault>
+    ensures { (written_of result ≡ certificate_written h c rows.now buf.old) × (buf.new ≡ certificate_after h c rows.now buf.old) }
 {
-    if !is_within(h) {
-        return CertificateWritten {
-            number: 9,
-            length: 0,
-        };
-    }
-    if !fits_history(h, c, rows) {
-        return CertificateWritten {
-            number: 9,
-            length: 0,
-        };
+    if !is_within(h) || !fits_history(h, c, rows) {
+        return Err(WriteFault::OutsideLimits);
     }
     let n = certificate_len(h, c, rows);
     if buf.len() < n {
-        return CertificateWritten {
-            number: 18,
-            length: 0,
-        };
+        return Err(WriteFault::TooShort);
     }
     put_certificate(buf, h, c, rows);
-    CertificateWritten {
-        number: 0,
-        length: n,
-    }
+    Ok(n)
 }
