@@ -1,21 +1,21 @@
 -- Reading a certificate text, given its history text: its record and rows, or the first faulty line and the first fault on it.
-use Rattle.std.specs.Prelude.{ℕ, ◌+◌, Bool, true, false, cond, List, [], ◌∷◌, ◌++◌, length, get_or, eqb, leb}
+use Rattle.std.specs.Prelude.{ℕ, ◌+◌, Bool, true, false, cond, List, [], ◌∷◌, ◌++◌, length, get_or, eqb, leb, Result, Ok, Err}
 use Rattle.layout.specs.Split.{split}
 use Rattle.layout.specs.Word.{same, past_heading, view_heading}
 use Rattle.history.specs.declared.record.Event.{Event}
 use Rattle.history.specs.declared.record.History.{History}
 use Rattle.history.specs.Record.{events_in}
-use Rattle.history_reader.specs.declared.place.Text.TheVariants.{CertificateText}
-use Rattle.history_reader.specs.declared.place.Place.{Place}
-use Rattle.history_reader.specs.declared.read.HistoryRead.{HistoryRead}
-use Rattle.history_reader.specs.Place.{nowhere, faulty_place}
-use Rattle.history_reader.specs.ReadHistory.{read_history}
+use Rattle.history.specs.Faults.{fault_number}
+use Rattle.history_reader.specs.declared.read.Refusal.{Refusal}
+use Rattle.history_reader.specs.Place.{Place, CertificateText, nowhere, line_place, faulty_place}
+use Rattle.history_reader.specs.ReadHistory.{HistoryRead, read_history}
+use Rattle.certificate.specs.declared.record.Certificate.{Certificate}
 use Rattle.certificate.specs.declared.record.Criterion.{Criterion}
 use Rattle.certificate.specs.declared.record.Criterion.TheVariants.{Pram}
 use Rattle.certificate.specs.Record.{certificate_of, no_certificate, rows_of}
 use Rattle.certificate.specs.Criteria.{has_pasts, count_from, view_numbers, criterion_of}
 use Rattle.certificate.specs.Faults.{criterion_line, list_fault, list_said}
-use Rattle.certificate_reader.specs.declared.read.CertificateRead.{CertificateRead}
+use Rattle.certificate_reader.specs.declared.read.Texts.{Texts}
 
 -- What lines are as a certificate: fault 0, the criterion, the pasts and the views; or the fault, and the place of the faulty line.
 pub record Lines : Type 0 where
@@ -88,6 +88,13 @@ unfoldable pub read_lines : List Event → List ℕ → Lines
 read_lines es text = cond (leb (length text) 32768) (lines_from es (split 10 text)) (refusal 1 0 0 0)
 
 -- ---- the two texts
+-- What two texts are: the two records and fault 0; or the first fault and the place of its line.
+pub record CertificateRead : Type 0 where
+  pub fault : ℕ
+  pub place : Place
+  pub history : History
+  pub certificate : Certificate
+
 -- The history's refusal; or what the certificate text is, with the history's record where it is one.
 abbrev pub history_refused : HistoryRead → CertificateRead
 history_refused h =
@@ -103,6 +110,12 @@ read_certificate history text =
     cond (eqb (read_history history).fault 0)
     (certificate_read (read_history history).history (read_lines (events_in (read_history history).history) text))
     (history_refused (read_history history))
+
+-- The code's result as one of these: where the certificate is refused, the history's record is still that of its text.
+abbrev pub texts_read : List ℕ → Result Texts Refusal → CertificateRead
+texts_read history (Ok t) = record { fault = 0; place = nowhere; history = t.history; certificate = t.certificate }
+texts_read history (Err r) =
+    record { fault = fault_number r.fault; place = line_place r.place; history = (read_history history).history; certificate = no_certificate }
 
 -- The rows afterwards: those of the views where both texts are read, and else as they were.
 abbrev pub rows_after : Lines → List (List ℕ) → List (List ℕ)

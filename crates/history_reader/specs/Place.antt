@@ -1,15 +1,41 @@
 -- Places in the texts: the line that a refusal or an answer carries (document 01, "Check"; document 02, T-05). A `Place` names the text,
 -- the number of the line from 1 (0 for a text that is too long), and the line as the bytes from `start` to `end`, without its line feed.
+use Rattle.std.specs.Prelude as code
 use Rattle.std.specs.Prelude.{ℕ, ◌+◌, ◌-◌, cond, List, [], length, get_or, take, drop, eqb}
 use Rattle.std.proofs.Math.Option.{Option, none, some}
 use Rattle.layout.specs.Split.{split, part_start}
-use Rattle.history_reader.specs.declared.place.Text.{Text}
-use Rattle.history_reader.specs.declared.place.Text.TheVariants.{Neither, HistoryText, CertificateText}
-use Rattle.history_reader.specs.declared.place.Place.{Place}
+use Rattle.history_reader.specs.declared.place.Text as code-text
+use Rattle.history_reader.specs.declared.place.Text.TheVariants.{History, Certificate}
+use Rattle.history_reader.specs.declared.place.Place as code-place
+
+-- The text that a place is in.
+pub data Text : Type 0 where
+  Neither : Text
+  HistoryText : Text
+  CertificateText : Text
+
+-- A line of a text, where one is named; else the three numbers are 0.
+pub record Place : Type 0 where
+  pub text : Text
+  pub line : ℕ
+  pub start : ℕ
+  pub end : ℕ
 
 -- "Every other number carries no text, line": the three numbers are 0.
 abbrev pub nowhere : Place
 nowhere = record { text = Neither; line = 0; start = 0; end = 0 }
+
+-- The code's texts and places, and its option of a place.
+abbrev pub text_in : code-text.Text → Text
+text_in History = HistoryText
+text_in Certificate = CertificateText
+
+abbrev pub line_place : code-place.Place → Place
+line_place p = record { text = text_in p.text; line = p.line; start = p.start; end = p.end }
+
+abbrev pub place_in : code.Option code-place.Place → Place
+place_in code.None = nowhere
+place_in (code.Some p) = line_place p
 
 -- A faulty line. It begins at the place `at` and has `size` bytes without its line feed; an empty part starts at 0.
 abbrev pub faulty_place : Text → ℕ → ℕ → ℕ → Place

@@ -1,14 +1,25 @@
 -- Reading a history text: its record, or the first faulty line and the first fault on it.
-use Rattle.std.specs.Prelude.{ℕ, ◌+◌, cond, List, [], ◌∷◌, ◌++◌, length, eqb, leb}
+use Rattle.std.specs.Prelude.{ℕ, ◌+◌, cond, List, [], ◌∷◌, ◌++◌, length, eqb, leb, Result, Ok, Err}
 use Rattle.layout.specs.Split.{split}
 use Rattle.layout.specs.Word.{same, object_heading, event_heading}
 use Rattle.history.specs.Record.{no_history, history_of}
-use Rattle.history.specs.Faults.{object_line, event_line}
+use Rattle.history.specs.Faults.{fault_number, object_line, event_line}
 use Rattle.history.specs.declared.record.Object.{Object}
 use Rattle.history.specs.declared.record.Event.{Event}
-use Rattle.history_reader.specs.declared.place.Text.TheVariants.{HistoryText}
-use Rattle.history_reader.specs.declared.read.HistoryRead.{HistoryRead}
-use Rattle.history_reader.specs.Place.{nowhere, faulty_place, bytes_at}
+use Rattle.history.specs.declared.record.History.{History}
+use Rattle.history_reader.specs.declared.read.Refusal.{Refusal}
+use Rattle.history_reader.specs.Place.{Place, HistoryText, nowhere, line_place, faulty_place, bytes_at}
+
+-- What a text is as a history: its record and fault 0; or the first fault and the place of its line.
+pub record HistoryRead : Type 0 where
+  pub fault : ℕ
+  pub place : Place
+  pub history : History
+
+-- The code's result as one of these.
+abbrev pub history_read : Result History Refusal → HistoryRead
+history_read (Ok h) = record { fault = 0; place = nowhere; history = h }
+history_read (Err r) = record { fault = fault_number r.fault; place = line_place r.place; history = no_history }
 
 -- A refusal: its number, and the place of the faulty line, which begins at the place `at` and has `size` bytes without its line feed.
 abbrev pub refusal : ℕ → ℕ → ℕ → ℕ → HistoryRead

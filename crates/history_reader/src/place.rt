@@ -1,19 +1,17 @@
 // Places in the texts: the line that a refusal or an answer carries.
 ghost use Rattle.std.specs.Prelude.{◌≡◌, ◌-◌, ◌≤◌};
-ghost use Rattle.history_reader.specs.Place as places;
+ghost use Rattle.history_reader.specs.Place.{text_in, line_place, faulty_place, event_place};
 
 use layout::split::{find_from, part_start};
 
 // The text that a place is in.
-#[derive(Clone, Copy)]
+#[derive(Clone, Copy, PartialEq, Eq)]
 pub enum Text {
-    Neither,
-    HistoryText,
-    CertificateText,
+    History,
+    Certificate,
 }
 
 // A line of a text: its number from 1 (0 for a text that is too long), and its bytes from `start` to `end`, without its line feed.
-// Where no text is named the three numbers are 0.
 #[derive(Clone, Copy)]
 pub struct Place {
     pub text: Text,
@@ -22,31 +20,12 @@ pub struct Place {
     pub end: usize,
 }
 
-// Where no line is carried.
-pub fn nowhere() -> Place
-    ensures { result ≡ places.nowhere }
-{
-    Place {
-        text: Text::Neither,
-        line: 0,
-        start: 0,
-        end: 0,
-    }
-}
-
 // A faulty line from `start` to `end`. An empty part starts at 0.
 pub fn faulty_place(text: Text, line: usize, start: usize, end: usize) -> Place
     requires { start ≤ end }
-    ensures { result ≡ places.faulty_place text line start (end - start) }
+    ensures { line_place result ≡ faulty_place (text_in text) line start (end - start) }
 {
-    if start == end {
-        return Place {
-            text,
-            line,
-            start: 0,
-            end: 0,
-        };
-    }
+    let (start, end) = if start == end { (0, 0) } else { (start, end) };
     Place {
         text,
         line,
@@ -58,15 +37,13 @@ pub fn faulty_place(text: Text, line: usize, start: usize, end: usize) -> Place
 // The line of event e in a history text that has `declared` objects.
 pub fn event_place(text: &[u8], declared: usize, e: usize) -> Place
     requires { (declared ≤ 16) × (e ≤ 4294967295) }
-    ensures { result ≡ places.event_place text.now declared e }
+    ensures { line_place result ≡ event_place text.now declared e }
 {
-    let line = e + declared + 3;
-    let start = part_start(text, 10, declared + 2 + e);
-    let end = find_from(text, start, 10);
+    let start = part_start(text, b'\n', declared + 2 + e);
     Place {
-        text: Text::HistoryText,
-        line,
+        text: Text::History,
+        line: e + declared + 3,
         start,
-        end,
+        end: find_from(text, start, b'\n').unwrap_or(text.len()),
     }
 }
