@@ -1,98 +1,54 @@
 // The criteria: their words, and which certificates have pasts.
-ghost use Rattle.std.specs.Prelude.{◌≡◌};
-ghost use Rattle.certificate.specs.Criteria.{has_pasts};
-ghost use Rattle.certificate.specs.Steps.Lists.{word_read, criterion_read};
+ghost use Rattle.std.specs.Prelude.{◌≡◌, cond, [], get_or};
+ghost use Rattle.layout.specs.Split.{split};
+ghost use Rattle.certificate.specs.Criteria.{has_pasts, is_criterion, criterion_of};
+ghost use Rattle.certificate.specs.Faults.{criterion_line};
 
 use crate::record::Criterion;
-use layout::split::find_from;
-use layout::word::is_word;
-
-// Whether a word is a criterion's, and that criterion.
-#[derive(Clone, Copy)]
-pub struct CriterionRead {
-    pub known: bool,
-    pub criterion: Criterion,
-}
+use layout::split::split_once;
 
 // Whether a certificate of the criterion has the past of each event.
 pub fn has_pasts(c: Criterion) -> bool
     ensures { result ≡ has_pasts c }
 {
-    match c {
-        Criterion::Pram => false,
-        Criterion::Weak => true,
-        Criterion::Causal => true,
-        Criterion::Converge => true,
-        Criterion::Sequential => false,
-        Criterion::Strict => true,
-    }
+    matches!(
+        c,
+        Criterion::Weak | Criterion::Causal | Criterion::Converge | Criterion::Strict
+    )
 }
 
-// Reads the word of a criterion.
-fn read_word(word: &[u8]) -> CriterionRead
-    ensures { result ≡ word_read word.now }
+// The criterion of a word.
+fn read_word(word: &[u8]) -> Option<Criterion>
+    ensures { result ≡ cond (is_criterion word.now) (Some (criterion_of word.now)) None }
 {
-    if is_word(word, b"weak") {
-        return CriterionRead {
-            known: true,
-            criterion: Criterion::Weak,
-        };
+    if word == b"weak" {
+        return Some(Criterion::Weak);
     }
-    if is_word(word, b"causal") {
-        return CriterionRead {
-            known: true,
-            criterion: Criterion::Causal,
-        };
+    if word == b"causal" {
+        return Some(Criterion::Causal);
     }
-    if is_word(word, b"converge") {
-        return CriterionRead {
-            known: true,
-            criterion: Criterion::Converge,
-        };
+    if word == b"converge" {
+        return Some(Criterion::Converge);
     }
-    if is_word(word, b"sequential") {
-        return CriterionRead {
-            known: true,
-            criterion: Criterion::Sequential,
-        };
+    if word == b"sequential" {
+        return Some(Criterion::Sequential);
     }
-    if is_word(word, b"strict") {
-        return CriterionRead {
-            known: true,
-            criterion: Criterion::Strict,
-        };
+    if word == b"strict" {
+        return Some(Criterion::Strict);
     }
-    let known = is_word(word, b"pram");
-    CriterionRead {
-        known,
-        criterion: Criterion::Pram,
+    if word == b"pram" {
+        return Some(Criterion::Pram);
     }
+    None
 }
 
-// Reads the first line of a certificate, without its line feed.
-pub fn read_criterion(line: &[u8]) -> CriterionRead
-    ensures { result ≡ criterion_read line.now }
+// Reads the first line of a certificate, without its line feed: the criterion, or none where the line is not a criterion's.
+pub fn read_criterion(line: &[u8]) -> Option<Criterion>
+    ensures { result ≡ cond (criterion_line line.now) (Some (criterion_of (get_or (split 32 line.now) 1 []))) None }
 {
-    let n = line.len();
-    let a = find_from(line, 0, 32);
-    if a == n {
-        return CriterionRead {
-            known: false,
-            criterion: Criterion::Pram,
-        };
+    let (heading, word) = split_once(line, b' ')?;
+    if heading == b"criterion" {
+        return read_word(word);
     }
-    let b = find_from(line, a + 1, 32);
-    if b != n {
-        return CriterionRead {
-            known: false,
-            criterion: Criterion::Pram,
-        };
-    }
-    if is_word(&line[0..a], b"criterion") {
-        return read_word(&line[a + 1..b]);
-    }
-    CriterionRead {
-        known: false,
-        criterion: Criterion::Pram,
-    }
+    None
 }

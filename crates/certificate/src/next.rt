@@ -1,219 +1,147 @@
 // The next line of a list in a text: a past or a view.
-ghost use Rattle.std.specs.Prelude.{◌≡◌, ℕ, ◌+◌, ◌-◌, ◌≤◌, ◌<◌, Bool, true, not, ◌||◌, length, drop, leb};
+ghost use Rattle.std.specs.Prelude.{◌≡◌, ◌+◌, ◌≤◌, ◌<◌, Bool, ℕ, length, drop, OnSome, IfSome};
 ghost use Rattle.layout.specs.Split.{find};
-ghost use Rattle.layout.specs.Number.{is_digit, spell};
+ghost use Rattle.layout.specs.Number.{spell};
 ghost use Rattle.layout.specs.Steps.Stands.{Stands};
 ghost use Rattle.certificate.specs.Record.{no_list};
-ghost use Rattle.certificate.specs.Steps.Next.{ListFrom, next_read};
+ghost use Rattle.certificate.specs.Steps.Next.{ListFrom, next_list_of, next_read};
 
 use crate::list::{no_list, read_list_line};
 use crate::record::EventList;
+use history::fault::Fault;
+use layout::at::At;
 use layout::number::spaced_number;
 use layout::split::find_from;
+use layout::word::stands_at;
 
-// Where the line ends, with its list and fault 0, or with its first fault and no list.
+// Where the line ends, with its list or its first fault.
 #[derive(Clone, Copy)]
 pub struct NextList {
-    pub fault: u8,
     pub end: usize,
-    pub list: EventList,
+    pub list: Result<EventList, Fault>,
 }
 
-// A number of one or two digits and where it ends; the value 100 where there is none.
-#[derive(Clone, Copy)]
-struct Entry {
-    pub value: usize,
-    pub end: usize,
-}
-
-fn is_digit(b: u8) -> bool
-    ensures { result ≡ is_digit b }
-{
-    if b < 48 {
-        return false;
-    }
-    b <= 57
-}
-
-fn digit_value(b: u8) -> usize
-    requires { (48 ≤ b) × (b ≤ 57) }
-    ensures { result ≡ b - 48 }
-{
-    (b - 48) as usize
-}
+// The quick way goes over a line once. Each of its steps tells what stands at a place and where that ends, or nothing where it does
+// not know; the line is then cut and read, which also says which fault it has.
 
 // The number of one or two digits that begins at a place and has a byte behind its first digit.
-fn quick_entry(text: &[u8], from: usize) -> Entry
+fn quick_entry(text: &[u8], from: usize) -> Option<At<usize>>
     requires { from ≤ length text.now }
-    ensures { result.value < 100 → Stands (spell result.value) from result.end text.now }
+    ensures { IfSome result (λ n. (n.value < 100) × Stands (spell n.value) from n.end text.now) }
 {
     if text.len() - from < 2 {
-        return Entry {
-            value: 100,
-            end: from,
-        };
+        return None;
     }
     let b = text[from];
     let c = text[from + 1];
-    if is_digit(b) {
-        if is_digit(c) {
-            if b == 48 {
-                return Entry {
-                    value: 100,
-                    end: from,
-                };
-            }
-            return Entry {
-                value: digit_value(b) * 10 + digit_value(c),
-                end: from + 2,
-            };
-        }
-        return Entry {
-            value: digit_value(b),
+    if !b.is_ascii_digit() {
+        return None;
+    }
+    let first = usize::from(b - b'0');
+    if !c.is_ascii_digit() {
+        return Some(At {
+            value: first,
             end: from + 1,
-        };
+        });
     }
-    Entry {
-        value: 100,
-        end: from,
+    if first == 0 {
+        return None;
     }
+    Some(At {
+        value: first * 10 + usize::from(c - b'0'),
+        end: from + 2,
+    })
 }
 
-// Whether an entry may follow those before it: in a past it is at least `low`.
-fn may_follow(past: bool, low: usize, v: usize) -> bool
-    ensures { result ≡ (not past || leb low v) }
-{
-    if past {
-        return low <= v;
-    }
-    true
-}
-
-// The answer of the quick way where it does not tell what stands there.
-fn untold(from: usize) -> NextList
-    ensures { result.fault ≡ 2 }
-{
-    let list = no_list();
-    NextList {
-        fault: 2,
-        end: from,
-        list,
-    }
-}
-
-// Reads entries with commas between them up to a line feed, in one pass.
-fn quick_entries(text: &[u8], from: usize, count: usize, past: bool) -> NextList
+// Reads entries with commas between them up to a line feed, in one pass. In a past each is at least `low`, one more than the one
+// before it.
+fn quick_entries(text: &[u8], from: usize, count: usize, past: bool) -> Option<At<EventList>>
     requires { (from ≤ length text.now) × (count ≤ 64) }
-    ensures { result.fault ≡ 0 → ListFrom past count from (drop from text.now) result }
+    ensures { IfSome result (λ r. ListFrom past count from (drop from text.now) r) }
 {
     let mut events = [0u8; 64];
-    let mut k: usize = 0;
-    let mut a = from;
-    let mut low: usize = 0;
-    while k < count {
-        let d = quick_entry(text, a);
-        let v = d.value;
-        let e = d.end;
-        if v >= count {
-            return untold(from);
+    let mut at = from;
+    let mut low = 0;
+    for k in 0..count {
+        let entry = quick_entry(text, at)?;
+        let v = entry.value;
+        if v >= count || past && v < low {
+            return None;
         }
-        if may_follow(past, low, v) {
-            if e >= text.len() {
-                return untold(from);
-            }
-            let c = text[e];
-            events[k] = v as u8;
-            k += 1;
-            if c == 10 {
-                let list = EventList { count: k, events };
-                return NextList {
-                    fault: 0,
-                    end: e,
-                    list,
-                };
-            }
-            if c != 44 {
-                return untold(from);
-            }
-            low = v + 1;
-            a = e + 1;
-        } else {
-            return untold(from);
+        if entry.end >= text.len() {
+            return None;
         }
+        events[k] = v as u8;
+        match text[entry.end] {
+            b'\n' => {
+                return Some(At {
+                    value: EventList {
+                        count: k + 1,
+                        events,
+                    },
+                    end: entry.end,
+                });
+            }
+            b',' => {}
+            _ => return None,
+        }
+        low = v + 1;
+        at = entry.end + 1;
     }
-    untold(from)
-}
-
-// Whether the empty list and a line feed stand at a place.
-fn is_none(text: &[u8], from: usize) -> bool
-    requires { from ≤ length text.now }
-    ensures { result ≡ true → (past : Bool) (count : ℕ) → ListFrom past count from (drop from text.now) (record { fault = 0; end = from + 1; list = no_list }) }
-{
-    if text.len() - from < 2 {
-        return false;
-    }
-    if text[from] != 45 {
-        return false;
-    }
-    text[from + 1] == 10
+    None
 }
 
 // Reads the list that begins at a place.
-fn quick_list(text: &[u8], from: usize, count: usize, past: bool) -> NextList
+fn quick_list(text: &[u8], from: usize, count: usize, past: bool) -> Option<At<EventList>>
     requires { (from ≤ length text.now) × (count ≤ 64) }
-    ensures { result.fault ≡ 0 → ListFrom past count from (drop from text.now) result }
+    ensures { IfSome result (λ r. ListFrom past count from (drop from text.now) r) }
 {
-    if is_none(text, from) {
-        let list = no_list();
-        return NextList {
-            fault: 0,
+    if stands_at(text, from, b"-\n") {
+        return Some(At {
+            value: no_list(),
             end: from + 1,
-            list,
-        };
+        });
     }
     quick_entries(text, from, count, past)
 }
 
-// Reads a line that has no fault and entries of at most two digits; for any other line it tells nothing.
-fn quick_line(text: &[u8], from: usize, own: u32, count: usize, past: bool) -> NextList
+// Reads a line that has no fault and entries of at most two digits; of any other line it tells nothing.
+fn quick_line(
+    text: &[u8],
+    from: usize,
+    own: u32,
+    count: usize,
+    past: bool,
+) -> Option<At<EventList>>
     requires { (from ≤ length text.now) × (count ≤ 64) }
-    ensures { result.fault ≡ 0 → result ≡ next_read past count own from (drop from text.now) }
+    ensures { IfSome result (λ r. record { fault = 0; end = r.end; list = r.value } ≡ next_read past count own from (drop from text.now)) }
 {
-    let n = spaced_number(text, from, 64);
-    let a = n.end;
-    let number = n.value;
-    if number >= 64 {
-        return untold(from);
+    let number = spaced_number(text, from, 64)?;
+    if number.value != u64::from(own) {
+        return None;
     }
-    if number != own as u64 {
-        return untold(from);
-    }
-    quick_list(text, a, count, past)
+    quick_list(text, number.end, count, past)
 }
 
 // Reads the line of a past or of a view whose number is `own` and that begins at a place, in a history with `count` events.
 pub fn next_list(text: &[u8], from: usize, own: u32, count: usize, past: bool) -> NextList
     requires { (from ≤ length text.now) × (count ≤ 64) }
-    ensures { (result ≡ next_read past count own from (drop from text.now)) × (result.end ≡ from + find 10 (drop from text.now)) × (from ≤ result.end) × (result.end ≤ length text.now) }
+    ensures { (next_list_of result ≡ next_read past count own from (drop from text.now)) × (result.end ≡ from + find 10 (drop from text.now)) × (from ≤ result.end) × (result.end ≤ length text.now) }
 {
-    let q = quick_line(text, from, own, count, past);
-    if q.fault == 0 {
-        return q;
-    }
-    let e = find_from(text, from, 10);
-    if e == text.len() {
-        let list = no_list();
+    if let Some(quick) = quick_line(text, from, own, count, past) {
         return NextList {
-            fault: 2,
-            end: e,
-            list,
+            end: quick.end,
+            list: Ok(quick.value),
         };
     }
-    let r = read_list_line(&text[from..e], own, count, past);
-    let list = r.list;
+    let Some(end) = find_from(text, from, b'\n') else {
+        return NextList {
+            end: text.len(),
+            list: Err(Fault::Layout),
+        };
+    };
     NextList {
-        fault: r.fault,
-        end: e,
-        list,
+        end,
+        list: read_list_line(&text[from..end], own, count, past),
     }
 }

@@ -2,7 +2,7 @@
 // not use holds zeros, so that two records of one certificate are equal.
 
 // Those whose certificates have pasts stand together, so that a test for them is one of a range. Their numbers are `criterion_number`.
-#[derive(Clone, Copy)]
+#[derive(Clone, Copy, PartialEq, Eq)]
 pub enum Criterion {
     Pram,
     Weak,
