@@ -1,5 +1,5 @@
 // The rows of an order: that of the pasts of a certificate, and program order.
-ghost use Rattle.std.specs.Prelude.{◌≡◌, ℕ, ◌≤◌, ◌<◌, map, take, get_or, replicate};
+ghost use Rattle.std.specs.Prelude.{◌≡◌, ℕ, ◌≤◌, ◌<◌, map, length, get_or};
 ghost use Rattle.certificate.specs.Record.{no_list, entries_in};
 ghost use Rattle.criteria.specs.Certificate.{listed};
 ghost use Rattle.orders.specs.Rows.{ShortList, IsOrder, program_in};
@@ -8,44 +8,29 @@ use crate::sets::with_event;
 use crate::views::marks;
 use certificate::record::EventList;
 
-fn no_rows() -> [u64; 64]
-    ensures { result ≡ replicate 64 0 }
+// The rows of the pasts.
+pub fn past_rows(pasts: &[EventList]) -> [u64; 64]
+    requires { (length pasts.now ≤ 64) × ((k : ℕ) → k < length pasts.now → ShortList (get_or pasts.now k no_list)) }
+    ensures { IsOrder result (listed (map entries_in pasts.now)) }
 {
-    [0u64; 64]
-}
-
-// The rows of the first n pasts.
-pub fn past_rows(pasts: [EventList; 64], n: usize) -> [u64; 64]
-    requires { (n ≤ 64) × ((k : ℕ) → k < n → ShortList (get_or pasts k no_list)) }
-    ensures { IsOrder result (listed (map entries_in (take n pasts))) }
-{
-    let mut rows = no_rows();
-    let mut i = 0;
-    while i < n {
-        let l = pasts[i];
-        let events = l.events;
-        let count = l.count;
-        let row = marks(events, count);
-        rows[i] = row;
-        i += 1;
+    let mut rows = [0; 64];
+    for (i, past) in pasts.iter().enumerate() {
+        rows[i] = marks(&past.events[..past.count]);
     }
     rows
 }
 
-// The rows of program order, of the first n events by their processes, which are below 8.
-pub fn program_rows(processes: [u8; 64], n: usize) -> [u64; 64]
-    requires { (n ≤ 64) × ((i : ℕ) → i < n → get_or processes i 0 < 8) }
-    ensures { IsOrder result (program_in n processes) }
+// The rows of program order, of events by their processes, which are below 8.
+pub fn program_rows(processes: &[u8]) -> [u64; 64]
+    requires { (length processes.now ≤ 64) × ((i : ℕ) → i < length processes.now → get_or processes.now i 0 < 8) }
+    ensures { IsOrder result (program_in (length processes.now) processes.now) }
 {
-    let mut rows = no_rows();
-    let mut earlier = [0u64; 8];
-    let mut i = 0;
-    while i < n {
-        let p = processes[i] as usize;
-        let row = earlier[p];
-        rows[i] = row;
-        earlier[p] = with_event(row, i);
-        i += 1;
+    let mut rows = [0; 64];
+    let mut earlier = [0; 8];
+    for (i, process) in processes.iter().enumerate() {
+        let p = usize::from(*process);
+        rows[i] = earlier[p];
+        earlier[p] = with_event(earlier[p], i);
     }
     rows
 }

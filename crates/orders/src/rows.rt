@@ -1,42 +1,38 @@
 // Tests of an order given by rows: row e says which events come before e.
-ghost use Rattle.std.specs.Prelude.{◌≡◌, not, ◌&&◌, ◌≤◌, ◌<◌};
+ghost use Rattle.std.specs.Prelude.{◌≡◌, not, ◌&&◌, ◌≤◌, ◌<◌, IfSome};
+ghost use Rattle.layout.specs.Options.{option_in};
 ghost use Rattle.criteria.specs.Tests.{any, lowest, found_if};
 ghost use Rattle.criteria.specs.Check.{lacks_past};
-ghost use Rattle.orders.specs.Rows.{in_rows, found_at};
+ghost use Rattle.orders.specs.Rows.{in_rows};
 
 use crate::sets::{escapes, in_row};
 
-// 12: the lowest e below n that is in its own row, or n.
-pub fn in_own_past(rows: &[u64; 64], n: usize) -> usize
+// 12: the lowest e below n that is in its own row.
+pub fn in_own_past(rows: &[u64; 64], n: usize) -> Option<usize>
     requires { n ≤ 64 }
-    ensures { (result ≤ n) × (found_at n result ≡ lowest n (λ e. found_if (in_rows rows.now e e) e)) }
+    ensures found { option_in result ≡ lowest n (λ e. found_if (in_rows rows.now e e) e) }
+    ensures below { IfSome result (λ e. e < n) }
 {
-    let mut e = 0;
-    while e < n {
-        let row = rows[e];
-        if in_row(row, e) {
-            return e;
+    for e in 0..n {
+        if in_row(rows[e], e) {
+            return Some(e);
         }
-        e += 1;
     }
-    e
+    None
 }
 
-// 11: the lowest e below n whose row of `must` is not inside its row, or n.
-pub fn lacks_own(rows: &[u64; 64], must: &[u64; 64], n: usize) -> usize
+// 11: the lowest e below n whose row of `must` is not inside its row.
+pub fn lacks_own(rows: &[u64; 64], must: &[u64; 64], n: usize) -> Option<usize>
     requires { n ≤ 64 }
-    ensures { (result ≤ n) × (found_at n result ≡ lowest n (λ e. found_if (any 64 (λ f. in_rows must.now f e && not (in_rows rows.now f e))) e)) }
+    ensures found { option_in result ≡ lowest n (λ e. found_if (any 64 (λ f. in_rows must.now f e && not (in_rows rows.now f e))) e) }
+    ensures below { IfSome result (λ e. e < n) }
 {
-    let mut e = 0;
-    while e < n {
-        let wanted = must[e];
-        let row = rows[e];
-        if escapes(wanted, row) {
-            return e;
+    for e in 0..n {
+        if escapes(must[e], rows[e]) {
+            return Some(e);
         }
-        e += 1;
     }
-    e
+    None
 }
 
 // 13, at e: whether some f is before e, and some g before f and not before e.
@@ -44,28 +40,24 @@ pub fn lacks_past(rows: &[u64; 64], e: usize) -> bool
     requires { e < 64 }
     ensures { result ≡ lacks_past 64 (in_rows rows.now) e }
 {
-    let row = rows[e];
-    let mut bad = false;
-    let mut f = 0;
-    while f < 64 {
-        let other = rows[f];
-        bad = bad | (in_row(row, f) & escapes(other, row));
-        f += 1;
+    for f in 0..64 {
+        if in_row(rows[e], f) && escapes(rows[f], rows[e]) {
+            return true;
+        }
     }
-    bad
+    false
 }
 
-// 13: the lowest such e below n, or n.
-pub fn not_transitive(rows: &[u64; 64], n: usize) -> usize
+// 13: the lowest such e below n.
+pub fn not_transitive(rows: &[u64; 64], n: usize) -> Option<usize>
     requires { n ≤ 64 }
-    ensures { (result ≤ n) × (found_at n result ≡ lowest n (λ e. found_if (lacks_past 64 (in_rows rows.now) e) e)) }
+    ensures found { option_in result ≡ lowest n (λ e. found_if (lacks_past 64 (in_rows rows.now) e) e) }
+    ensures below { IfSome result (λ e. e < n) }
 {
-    let mut e = 0;
-    while e < n {
+    for e in 0..n {
         if lacks_past(rows, e) {
-            return e;
+            return Some(e);
         }
-        e += 1;
     }
-    e
+    None
 }

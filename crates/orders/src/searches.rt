@@ -1,8 +1,9 @@
 // The lowest view that is not its set, is against the order, or has an event outside the past before an own event.
-ghost use Rattle.std.specs.Prelude.{◌≡◌, ◌||◌, ℕ, ◌≤◌, ◌<◌, eqb, ltb, get_or};
+ghost use Rattle.std.specs.Prelude.{◌≡◌, ◌||◌, ℕ, ◌≤◌, ◌<◌, eqb, ltb, get_or, IfSome};
+ghost use Rattle.layout.specs.Options.{option_in};
 ghost use Rattle.criteria.specs.Tests.{lowest, found_if, count};
 ghost use Rattle.criteria.specs.Check.{not_its_set, against, outside_past};
-ghost use Rattle.orders.specs.Rows.{in_row, in_rows, found_at, EventViews, view_at};
+ghost use Rattle.orders.specs.Rows.{in_row, in_rows, EventViews, view_at};
 
 use crate::sets::with_event;
 use crate::views::{against_order, not_its_set, outside_past};
@@ -12,75 +13,68 @@ fn all_row(n: usize) -> u64
     requires { n ≤ 64 }
     ensures { (e : ℕ) → in_row result e ≡ ltb e n }
 {
-    let mut row: u64 = 0;
-    let mut i = 0;
-    while i < n {
+    let mut row = 0;
+    for i in 0..n {
         row = with_event(row, i);
-        i += 1;
     }
     row
 }
 
-// 14: the lowest of the first m views that is not all n events, each once, or m.
-pub fn first_not_all(views: &[[u8; 64]; 64], lengths: [u8; 64], m: usize, n: usize) -> usize
+// 14: the lowest of the first m views that is not all n events, each once.
+pub fn first_not_all(views: &[[u8; 64]; 64], lengths: [u8; 64], m: usize, n: usize) -> Option<usize>
     requires { (m ≤ 64) × (n ≤ 64) × EventViews views.now lengths m 64 }
-    ensures { (result ≤ m) × (found_at m result ≡ lowest m (λ k. found_if (not_its_set 64 (λ e. ltb e n) (view_at views.now lengths k)) k)) }
+    ensures found { option_in result ≡ lowest m (λ k. found_if (not_its_set 64 (λ e. ltb e n) (view_at views.now lengths k)) k) }
+    ensures below { IfSome result (λ k. k < m) }
 {
     let all = all_row(n);
-    let mut k = 0;
-    while k < m {
-        let view = views[k];
-        let length = lengths[k] as usize;
-        if not_its_set(view, length, all) {
-            return k;
+    for k in 0..m {
+        if not_its_set(&views[k][..usize::from(lengths[k])], all) {
+            return Some(k);
         }
-        k += 1;
     }
-    k
+    None
 }
 
-// 14: the lowest of the first m views that is not the past of its event and that event, each once, or m.
+// 14: the lowest of the first m views that is not the past of its event and that event, each once.
 pub fn first_not_past(
     views: &[[u8; 64]; 64],
     lengths: [u8; 64],
     rows: &[u64; 64],
     m: usize,
-) -> usize
+) -> Option<usize>
     requires { (m ≤ 64) × EventViews views.now lengths m 64 }
-    ensures { (result ≤ m) × (found_at m result ≡ lowest m (λ k. found_if (not_its_set 64 (λ f. in_rows rows.now f k || eqb f k) (view_at views.now lengths k)) k)) }
+    ensures found { option_in result ≡ lowest m (λ k. found_if (not_its_set 64 (λ f. in_rows rows.now f k || eqb f k) (view_at views.now lengths k)) k) }
+    ensures below { IfSome result (λ k. k < m) }
 {
-    let mut k = 0;
-    while k < m {
-        let view = views[k];
-        let length = lengths[k] as usize;
-        let row = rows[k];
-        let past = with_event(row, k);
-        if not_its_set(view, length, past) {
-            return k;
+    for k in 0..m {
+        let past = with_event(rows[k], k);
+        if not_its_set(&views[k][..usize::from(lengths[k])], past) {
+            return Some(k);
         }
-        k += 1;
     }
-    k
+    None
 }
 
-// 15: the lowest of the first m views, none with an entry twice, that is against the order, or m.
-pub fn first_against(views: &[[u8; 64]; 64], lengths: [u8; 64], rows: &[u64; 64], m: usize) -> usize
+// 15: the lowest of the first m views, none with an entry twice, that is against the order.
+pub fn first_against(
+    views: &[[u8; 64]; 64],
+    lengths: [u8; 64],
+    rows: &[u64; 64],
+    m: usize,
+) -> Option<usize>
     requires { (m ≤ 64) × EventViews views.now lengths m 64 × ((k : ℕ) → k < m → (e : ℕ) → count e (view_at views.now lengths k) ≤ 1) }
-    ensures { (result ≤ m) × (found_at m result ≡ lowest m (λ k. found_if (against (in_rows rows.now) (view_at views.now lengths k)) k)) }
+    ensures found { option_in result ≡ lowest m (λ k. found_if (against (in_rows rows.now) (view_at views.now lengths k)) k) }
+    ensures below { IfSome result (λ k. k < m) }
 {
-    let mut k = 0;
-    while k < m {
-        let view = views[k];
-        let length = lengths[k] as usize;
-        if against_order(view, length, rows) {
-            return k;
+    for k in 0..m {
+        if against_order(&views[k][..usize::from(lengths[k])], rows) {
+            return Some(k);
         }
-        k += 1;
     }
-    k
+    None
 }
 
-// 20: the lowest of the first m views in which an event outside the past stands before an own event, or m. The own events of a view are
+// 20: the lowest of the first m views in which an event outside the past stands before an own event. The own events of a view are
 // those of the process that numbers it.
 pub fn first_outside(
     views: &[[u8; 64]; 64],
@@ -89,19 +83,15 @@ pub fn first_outside(
     processes: [u8; 64],
     numbers: [u8; 64],
     m: usize,
-) -> usize
+) -> Option<usize>
     requires { (m ≤ 64) × EventViews views.now lengths m 64 }
-    ensures { (result ≤ m) × (found_at m result ≡ lowest m (λ k. found_if (outside_past (in_rows rows.now) (λ e. eqb (get_or processes e 0) (get_or numbers k 0)) (view_at views.now lengths k)) k)) }
+    ensures found { option_in result ≡ lowest m (λ k. found_if (outside_past (in_rows rows.now) (λ e. eqb (get_or processes e 0) (get_or numbers k 0)) (view_at views.now lengths k)) k) }
+    ensures below { IfSome result (λ k. k < m) }
 {
-    let mut k = 0;
-    while k < m {
-        let view = views[k];
-        let length = lengths[k] as usize;
-        let p = numbers[k];
-        if outside_past(view, length, rows, processes, p) {
-            return k;
+    for k in 0..m {
+        if outside_past(&views[k][..usize::from(lengths[k])], rows, &processes, numbers[k]) {
+            return Some(k);
         }
-        k += 1;
     }
-    k
+    None
 }
