@@ -1,20 +1,23 @@
 -- The fault that a finding stands for; `answer_of` of `criteria` gives the documents' number, view and event of each. And the other way, the
 -- finding of a number, a view and an event.
-use Rattle.std.specs.Prelude.{ℕ, Bool, true, false, cond, eqb}
+use Rattle.std.specs.Prelude.{ℕ, Bool, true, false, cond, eqb, Result, Ok, Err}
 use Rattle.std.proofs.Math.Option.{Option, none, some}
 use Rattle.criteria.specs.Check.{Answer, Fault, fault11, fault12, fault13, fault14, fault15, fault16, fault20}
 use Rattle.faults.specs.declared.finding.Finding.{Finding}
-use Rattle.faults.specs.declared.finding.Finding.TheVariants.{Nothing, LacksOwn, InOwnPast, LacksPast, NotItsSet, Against, Wrong, OutsidePast}
+use Rattle.faults.specs.declared.finding.Finding.TheVariants.{LacksOwn, InOwnPast, LacksPast, NotItsSet, Against, Wrong, OutsidePast}
 
-abbrev pub finding_of : Finding → Option Fault
-finding_of Nothing = none
-finding_of (LacksOwn e) = some (fault11 e.0)
-finding_of (InOwnPast e) = some (fault12 e.0)
-finding_of (LacksPast e) = some (fault13 e.0)
-finding_of (NotItsSet v) = some (fault14 v)
-finding_of (Against v) = some (fault15 v)
-finding_of (Wrong v e) = some (fault16 v e.0)
-finding_of (OutsidePast v) = some (fault20 v)
+abbrev pub fault_in : Finding → Fault
+fault_in (LacksOwn e) = fault11 e.0
+fault_in (InOwnPast e) = fault12 e.0
+fault_in (LacksPast e) = fault13 e.0
+fault_in (NotItsSet v) = fault14 v
+fault_in (Against v) = fault15 v
+fault_in (Wrong v e) = fault16 v e.0
+fault_in (OutsidePast v) = fault20 v
+
+abbrev pub finding_of : Result (Unit {0}) Finding → Option Fault
+finding_of (Ok u) = none
+finding_of (Err f) = some (fault_in f)
 
 -- A fault was found.
 abbrev pub is_found : Option Fault → Bool
@@ -35,13 +38,14 @@ or_zero none = 0
 or_zero (some n) = n
 
 -- What was found, by the answer's number, its view and its event.
-abbrev pub finding_by : ℕ → ℕ → ℕ → Finding
+abbrev pub finding_by : ℕ → ℕ → ℕ → Result (Unit {0}) Finding
 finding_by number view event =
-    cond (eqb number 11) (LacksOwn record { 0 = event })
-    (cond (eqb number 12) (InOwnPast record { 0 = event })
-    (cond (eqb number 13) (LacksPast record { 0 = event })
-    (cond (eqb number 14) (NotItsSet view) (cond (eqb number 15) (Against view) (cond (eqb number 16) (Wrong view record { 0 = event })
-    (cond (eqb number 20) (OutsidePast view) Nothing))))))
+    cond (eqb number 11) (Err (LacksOwn record { 0 = event }))
+    (cond (eqb number 12) (Err (InOwnPast record { 0 = event }))
+    (cond (eqb number 13) (Err (LacksPast record { 0 = event }))
+    (cond (eqb number 14) (Err (NotItsSet view))
+    (cond (eqb number 15) (Err (Against view))
+    (cond (eqb number 16) (Err (Wrong view record { 0 = event })) (cond (eqb number 20) (Err (OutsidePast view)) (Ok tt)))))))
 
-abbrev pub finding_in : Answer → Finding
+abbrev pub finding_in : Answer → Result (Unit {0}) Finding
 finding_in a = finding_by a.number (or_zero a.view) (or_zero a.event)

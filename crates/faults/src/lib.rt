@@ -5,5 +5,3 @@
 pub mod check;
 pub mod finding;
 pub mod order;
-pub mod replayed;
-pub mod viewed;
