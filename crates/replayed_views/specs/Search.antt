@@ -1,5 +1,5 @@
 -- The first wrong answer of several views.
-use Rattle.std.specs.Prelude.{ℕ, cond, List, [], get_or, take, ltb}
+use Rattle.std.specs.Prelude.{ℕ, List, [], get_or, take}
 use Rattle.std.proofs.Math.Option.{Option, none, some}
 use Rattle.criteria.specs.History.{History}
 use Rattle.criteria.specs.Replay.{Contents}
@@ -12,10 +12,7 @@ use Rattle.replays.specs.Visible.{no_visible}
 -- A view and an event, where there is an event.
 abbrev pub at_view : ℕ → Option ℕ → Option Place
 at_view k none = none
-at_view k (some e) = some record { view = k; event = e }
-
-abbrev pub place_of : Place → Option Place
-place_of p = cond (ltb p.event 64) (some p) none
+at_view k (some e) = some record { view = k; event = record { 0 = e } }
 
 -- The first wrong answer of view k.
 abbrev pub wrong_in : History → Contents → List Visible → List (List ℕ) → List ℕ → ℕ → Option Place
