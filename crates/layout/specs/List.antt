@@ -1,10 +1,10 @@
 -- A list of numbers: numbers joined by commas, `-` for the empty list.
-use Rattle.std.specs.Prelude.{ℕ, zero, suc, Bool, true, cond, ◌&&◌, List, [], ◌∷◌, map, length, leb, ltb}
+use Rattle.std.specs.Prelude.{ℕ, zero, suc, Bool, true, cond, ◌&&◌, List, [], ◌∷◌, map, length, leb, ltb, Result, Ok, Err}
 use Rattle.layout.specs.Split.{split, join}
 use Rattle.layout.specs.Word.{same, dash}
 use Rattle.layout.specs.Number.{is_number, value, spell}
-use Rattle.layout.specs.declared.list.ListRead.{ListRead}
-use Rattle.layout.specs.declared.list.ListRead.TheVariants.{NotList, Over, Many, Listed}
+use Rattle.layout.specs.declared.list.ListFault.{ListFault}
+use Rattle.layout.specs.declared.list.ListFault.TheVariants.{NotList, Over, Many}
 
 -- ---- reading
 -- The items of a list, as they are spelt.
@@ -21,12 +21,12 @@ all_below bound (p ∷ ps) = ltb (value p) bound && all_below bound ps
 
 -- What items are as a list of at most max numbers below a bound: a misspelt item counts first, then one that is not
 -- below the bound, then their count.
-unfoldable pub judged : ℕ → ℕ → List (List ℕ) → ListRead
+unfoldable pub judged : ℕ → ℕ → List (List ℕ) → Result ℕ ListFault
 judged bound max ps =
-    cond (all_numbers ps) (cond (all_below bound ps) (cond (leb (length ps) max) (Listed (length ps)) Many) Over) NotList
+    cond (all_numbers ps) (cond (all_below bound ps) (cond (leb (length ps) max) (Ok (length ps)) (Err Many)) (Err Over)) (Err NotList)
 
 -- What a field is as such a list.
-unfoldable pub list_of : ℕ → ℕ → List ℕ → ListRead
+unfoldable pub list_of : ℕ → ℕ → List ℕ → Result ℕ ListFault
 list_of bound max f = judged bound max (items_of f)
 
 -- The numbers of a field that is a list.

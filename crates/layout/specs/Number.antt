@@ -1,7 +1,7 @@
 -- A number: digits with no leading zero, `0` itself allowed (document 01, "History text").
-use Rattle.std.specs.Prelude.{ℕ, zero, suc, ◌+◌, ◌-◌, ◌*◌, ◌/◌, ◌%◌, Bool, true, false, cond, not, ◌&&◌, List, [], ◌∷◌, eqb, leb, ltb}
-use Rattle.layout.specs.declared.number.Number.{Number}
-use Rattle.layout.specs.declared.number.Number.TheVariants.{NotNumber, Value, Over}
+use Rattle.std.specs.Prelude.{ℕ, zero, suc, ◌+◌, ◌-◌, ◌*◌, ◌/◌, ◌%◌, Bool, true, false, cond, not, ◌&&◌, List, [], ◌∷◌, eqb, leb, ltb, Result, Ok, Err}
+use Rattle.layout.specs.declared.number.NumberFault.{NumberFault}
+use Rattle.layout.specs.declared.number.NumberFault.TheVariants.{NotNumber, Over}
 
 -- The bytes `0` to `9`.
 unfoldable pub is_digit : ℕ → Bool
@@ -29,12 +29,12 @@ abbrev pub value : List ℕ → ℕ
 value f = value_from 0 f
 
 -- A value below a bound, or over the limit that the bound sets.
-unfoldable pub below : ℕ → ℕ → Number
-below bound n = cond (ltb n bound) (Value n) Over
+unfoldable pub below : ℕ → ℕ → Result ℕ NumberFault
+below bound n = cond (ltb n bound) (Ok n) (Err Over)
 
 -- What a field is as a number below a bound.
-unfoldable pub number_of : ℕ → List ℕ → Number
-number_of bound f = cond (is_number f) (below bound (value f)) NotNumber
+unfoldable pub number_of : ℕ → List ℕ → Result ℕ NumberFault
+number_of bound f = cond (is_number f) (below bound (value f)) (Err NotNumber)
 
 -- The digits of n before the bytes r. The first argument is any number above n: it only bounds the recursion.
 unfoldable pub spell_within : ℕ → ℕ → List ℕ → List ℕ

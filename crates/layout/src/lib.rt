@@ -3,6 +3,7 @@
 
 #![tactic(auto)]
 
+pub mod at;
 pub mod fill;
 pub mod line;
 pub mod list;

@@ -6,8 +6,5 @@ pub fn byte_behind(i: usize, n: usize) -> u8
     requires { i < n }
     ensures { result ≡ cond (eqb (i + 1) n) 10 32 }
 {
-    if i + 1 == n {
-        return 10;
-    }
-    32
+    if i + 1 == n { b'\n' } else { b' ' }
 }

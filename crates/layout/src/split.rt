@@ -1,35 +1,33 @@
 // Cutting bytes at a byte: lines at 10, fields at 32.
-ghost use Rattle.std.specs.Prelude.{◌≡◌, ◌+◌, ◌≤◌, [], length, drop, get_or};
+ghost use Rattle.std.specs.Prelude.{◌≡◌, ◌+◌, ◌≤◌, ◌<◌, [], ◌∷◌, length, take, drop, get_or, MatchOption};
 ghost use Rattle.layout.specs.Split.{find, split, part_start};
 
-// The place of the first byte b of s from a place on, or the length of s where there is none.
-pub fn find_from(s: &[u8], from: usize, b: u8) -> usize
+// The place of the first byte b of s from a place on.
+pub fn find_from(s: &[u8], from: usize, b: u8) -> Option<usize>
     requires { from ≤ length s.now }
-    ensures { (result ≡ from + find b (drop from s.now)) × (from ≤ result) × (result ≤ length s.now) }
+    ensures { MatchOption result (find b (drop from s.now) ≡ length (drop from s.now)) (λ e. (e ≡ from + find b (drop from s.now)) × (from ≤ e) × (e < length s.now)) }
 {
-    let mut i = from;
-    while i < s.len() {
-        if s[i] == b {
-            return i;
-        }
-        i += 1;
-    }
-    i
+    s[from..].iter().position(|x| *x == b).map(|i| from + i)
+}
+
+// The bytes before the first byte b of s, and those behind it.
+pub fn split_once<'a>(s: &'a [u8], b: u8) -> Option<(&'a [u8], &'a [u8])>
+    ensures { MatchOption result ((find b s.now ≡ length s.now) × (split b s.now ≡ s.now ∷ [])) (λ p. (find b s.now < length s.now) × (p.0.now ≡ take (find b s.now) s.now) × (p.1.now ≡ drop (find b s.now + 1) s.now) × (split b s.now ≡ p.0.now ∷ split b p.1.now)) }
+{
+    let e = find_from(s, 0, b)?;
+    Some((&s[..e], &s[e + 1..]))
 }
 
 // Where the part with the number k, from 0, begins, of s cut at the bytes b; the length of s where there are not so many.
 pub fn part_start(s: &[u8], b: u8, k: usize) -> usize
     ensures { (result ≡ part_start b k s.now) × (result ≤ length s.now) × (get_or (split b s.now) k [] ≡ get_or (split b (drop result s.now)) 0 []) }
 {
-    let mut a = 0;
-    let mut left = k;
-    while 0 < left {
-        let e = find_from(s, a, b);
-        if e == s.len() {
-            return e;
-        }
-        a = e + 1;
-        left -= 1;
+    let mut start = 0;
+    for _ in 0..k {
+        let Some(e) = find_from(s, start, b) else {
+            return s.len();
+        };
+        start = e + 1;
     }
-    a
+    start
 }
