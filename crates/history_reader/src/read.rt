@@ -1,10 +1,21 @@
 // Reading a history text.
-ghost use Rattle.std.specs.Prelude.{◌≡◌};
-ghost use Rattle.history_reader.specs.ReadHistory.{history_read, read_history, faulty_line};
+ghost use Rattle.std.specs.Prelude.{◌≡◌, ◌+◌, ◌-◌, ◌≤◌, [], length, take, drop, Result, Ok, Err};
+ghost use Rattle.layout.specs.Split.{split};
+ghost use Rattle.history.specs.Faults.{fault_number};
+ghost use Rattle.history.specs.Record.{pad, no_object};
+ghost use Rattle.history_reader.specs.ReadHistory.{refusal, history_read, events_from, objects_from, lines_from, read_history, faulty_line};
+ghost use Rattle.history_reader.specs.Steps.{ObjectsRead};
 
-use crate::place::Place;
+use crate::place::{Place, Text, faulty_place};
+use event_reader::next::next_event;
 use history::fault::Fault;
-use history::record::History;
+use history::object::read_object;
+use history::record::{History, Object, no_event, no_object};
+use layout::split::find_from;
+use layout::word::is_word;
+
+// The longest history text that is read.
+const LONGEST: usize = 16384;
 
 // A reading refusal: the first fault, and the place of its line.
 #[derive(Clone, Copy)]
@@ -13,11 +24,102 @@ pub struct Refusal {
     pub place: Place,
 }
 
+// The objects of a history, the first `declared` of the array, and where the lines of its events begin.
+#[derive(Clone, Copy)]
+struct Declared {
+    pub objects: [Object; 16],
+    pub declared: usize,
+    pub end: usize,
+}
+
+fn refuse(fault: Fault, line: usize, start: usize, end: usize) -> Refusal
+    requires { start ≤ end }
+    ensures { history_read (Err result) ≡ refusal (fault_number fault) line start (end - start) }
+{
+    Refusal {
+        fault,
+        place: faulty_place(Text::History, line, start, end),
+    }
+}
+
+// Reads the lines after the heading of the objects, which begin at `from`, up to the heading of the events.
+fn read_objects(text: &[u8], from: usize) -> Result<Declared, Refusal>
+    requires { from ≤ length text.now }
+    ensures { ObjectsRead (objects_from [] 2 from (split 10 (drop from text.now))) text.now result }
+{
+    let mut objects = [no_object(); 16];
+    let mut declared = 0;
+    let mut start = from;
+    loop {
+        let line = declared + 2;
+        let Some(end) = find_from(text, start, b'\n') else {
+            return Err(refuse(Fault::Layout, line, start, text.len()));
+        };
+        if is_word(
+            &text[start..end],
+            b"event process object op value answer",
+        ) {
+            return Ok(Declared {
+                objects,
+                declared,
+                end: end + 1,
+            });
+        }
+        objects[declared] = read_object(&text[start..end], declared as u32)
+            .map_err(|fault| refuse(fault, line, start, end))?;
+        declared += 1;
+        start = end + 1;
+    }
+}
+
+// Reads the lines of the events, after those of the objects.
+fn read_events(text: &[u8], read: Declared) -> Result<History, Refusal>
+    requires { (read.end ≤ length text.now) × (read.declared ≤ 16) × (read.objects ≡ pad 16 no_object (take read.declared read.objects)) }
+    ensures { history_read result ≡ events_from (take read.declared read.objects) [] (read.declared + 3) read.end (split 10 (drop read.end text.now)) }
+{
+    let objects = &read.objects[..read.declared];
+    let mut events = [no_event(); 64];
+    let mut count = 0;
+    let mut start = read.end;
+    while start < text.len() {
+        let line = read.declared + count + 3;
+        let next = next_event(text, start, count as u32, objects);
+        events[count] = next
+            .event
+            .map_err(|fault| refuse(fault, line, start, next.end))?;
+        count += 1;
+        start = next.end + 1;
+    }
+    Ok(History {
+        objects: read.objects,
+        declared: read.declared,
+        events,
+        count,
+    })
+}
+
+// Reads all lines.
+fn read_lines(text: &[u8]) -> Result<History, Refusal>
+    ensures { history_read result ≡ lines_from (split 10 text.now) }
+{
+    let Some(end) = find_from(text, 0, b'\n') else {
+        return Err(refuse(Fault::Layout, 1, 0, text.len()));
+    };
+    if !is_word(&text[..end], b"object kind width") {
+        return Err(refuse(Fault::Layout, 1, 0, end));
+    }
+    let declared = read_objects(text, end + 1)?;
+    read_events(text, declared)
+}
+
 // Reads a history text of any length and content.
 pub fn read_history(text: &[u8]) -> Result<History, Refusal>
     ensures { history_read result ≡ read_history text.now }
 {
-    read_history(text)
+    if text.len() > LONGEST {
+        return Err(refuse(Fault::TooLong, 0, 0, 0));
+    }
+    read_lines(text)
 }
 
 // The faulty line of a history text, as part of that text and without its line feed; empty where there is none.
@@ -25,7 +127,7 @@ pub fn faulty_line(text: &[u8]) -> &[u8]
     ensures { result.now ≡ faulty_line text.now }
 {
     match read_history(text) {
-        Ok(_) => &[],
+        Ok(_) => &text[..0],
         Err(refusal) => &text[refusal.place.start..refusal.place.end],
     }
 }
