@@ -1,3 +1,4 @@
+pub mod AllLaws
 pub mod PadLaws
 pub mod ListingLaws
 pub mod FaultLaws
