@@ -8,7 +8,7 @@ use lib.ListN.{length, take, drop, set, length-append, length-drop, take-append-
 use lib.Seq.{length-take-le, take_all, drop-drop, take_at, drop_at, take-append-add, drop-append-add, take-suc-set, drop-set-lt}
 use borrow.Rule.Slice.PartMut.{put_mid}
 use borrow.Author.Tests.{le-leb, lt-leb}
-use Rattle.layout.specs.declared.fill.Written.TheVariants.{Wrote, Short}
+use Rattle.std.specs.Prelude.{Some, None}
 use Rattle.layout.specs.Fill.{fill, written, after}
 use Rattle.layout.specs.Steps.Fill.{fill_at}
 
@@ -18,7 +18,7 @@ module _ (t b : List ℕ) where
   unfolding fill
   fill-length h = omega (arith, length-append t (drop (length t) b), length-drop (length t) b)
 
-  pub written-fits : length t ≤ length b → written t b ≡ Wrote (length t)
+  pub written-fits : length t ≤ length b → written t b ≡ Some (length t)
   unfolding written
   written-fits h = rw (le-leb (length t) (length b) h)
 
@@ -26,7 +26,7 @@ module _ (t b : List ℕ) where
   unfolding after
   after-fits h = rw (le-leb (length t) (length b) h)
 
-  pub written-short : length b < length t → written t b ≡ Short
+  pub written-short : length b < length t → written t b ≡ None
   unfolding written
   written-short h = rw (lt-leb (length t) (length b) h)
 

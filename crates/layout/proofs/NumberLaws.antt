@@ -10,7 +10,8 @@ use lib.ListN.{length, get_or, take, drop, drop_of_length-le, length-take, lengt
 use lib.Seq.{drop-cons, get_or-take, get_or-drop, take_all}
 use lib.Dec.{eqb, leb}
 use borrow.Author.Tests.{le-leb, lt-leb, lt-ltb, le-ltb, leb-true, eqb-true}
-use Rattle.layout.specs.declared.number.Number.TheVariants.{NotNumber, Value, Over}
+use Rattle.std.specs.Prelude.{Ok, Err}
+use Rattle.layout.specs.declared.number.NumberFault.TheVariants.{NotNumber, Over}
 use Rattle.layout.specs.Split.{find}
 use Rattle.layout.specs.Number.{is_digit, all_digits, starts_well, is_number, value_from, value, below, number_of}
 use Rattle.layout.specs.Steps.Number.{digits, push_digit}
@@ -38,19 +39,19 @@ module _ (b : ℕ) where
   unfolding is_digit
   digit-to e = leb-true b 57 (and_right (leb 48 b) (leb b 57) e)
 
--- ---- a turn of the loop that reads digits, at the place i
+-- ---- a turn of the loop that reads a number, at the place i
 module _ (s : List ℕ) (i : ℕ) (h : i < length s) where
-  pub digits-stop : is_digit (get_or s i 0) ≡ false → digits (drop i s) ≡ []
-  unfolding digits
-  digits-stop e = rw (drop-cons s i 0 h, e)
+  pub digits-not : is_digit (get_or s i 0) ≡ false → all_digits (drop i s) ≡ false
+  unfolding all_digits
+  digits-not e = rw (drop-cons s i 0 h, e)
 
-  pub digits-next : is_digit (get_or s i 0) ≡ true → digits (drop i s) ≡ get_or s i 0 ∷ digits (drop (i + 1) s)
-  unfolding digits
+  pub digits-next : is_digit (get_or s i 0) ≡ true → all_digits (drop i s) ≡ all_digits (drop (i + 1) s)
+  unfolding all_digits
   digits-next e = rw (add-one, drop-cons s i 0 h, e)
 
-pub digits-end : (s : List ℕ) (i : ℕ) → length s ≤ i → digits (drop i s) ≡ []
-unfolding digits
-digits-end s i h = rw (drop_of_length-le s h)
+pub digits-end : (s : List ℕ) → all_digits (drop (length s) s) ≡ true
+unfolding all_digits
+digits-end s = rw (drop_of_length-le s (le_refl (length s)))
 
 -- a value that is not below the bound stays so, whatever digits follow
 from-ge : (v : ℕ) (bs : List ℕ) → v ≤ value_from v bs
@@ -58,11 +59,11 @@ unfolding value_from
 from-ge v [] = le_refl v
 from-ge v (b ∷ bs) = le_trans (omega arith) (from-ge (v * 10 + (b - 48)) bs)
 
-pub below-value : (bound n : ℕ) → n < bound → below bound n ≡ Value n
+pub below-value : (bound n : ℕ) → n < bound → below bound n ≡ Ok n
 unfolding below
 below-value bound n h = rw (lt-ltb n bound h)
 
-pub below-not : (bound n : ℕ) → bound ≤ n → below bound n ≡ Over
+pub below-not : (bound n : ℕ) → bound ≤ n → below bound n ≡ Err Over
 unfolding below
 below-not bound n h = rw (le-ltb n bound h)
 
@@ -108,48 +109,15 @@ digits-prefix (b ∷ s) =
 pub digits-few : (s : List ℕ) → length (digits s) ≤ length s
 digits-few s = omega (arith, ap length (digits-prefix s), length-take (length (digits s)) s)
 
--- digits up to the first b, or to the end, where b is none
-pub digits-part : (b : ℕ) (s : List ℕ) → is_digit b ≡ false → all_digits (take (find b s) s) ≡ true → digits s ≡ take (find b s) s
-unfolding digits all_digits find
-digits-part b [] n e = refl
-digits-part b (x ∷ s) n e =
-    by_bool (eqb x b)
-    (λ q. let d : is_digit x ≡ false = ap is_digit (eqb-true x b q) ∙ n in rw (q, d))
-    (λ q.
-    let a : is_digit x && all_digits (take (find b s) s) ≡ true = rw q at e in
-    rw (q, and_left (is_digit x) (all_digits (take (find b s) s)) a)
-    (ap (λ (l : List ℕ). x ∷ l) (digits-part b s n (and_right (is_digit x) (all_digits (take (find b s) s)) a))))
-
-pub digits-whole : (s : List ℕ) → all_digits s ≡ true → digits s ≡ s
-unfolding digits all_digits
-digits-whole [] e = refl
-digits-whole (x ∷ s) e =
-    rw (and_left (is_digit x) (all_digits s) e) (ap (λ (l : List ℕ). x ∷ l) (digits-whole s (and_right (is_digit x) (all_digits s) e)))
-
 -- ---- how a number starts
 pub starts_none : (p : List ℕ) → length p ≡ 0 → starts_well p ≡ false
 unfolding starts_well
 starts_none [] h = refl
 starts_none (a ∷ p) h = absurd (suc-ne-zero (length p) h)
 
-pub starts-one : (p : List ℕ) → length p ≡ 1 → starts_well p ≡ true
-unfolding starts_well
-starts-one [] h = absurd (suc-ne-zero 0 (sym h))
-starts-one (a ∷ []) h = refl
-starts-one (a ∷ b ∷ p) h = absurd (suc-ne-zero (length p) (suc_inj h))
-
-pub starts_more : (p : List ℕ) → 1 < length p → starts_well p ≡ not (eqb (get_or p 0 0) 48)
-unfolding starts_well
-starts_more [] h = absurd (not-suc-le-zero h)
-starts_more (a ∷ []) h = absurd (not-suc-le-zero (le_of_suc-le-suc h))
-starts_more (a ∷ b ∷ p) h = refl
-
 module _ (s : List ℕ) (a e : ℕ) (from : a ≤ e) (to : e ≤ length s) where
   pub cut-long : length (take (e - a) (drop a s)) ≡ e - a
   cut-long = simp (length-take, length-drop) (omega arith)
-
-  pub cut-first : a < e → get_or (take (e - a) (drop a s)) 0 0 ≡ get_or s a 0
-  cut-first h = let p : 0 < e - a = omega arith in rw (get_or-take, get_or-drop, add-zero)
 
 -- ---- a field as a number
 module _ (f : List ℕ) where
@@ -169,32 +137,8 @@ module _ (f : List ℕ) where
   unfolding is_number
   number_is p q = rw (p, q)
 
--- the digits of a field end at e
-module _ (f : List ℕ) (e : ℕ) (found : e ≡ length (digits f)) where
-  pub read_short : (e ≡ length f → ⊥) → is_number f ≡ false
-  read_short n =
-      by_bool (is_number f)
-      (λ q. absurd (n (found ∙ ap length (digits-whole f (number_digits f q)))))
-      (λ q. q)
-
-  module _ (all : e ≡ length f) where
-    pub read_whole : digits f ≡ f
-    read_whole = sym (digits-prefix f) ∙ take_all (length (digits f)) f (omega arith)
-
-    whole : take (e - 0) f ≡ f
-    whole = take_all (e - 0) f (omega arith)
-
-    pub read-not : starts_well (take (e - 0) f) ≡ false → is_number f ≡ false
-    read-not q =
-        by_bool (is_number f)
-        (λ n. absurd (false≢true (sym q ∙ ap starts_well whole ∙ number-starts f n)))
-        (λ n. n)
-
-    pub read_is : starts_well (take (e - 0) f) ≡ true → is_number f ≡ true
-    read_is q = number_is f (ap starts_well (sym whole) ∙ q) (ap all_digits (sym read_whole) ∙ digits-all f)
-
 module _ (bound : ℕ) (f : List ℕ) where
-  pub number-not : is_number f ≡ false → number_of bound f ≡ NotNumber
+  pub number-not : is_number f ≡ false → number_of bound f ≡ Err NotNumber
   unfolding number_of
   number-not e = rw e
 
@@ -202,53 +146,33 @@ module _ (bound : ℕ) (f : List ℕ) where
   unfolding number_of
   number-below e = rw e
 
-  pub number-value : is_number f ≡ true → value f < bound → number_of bound f ≡ Value (value f)
+  pub number-value : is_number f ≡ true → value f < bound → number_of bound f ≡ Ok (value f)
   number-value e h = number-below e ∙ below-value bound (value f) h
 
-  pub number-over : is_number f ≡ true → bound ≤ value f → number_of bound f ≡ Over
+  pub number-over : is_number f ≡ true → bound ≤ value f → number_of bound f ≡ Err Over
   number-over e h = number-below e ∙ below-not bound (value f) h
 
   -- what an answer tells of the field
-  pub not-number : number_of bound f ≡ NotNumber → is_number f ≡ false
+  pub not-number : number_of bound f ≡ Err NotNumber → is_number f ≡ false
   not-number q =
       by_bool (is_number f)
       (λ e. by-lt (value f) bound
-      (λ h. let o = number-value e h in let z : ◌≡◌ {A = ℕ} 0 1 = cc in absurd (omega arith))
-      (λ h. let o = number-over e h in let z : ◌≡◌ {A = ℕ} 0 1 = cc in absurd (omega arith)))
+      (λ h. let o = number-value e h in absurd (cc))
+      (λ h. let o = number-over e h in absurd (cc)))
       (λ e. e)
 
-  pub over-number : number_of bound f ≡ Over → (is_number f ≡ true) × (bound ≤ value f)
+  pub over-number : number_of bound f ≡ Err Over → (is_number f ≡ true) × (bound ≤ value f)
   over-number q =
       by_bool (is_number f)
       (λ e. by-lt (value f) bound
-      (λ h. let o = number-value e h in let z : ◌≡◌ {A = ℕ} 0 1 = cc in absurd (omega arith))
+      (λ h. let o = number-value e h in absurd (cc))
       (λ h. (e, h)))
-      (λ e. let o = number-not e in let z : ◌≡◌ {A = ℕ} 0 1 = cc in absurd (omega arith))
+      (λ e. let o = number-not e in absurd (cc))
 
-  pub value-number : (v : ℕ) → number_of bound f ≡ Value v → (is_number f ≡ true) × (value f ≡ v) × (v < bound)
+  pub value-number : (v : ℕ) → number_of bound f ≡ Ok v → (is_number f ≡ true) × (value f ≡ v) × (v < bound)
   value-number v q =
       by_bool (is_number f)
       (λ e. by-lt (value f) bound
       (λ h. let o = number-value e h in let z : value f ≡ v = cc in (e, z, omega arith))
-      (λ h. let o = number-over e h in let z : ◌≡◌ {A = ℕ} 0 1 = cc in absurd (omega arith)))
-      (λ e. let o = number-not e in let z : ◌≡◌ {A = ℕ} 0 1 = cc in absurd (omega arith))
-
--- a value that is below the bound, and one that is not, by the digits read
-module _ (bound v n : ℕ) (told : below bound v ≡ below bound n) where
-  pub told-value : v < bound → below bound n ≡ Value v
-  told-value h = sym told ∙ below-value bound v h
-
-  pub told_over : bound ≤ v → below bound n ≡ Over
-  told_over h = sym told ∙ below-not bound v h
-
-  pub told_same : v < bound → v ≡ n
-  told_same h =
-      by-lt n bound
-      (λ k. let p = told-value h in let q = below-value bound n k in cc)
-      (λ k. let p = told-value h in let q = below-not bound n k in let z : ◌≡◌ {A = ℕ} 0 1 = cc in absurd (omega arith))
-
-  pub told-not : bound ≤ v → bound ≤ n
-  told-not h =
-      by-lt n bound
-      (λ k. let p = told_over h in let q = below-value bound n k in let z : ◌≡◌ {A = ℕ} 0 1 = cc in absurd (omega arith))
-      (λ k. k)
+      (λ h. let o = number-over e h in absurd (cc)))
+      (λ e. let o = number-not e in absurd (cc))

@@ -9,7 +9,7 @@ use mathlib.Core.Bool.{true, false, false≢true}
 use mathlib.Core.List.{List, [], ◌∷◌, map}
 use lib.ListN.{length}
 use borrow.Author.Tests.{le-leb, lt-ltb}
-use Rattle.layout.specs.declared.list.ListRead.TheVariants.{Listed}
+use Rattle.std.specs.Prelude.{Ok}
 use Rattle.layout.specs.Split.{split, join}
 use Rattle.layout.specs.Word.{same, dash}
 use Rattle.layout.specs.Number.{is_number, starts_well, all_digits, is_digit, value, spell}
@@ -90,7 +90,7 @@ length-spells (x ∷ xs) = ap suc (length-spells xs)
 
 -- the text of a list is read as that list
 pub read-written : (bound max : ℕ) (xs : List ℕ) → length xs ≤ max → Below bound xs
-    → list_of bound max (list_text xs) ≡ Listed (length xs)
+    → list_of bound max (list_text xs) ≡ Ok (length xs)
 unfolding list_of judged
 read-written bound max xs h b =
     rw (items-text xs, spells-numbers xs, spells-below bound xs b, length-spells xs, le-leb (length xs) max h)
@@ -117,7 +117,7 @@ unfolding list_text
 text-none = refl
 
 -- the text of the list that a field is, is the field
-pub written_read : (bound max n : ℕ) (f : List ℕ) → list_of bound max f ≡ Listed n → list_text (numbers_of f) ≡ f
+pub written_read : (bound max n : ℕ) (f : List ℕ) → list_of bound max f ≡ Ok n → list_text (numbers_of f) ≡ f
 unfolding numbers_of items_of
 written_read bound max n f q =
     let i = is-list bound max n f q in

@@ -9,7 +9,8 @@ use mathlib.Core.List.{List, [], ◌∷◌, ◌++◌, append-nil}
 use lib.ListN.{length, drop, set, length-append}
 use lib.Dec.{eqb, ltb}
 use borrow.Author.Tests.{lt-ltb, le-ltb, ltb-true, ltb-false, eq-eqb, ne_eqb, eqb-false, not-true}
-use Rattle.layout.specs.declared.number.Number.TheVariants.{NotNumber, Value, Over}
+use Rattle.std.specs.Prelude.{Ok, Err}
+use Rattle.layout.specs.declared.number.NumberFault.TheVariants.{NotNumber, Over}
 use Rattle.layout.specs.Word.{same}
 use Rattle.layout.specs.Number.{is_digit, all_digits, starts_well, is_number, value_from, value, number_of, spell_within, spell_before, spell}
 use Rattle.layout.specs.Steps.Number.{last_digits}
@@ -187,14 +188,14 @@ module _ (n : ℕ) (f : List ℕ) where
   not-spelling : (value f ≡ n → ⊥) → same f (spell n) ≡ false
   not-spelling h = same_false f (spell n) (λ e. h (ap (value_from 0) e ∙ value-spell n))
 
-  pub own-not : number_of (n + 1) f ≡ NotNumber → same f (spell n) ≡ false
+  pub own-not : number_of (n + 1) f ≡ Err NotNumber → same f (spell n) ≡ false
   own-not q =
       same_false f (spell n) (λ e. false≢true (sym (not-number (n + 1) f q) ∙ ap is_number e ∙ number-spell n))
 
-  pub own-over : number_of (n + 1) f ≡ Over → same f (spell n) ≡ false
+  pub own-over : number_of (n + 1) f ≡ Err Over → same f (spell n) ≡ false
   own-over q = not-spelling (λ e. omega (arith, (over-number (n + 1) f q).1))
 
-  pub own_value : (v : ℕ) → number_of (n + 1) f ≡ Value v → eqb v n ≡ same f (spell n)
+  pub own_value : (v : ℕ) → number_of (n + 1) f ≡ Ok v → eqb v n ≡ same f (spell n)
   own_value v q =
       let t = value-number (n + 1) f v q in
       by-eq v n

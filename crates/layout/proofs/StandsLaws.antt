@@ -7,14 +7,16 @@ use mathlib.Core.Bool.{Bool, true, false, false≢true}
 use mathlib.Core.List.{List, [], ◌∷◌, ◌++◌, append_assoc}
 use lib.ListN.{length, get_or, take, drop, length-append, length-drop, take-append-drop}
 use lib.Seq.{drop-cons, drop-drop, take_all}
-use Rattle.layout.specs.declared.number.NumberAt.{NumberAt}
+use Rattle.std.specs.Prelude.{Option, Some, None, Result, Ok, Err}
+use Rattle.layout.specs.declared.at.At.{At}
+use Rattle.layout.specs.declared.number.NumberFault.{NumberFault}
 use Rattle.layout.specs.Word.{same}
-use Rattle.layout.specs.Number.{starts_well, is_number, value, below, spell}
+use Rattle.layout.specs.Number.{is_number, value, number_of, spell}
 use Rattle.layout.specs.Steps.Number.{digits}
-use Rattle.layout.specs.Steps.Stands.{Stands, stands_at, number_at, spaced_number}
+use Rattle.layout.specs.Steps.Stands.{Stands, stands_at, told_at, number_at, spaced, spaced_number}
 use Rattle.layout.proofs.Cases.{by_bool, by-lt, by-eq}
 use Rattle.layout.proofs.WordLaws.{same_true, same_false}
-use Rattle.layout.proofs.NumberLaws.{digits-all, digits-prefix, digits-few, starts_none, starts-not, number-starts, number_is, number-not, number-below, number-value, number-over, told-value, told_over}
+use Rattle.layout.proofs.NumberLaws.{digits-prefix, digits-few, starts_none, number-starts, value-number}
 use Rattle.layout.proofs.SpellLaws.{spell-value}
 
 -- what stands between two places
@@ -78,36 +80,16 @@ module _ (s w : List ℕ) (from : ℕ) where
       (stands-between s from (from + length w) (omega arith) (word_fits start (sym q ∙ e)))
 
 -- ---- a number at a place
--- the digits from a place on end at `end`, and v says what they are below the bound
-module _ (s : List ℕ) (from end bound v : ℕ) (found : end ≡ from + length (digits (drop from s)))
-    (told : below bound v ≡ below bound (value (digits (drop from s)))) where
-  cut-digits : take (end - from) (drop from s) ≡ digits (drop from s)
-  cut-digits =
-      let n : end - from ≡ length (digits (drop from s)) = omega arith in
-      ap (λ (k : ℕ). take k (drop from s)) n ∙ digits-prefix (drop from s)
+-- what is told there is the field's value, up to the field's end
+told-some : (from n : ℕ) (q : Result ℕ NumberFault) (r : At ℕ) → Some r ≡ told_at from n q
+    → (v : ℕ) × (q ≡ Ok v) × (r.value ≡ v) × (r.end ≡ from + n)
+told-some from n (Ok v) r e =
+    let t : r ≡ record { value = v; end = from + n } = cc in
+    (v, refl, ap (λ (a : At ℕ). a.value) t, ap (λ (a : At ℕ). a.end) t)
+told-some from n (Err f) r e = absurd (cc)
 
-  pub number_read : v < bound → starts_well (take (end - from) (drop from s)) ≡ true
-      → ◌≡◌ {A = NumberAt} (record { value = v; end = end }) (number_at bound from s)
-  unfolding number_at
-  number_read h starts =
-      let is = number_is (digits (drop from s)) (ap starts_well (sym cut-digits) ∙ starts) (digits-all (drop from s)) in
-      rw (number-below bound (digits (drop from s)) is, told-value bound v (value (digits (drop from s))) told h, found)
-
-  pub number-too-large : bound ≤ v → ◌≡◌ {A = NumberAt} (record { value = bound; end = from }) (number_at bound from s)
-  unfolding number_at
-  number-too-large h =
-      by_bool (is_number (digits (drop from s)))
-      (λ is. rw (number-below bound (digits (drop from s)) is, told_over bound v (value (digits (drop from s))) told h))
-      (λ not. rw (number-not bound (digits (drop from s)) not))
-
-  pub number-none : starts_well (take (end - from) (drop from s)) ≡ false
-      → ◌≡◌ {A = NumberAt} (record { value = bound; end = from }) (number_at bound from s)
-  unfolding number_at
-  number-none starts =
-      rw (number-not bound (digits (drop from s)) (starts-not (digits (drop from s)) (ap starts_well (sym cut-digits) ∙ starts)))
-
--- the spelling of a number that is told stands there
 module _ (s : List ℕ) (from bound : ℕ) where
+  -- digits that are a number stand there as its spelling
   digits-stand : is_number (digits (drop from s)) ≡ true
       → Stands (spell (value (digits (drop from s)))) from (from + length (digits (drop from s))) s
   digits-stand is =
@@ -120,53 +102,40 @@ module _ (s : List ℕ) (from bound : ℕ) where
       (stands-between s from (from + length ds) (omega arith)
       (by-eq (length ds) 0 (λ z. absurd (some z)) (λ z. omega (arith, few, length-drop from s))))
 
-  number-spelt : (number_at bound from s).value < bound → Stands (spell (number_at bound from s).value) from (number_at bound from s).end s
-  unfolding number_at
-  number-spelt h =
-      by_bool (is_number (digits (drop from s)))
-      (λ is.
-      by-lt (value (digits (drop from s))) bound
-      (λ l. rw (number-value bound (digits (drop from s)) is l) (digits-stand is))
-      (λ l. let k : bound < bound = rw (number-over bound (digits (drop from s)) is l) at h in absurd (omega arith)))
-      (λ not. let k : bound < bound = rw (number-not bound (digits (drop from s)) not) at h in absurd (omega arith))
+  module _ (r : At ℕ) (q : Some r ≡ number_at bound from s) where
+    told : (is_number (digits (drop from s)) ≡ true) × (value (digits (drop from s)) ≡ r.value) × (r.value < bound) × (r.end ≡ from + length (digits (drop from s)))
+    unfolding number_at
+    told =
+        let t = told-some from (length (digits (drop from s))) (number_of bound (digits (drop from s))) r q in
+        let n = value-number bound (digits (drop from s)) t.0 t.1 in
+        (n.0, n.1 ∙ sym t.2, omega (arith, n.2, t.2), t.3)
 
-  -- where it ends
-  number-ends : from ≤ length s → (number_at bound from s).end ≤ length s
-  unfolding number_at
-  number-ends start =
-      by_bool (is_number (digits (drop from s)))
-      (λ is.
-      by-lt (value (digits (drop from s))) bound
-      (λ l. rw (number-value bound (digits (drop from s)) is l) (digits-stand is).inside)
-      (λ l. rw (number-over bound (digits (drop from s)) is l) start))
-      (λ not. rw (number-not bound (digits (drop from s)) not) start)
+    pub number-low : r.value < bound
+    number-low = told.2
 
-  pub number-inside : (r : NumberAt) → r ≡ number_at bound from s → from ≤ length s → r.end ≤ length s
-  number-inside r q start = rw q (number-ends start)
+    pub number-stands : Stands (spell r.value) from r.end s
+    number-stands = rw (← told.1, told.3) (digits-stand told.0)
 
-  pub number-stands : (r : NumberAt) → r ≡ number_at bound from s → r.value < bound → Stands (spell r.value) from r.end s
-  number-stands r q h = rw q (number-spelt (rw q at h))
-
-  -- ---- with a space behind it, where r is the number that stands there
-  module _ (r : NumberAt) (q : r ≡ number_at bound from s) where
-    pub spaced-none : stands_at (32 ∷ []) r.end s ≡ false → ◌≡◌ {A = NumberAt} (record { value = bound; end = from }) (spaced_number bound from s)
-    unfolding spaced_number
-    spaced-none e = rw (← q, e)
-
-    pub spaced-read : stands_at (32 ∷ []) r.end s ≡ true
-        → ◌≡◌ {A = NumberAt} (record { value = r.value; end = r.end + 1 }) (spaced_number bound from s)
-    unfolding spaced_number
-    spaced-read e = rw (← q, e)
-
-  spaced-spelt : (spaced_number bound from s).value < bound
-      → Stands (spell (spaced_number bound from s).value ++ 32 ∷ []) from (spaced_number bound from s).end s
-  spaced-spelt h =
-      let n = number_at bound from s in
+  -- with a space behind it
+  spaced-some : (t : Option (At ℕ)) (r : At ℕ) → Some r ≡ spaced s t
+      → (n : At ℕ) × (Some n ≡ t) × (stands_at (32 ∷ []) n.end s ≡ true) × (r.value ≡ n.value) × (r.end ≡ n.end + 1)
+  unfolding spaced
+  spaced-some None r q = absurd (cc)
+  spaced-some (Some n) r q =
       by_bool (stands_at (32 ∷ []) n.end s)
       (λ e.
-      let p = number-stands n refl (rw (← spaced-read n refl e) at h) in
-      rw (← spaced-read n refl e) (stands-then p (word_stands s (32 ∷ []) n.end true (sym e) p.inside refl)))
-      (λ e. let k : bound < bound = rw (← spaced-none n refl e) at h in absurd (omega arith))
+      let p : Some r ≡ Some (record { value = n.value; end = n.end + 1 }) = rw e at q in
+      let t : r ≡ record { value = n.value; end = n.end + 1 } = cc in
+      (n, refl, e, ap (λ (a : At ℕ). a.value) t, ap (λ (a : At ℕ). a.end) t))
+      (λ e. let p : Some r ≡ None = rw e at q in absurd (cc))
 
-  pub spaced-stands : (r : NumberAt) → r ≡ spaced_number bound from s → r.value < bound → Stands (spell r.value ++ 32 ∷ []) from r.end s
-  spaced-stands r q h = rw q (spaced-spelt (rw q at h))
+  behind : (n r : At ℕ) → r.value ≡ n.value → r.end ≡ n.end + 1 → Stands (spell n.value ++ 32 ∷ []) from (n.end + 1) s
+      → Stands (spell r.value ++ 32 ∷ []) from r.end s
+  behind n r v e p = rw (v, e) p
+
+  pub spaced-stands : (r : At ℕ) → Some r ≡ spaced_number bound from s → Stands (spell r.value ++ 32 ∷ []) from r.end s
+  unfolding spaced_number
+  spaced-stands r q =
+      let t = spaced-some (number_at bound from s) r q in
+      let p = number-stands t.0 t.1 in
+      behind t.0 r t.3 t.4 (stands-then p (word_stands s (32 ∷ []) (t.0).end true (sym t.2) p.inside refl))
