@@ -1,5 +1,5 @@
 -- The faults of a line of a history text (document 01, "Read a history"; document 02, T-01, T-02): on a line the first of 2, 3, 4 and 5.
-use Rattle.std.specs.Prelude.{ℕ, Bool, true, cond, not, ◌&&◌, ◌||◌, List, [], length, get_or, eqb, leb, ltb}
+use Rattle.std.specs.Prelude.{ℕ, Result, Ok, Err, Bool, true, cond, not, ◌&&◌, ◌||◌, List, [], length, get_or, eqb, leb, ltb}
 use Rattle.layout.specs.Split.{split}
 use Rattle.layout.specs.Word.{same, dash, question}
 use Rattle.layout.specs.Number.{is_number, value, spell}
@@ -9,8 +9,17 @@ use Rattle.history.specs.Kinds.{is_kind, kind_of, is_op, op_of, has_width, width
 use Rattle.history.specs.declared.record.Object.{Object}
 use Rattle.history.specs.declared.record.Answer.{Answer}
 use Rattle.history.specs.declared.record.Event.{Event}
-use Rattle.history.specs.declared.object.ObjectRead.{ObjectRead}
-use Rattle.history.specs.declared.event.EventRead.{EventRead}
+use Rattle.history.specs.declared.fault.Fault.{Fault}
+use Rattle.history.specs.declared.fault.Fault.TheVariants.{TooLong, Layout, Limits, Misfit, BadAnswer, NotRising}
+
+-- The number of a fault.
+abbrev pub fault_number : Fault → ℕ
+fault_number TooLong = 1
+fault_number Layout = 2
+fault_number Limits = 3
+fault_number Misfit = 4
+fault_number BadAnswer = 5
+fault_number NotRising = 6
 
 -- The first fault of a line whose layout (2), limits (3), ops, values and widths (4) and answer's length (5) are in order or
 -- not; 0 where all are.
@@ -38,11 +47,21 @@ object_limits own k w = ltb own 16 && (same w dash || (ltb 0 (value w) && leb (v
 unfoldable pub object_fits : List ℕ → List ℕ → Bool
 object_fits k w = cond (has_width (kind_of k)) (not (same w dash)) (same w dash)
 
+-- The object of a line and fault 0, or its first fault and no object.
+pub record ObjectRead : Type 0 where
+  pub fault : ℕ
+  pub object : Object
+
 abbrev pub faulty_object : ℕ → ObjectRead
 faulty_object fault = record { fault = fault; object = no_object }
 
 abbrev pub object_with : ℕ → Object → ObjectRead
 object_with fault o = cond (eqb fault 0) (record { fault = 0; object = o }) (faulty_object fault)
+
+-- What a reader of an object's line answers, as the definitions say it.
+abbrev pub object_read : Result Object Fault → ObjectRead
+object_read (Ok o) = record { fault = 0; object = o }
+object_read (Err f) = faulty_object (fault_number f)
 
 unfoldable pub object_fault : ℕ → List ℕ → List ℕ → List ℕ → ℕ
 object_fault own a k w = first_fault (object_layout own a k w) (object_limits own k w) (object_fits k w) true
@@ -96,11 +115,21 @@ event_fault own os a p o w v s =
     first_fault (event_layout own a p o w v s) (event_limits own (length os) p o v s) (event_fits (object_named os o) w v)
     (event_long (object_named os o) w s)
 
+-- The event of a line and fault 0, or its first fault and no event.
+pub record EventRead : Type 0 where
+  pub fault : ℕ
+  pub event : Event
+
 abbrev pub faulty_event : ℕ → EventRead
 faulty_event fault = record { fault = fault; event = no_event }
 
 abbrev pub event_with : ℕ → Event → EventRead
 event_with fault e = cond (eqb fault 0) (record { fault = 0; event = e }) (faulty_event fault)
+
+-- What a reader of an event's line answers, as the definitions say it.
+abbrev pub event_read : Result Event Fault → EventRead
+event_read (Ok e) = record { fault = 0; event = e }
+event_read (Err f) = faulty_event (fault_number f)
 
 -- The event that six fields say.
 unfoldable pub event_said : List ℕ → List ℕ → List ℕ → List ℕ → List ℕ → Event

@@ -5,7 +5,7 @@
 
 pub mod answer;
 pub mod event;
-pub mod field;
+pub mod fault;
 pub mod object;
 pub mod record;
 pub mod word;

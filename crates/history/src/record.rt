@@ -1,18 +1,22 @@
 // The history record, by value. Every place that a record does not use holds zeros (`Register`, `Write` and `false` for a kind, an op
 // and a bool), so that two records of one history are equal.
+ghost use Rattle.std.specs.Prelude.{◌≡◌};
+ghost use Rattle.history.specs.Record.{no_object, no_event};
+
+use crate::answer::no_answer;
 
 // The values of objects and answers: the numbers below VALUES.
 pub type Value = u16;
 
 pub const VALUES: u64 = 65536;
 
-#[derive(Clone, Copy)]
+#[derive(Clone, Copy, PartialEq, Eq)]
 pub struct ProcessNo(pub u8);
 
-#[derive(Clone, Copy)]
+#[derive(Clone, Copy, PartialEq, Eq)]
 pub struct EventNo(pub u8);
 
-#[derive(Clone, Copy)]
+#[derive(Clone, Copy, PartialEq, Eq)]
 pub enum Kind {
     Register,
     Queue,
@@ -21,7 +25,7 @@ pub enum Kind {
     Channel,
 }
 
-#[derive(Clone, Copy)]
+#[derive(Clone, Copy, PartialEq, Eq)]
 pub enum Op {
     Write,
     Read,
@@ -62,4 +66,27 @@ pub struct History {
     pub declared: usize,
     pub events: [Event; 64],
     pub count: usize,
+}
+
+// What stands in a place that holds no object.
+pub fn no_object() -> Object
+    ensures { result ≡ no_object }
+{
+    Object {
+        kind: Kind::Register,
+        width: 0,
+    }
+}
+
+// What stands in a place that holds no event.
+pub fn no_event() -> Event
+    ensures { result ≡ no_event }
+{
+    Event {
+        process: ProcessNo(0),
+        object: 0,
+        op: Op::Write,
+        value: 0,
+        answer: no_answer(),
+    }
 }

@@ -1,89 +1,45 @@
 // The words of kinds and ops.
-ghost use Rattle.std.specs.Prelude.{◌≡◌, ◌+◌, ◌≤◌, cond, not, []};
+ghost use Rattle.std.specs.Prelude.{◌≡◌, ◌+◌, ◌≤◌, cond, not};
 ghost use Rattle.history.specs.Kinds.{is_kind, kind_of, is_op, op_of, is_channel, has_width, width_limit, is_shelf, is_shelf_op, has_op, takes_value, read_can_answer, push_can_answer, can_answer, may_answer};
 
-use crate::record::{Kind, Object, Op};
+use crate::record::{Answer, Kind, Object, Op};
 use layout::word::is_word;
 
-// What a field is as a kind's word.
-#[derive(Clone, Copy)]
-pub struct KindRead {
-    pub known: bool,
-    pub kind: Kind,
-}
-
-// What a field is as an op's word.
-#[derive(Clone, Copy)]
-pub struct OpRead {
-    pub known: bool,
-    pub op: Op,
-}
-
-pub fn read_kind(field: &[u8]) -> KindRead
-    ensures { (result.known ≡ is_kind field.now) × (result.kind ≡ kind_of field.now) }
+// The kind whose word a field is.
+pub fn read_kind(field: &[u8]) -> Option<Kind>
+    ensures { result ≡ cond (is_kind field.now) (Some (kind_of field.now)) None }
 {
     if is_word(field, b"queue") {
-        return KindRead {
-            known: true,
-            kind: Kind::Queue,
-        };
-    }
-    if is_word(field, b"stack") {
-        return KindRead {
-            known: true,
-            kind: Kind::Stack,
-        };
-    }
-    if is_word(field, b"window") {
-        return KindRead {
-            known: true,
-            kind: Kind::Window,
-        };
-    }
-    if is_word(field, b"channel") {
-        return KindRead {
-            known: true,
-            kind: Kind::Channel,
-        };
-    }
-    let known = is_word(field, b"register");
-    KindRead {
-        known,
-        kind: Kind::Register,
+        Some(Kind::Queue)
+    } else if is_word(field, b"stack") {
+        Some(Kind::Stack)
+    } else if is_word(field, b"window") {
+        Some(Kind::Window)
+    } else if is_word(field, b"channel") {
+        Some(Kind::Channel)
+    } else if is_word(field, b"register") {
+        Some(Kind::Register)
+    } else {
+        None
     }
 }
 
-pub fn read_op(field: &[u8]) -> OpRead
-    ensures { (result.known ≡ is_op field.now) × (result.op ≡ op_of field.now) }
+// The op whose word a field is.
+pub fn read_op(field: &[u8]) -> Option<Op>
+    ensures { result ≡ cond (is_op field.now) (Some (op_of field.now)) None }
 {
     if is_word(field, b"read") {
-        return OpRead {
-            known: true,
-            op: Op::Read,
-        };
-    }
-    if is_word(field, b"push") {
-        return OpRead {
-            known: true,
-            op: Op::Push,
-        };
-    }
-    if is_word(field, b"pop") {
-        return OpRead {
-            known: true,
-            op: Op::Pop,
-        };
-    }
-    if is_word(field, b"peek") {
-        return OpRead {
-            known: true,
-            op: Op::Peek,
-        };
-    }
-    let known = is_word(field, b"write");
-    OpRead {
-        known,
-        op: Op::Write,
+        Some(Op::Read)
+    } else if is_word(field, b"push") {
+        Some(Op::Push)
+    } else if is_word(field, b"pop") {
+        Some(Op::Pop)
+    } else if is_word(field, b"peek") {
+        Some(Op::Peek)
+    } else if is_word(field, b"write") {
+        Some(Op::Write)
+    } else {
+        None
     }
 }
 
@@ -206,14 +162,14 @@ fn can_answer(object: Object, op: Op, n: u8) -> bool
     }
 }
 
-// Whether an op of an object can give the answer: one that was lost, which has no value, or one of n values.
-pub fn may_answer(object: Object, op: Op, lost: bool, n: u8) -> bool
-    ensures { result ≡ may_answer object op (record { lost = lost; count = n; values = [] }) }
+// Whether an op of an object can give the answer: one that was lost, which has no value, or one of so many values.
+pub fn may_answer(object: Object, op: Op, answer: Answer) -> bool
+    ensures { result ≡ may_answer object op answer }
 {
-    if lost {
-        return n == 0;
+    if answer.lost {
+        return answer.count == 0;
     }
-    can_answer(object, op, n)
+    can_answer(object, op, answer.count)
 }
 
 // Whether a value or a width stands where it belongs, and `-` elsewhere.
