@@ -13,12 +13,10 @@ use Rattle.layout.specs.List.{items_of, all_numbers, numbers_of}
 use Rattle.layout.proofs.Cases.{by_bool, and-false}
 use Rattle.history.specs.declared.record.Object.{Object}
 use Rattle.history.specs.declared.record.Event as WrittenEvent
-use Rattle.history.specs.declared.object.ObjectRead.{ObjectRead}
-use Rattle.history.specs.declared.event.EventRead.{EventRead}
 use Rattle.history.specs.Record.{no_event, answer_of, events_in}
 use Rattle.history.specs.Record as WrittenHistory
 use Rattle.history.specs.Kinds.{is_op}
-use Rattle.history.specs.Faults.{first_fault, is_optional, is_lost, answer_items, answer_said, object_line, event_layout, event_limits, event_long, event_fault, event_said, event_six, event_fields, event_line}
+use Rattle.history.specs.Faults.{ObjectRead, EventRead, first_fault, is_optional, is_lost, answer_items, answer_said, object_line, event_layout, event_limits, event_long, event_fault, event_said, event_six, event_fields, event_line}
 use Rattle.history.proofs.PadLaws.{take-pad}
 use Rattle.history_reader.specs.declared.read.HistoryRead.{HistoryRead}
 use Rattle.history_reader.specs.ReadHistory.{refusal, events_from, objects_from, lines_from, read_history}

@@ -10,10 +10,9 @@ use Rattle.layout.specs.Number.{is_number, value, spell}
 use Rattle.layout.specs.List.{items_of, all_numbers, all_below, numbers_of}
 use Rattle.history.specs.declared.record.Object.{Object}
 use Rattle.history.specs.declared.record.Event.{Event}
-use Rattle.history.specs.declared.event.EventRead.{EventRead}
 use Rattle.history.specs.Record.{value_bound, answer_of}
 use Rattle.history.specs.Kinds.{is_op, op_of, can_answer}
-use Rattle.history.specs.Faults.{first_fault, is_optional, optional, is_lost, object_line, event_fits, object_named, faulty_event, event_with}
+use Rattle.history.specs.Faults.{EventRead, first_fault, is_optional, optional, is_lost, object_line, event_fits, object_named, faulty_event, event_with}
 use Rattle.history_reader.specs.declared.read.HistoryRead.{HistoryRead}
 use Rattle.history_reader.specs.ReadHistory.{refusal, read_as}
 use Rattle.certificate.specs.declared.record.Criterion.{Criterion}

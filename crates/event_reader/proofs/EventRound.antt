@@ -25,10 +25,9 @@ use Rattle.history.specs.declared.record.Op.TheVariants.{Write, Read, Push, Pop,
 use Rattle.history.specs.declared.record.Object.{Object}
 use Rattle.history.specs.declared.record.Answer.{Answer}
 use Rattle.history.specs.declared.record.Event.{Event}
-use Rattle.history.specs.declared.event.EventRead.{EventRead}
 use Rattle.history.specs.Record.{value_bound, pad, no_object, lost_answer, answer_of, values_in}
 use Rattle.history.specs.Kinds.{op_word, is_op, op_of, has_op, takes_value, can_answer, may_answer}
-use Rattle.history.specs.Faults.{optional, is_lost, answer_items, answer_said, event_layout, event_limits, event_fits, event_long, object_named, event_fault, event_said, event_six, event_line}
+use Rattle.history.specs.Faults.{EventRead, optional, is_lost, answer_items, answer_said, event_layout, event_limits, event_fits, event_long, object_named, event_fault, event_said, event_six, event_line}
 use Rattle.history.specs.HistoryText.{answer_text, event_text}
 use Rattle.history.specs.Readable.{all_less, all_zero, good_answer, good_value, good_event}
 use Rattle.history.proofs.PadLaws.{pad-length, take-pad}

@@ -15,12 +15,10 @@ use Rattle.layout.proofs.SplitLaws.{cut-more, cut-last, split-some}
 use Rattle.layout.proofs.NumberLaws.{cut-long}
 use Rattle.history.specs.declared.record.Object.{Object}
 use Rattle.history.specs.declared.record.Event.{Event}
-use Rattle.history.specs.declared.object.ObjectRead.{ObjectRead}
-use Rattle.history.specs.declared.event.EventRead.{EventRead}
 use Rattle.history.specs.declared.record.History.{History}
 use Rattle.history.specs.Record.{pad, no_object, no_event, history_of}
 use Rattle.history.proofs.PadLaws.{Filled, filled-count}
-use Rattle.history.specs.Faults.{object_line, event_line, object_limits, object_fault, object_three, event_fault, event_said, event_six, object_with, event_with}
+use Rattle.history.specs.Faults.{ObjectRead, EventRead, object_line, event_line, object_limits, object_fault, object_three, event_fault, event_said, event_six, object_with, event_with}
 use Rattle.history.proofs.FaultLaws.{fault-none}
 use Rattle.history.proofs.ObjectLaws.{three-order, object-three, object-count}
 use Rattle.history.proofs.EventLaws.{limited, event-six, event-count}

@@ -18,9 +18,8 @@ use Rattle.layout.proofs.SpellLaws.{value-spell}
 use Rattle.history.specs.declared.record.Kind.{Kind}
 use Rattle.history.specs.declared.record.Kind.TheVariants.{Register, Queue, Stack, Window, Channel}
 use Rattle.history.specs.declared.record.Object.{Object}
-use Rattle.history.specs.declared.object.ObjectRead.{ObjectRead}
 use Rattle.history.specs.Kinds.{kind_word, is_kind, kind_of, has_width, width_limit}
-use Rattle.history.specs.Faults.{is_optional, optional, object_layout, object_limits, object_fits, object_fault, object_three, object_line}
+use Rattle.history.specs.Faults.{ObjectRead, is_optional, optional, object_layout, object_limits, object_fits, object_fault, object_three, object_line}
 use Rattle.history.specs.HistoryText.{object_text}
 use Rattle.history.specs.Readable.{good_object}
 use Rattle.history.proofs.FaultLaws.{InOrder, fault-zero}
