@@ -3,12 +3,13 @@ use Prim.Native.Nat.{ℕ, zero, suc, ◌+◌, ◌-◌, ◌≤◌, ◌<◌}
 use native.Mathlib.Nat.{add-zero}
 use native.Mathlib.Numerals.{add-one}
 use native.Mathlib.Omega.{arith}
+use mathlib.Core.Logic.{◌⊎◌, inl, inr}
 use mathlib.Core.Path.{◌≡◌, refl, sym, ap, ap₂, ◌∙◌}
-use mathlib.Core.Bool.{true, false, false≢true}
+use mathlib.Core.Bool.{Bool, true, false, ◌||◌}
 use mathlib.Core.List.{List, [], ◌∷◌, ◌++◌, append_assoc, append-nil}
-use lib.ListN.{length, get_or, take, drop, set, replicate}
-use lib.Seq.{length-take-le, get_or-take, drop-cons, drop-length}
-use borrow.Author.Tests.{eq-eqb, ne_eqb}
+use lib.ListN.{length, take, set, replicate}
+use lib.Dec.{eqb}
+use Rattle.core.specs.List.{list_any}
 use Rattle.layout.proofs.Cases.{by_bool}
 use Rattle.history.specs.declared.record.Event.{Event}
 use Rattle.history.specs.Record.{pad}
@@ -17,29 +18,13 @@ use Rattle.certificate.specs.declared.record.Criterion.{Criterion}
 use Rattle.certificate.specs.declared.record.Criterion.TheVariants.{Pram, Weak, Causal, Converge, Sequential, Strict}
 use Rattle.certificate.specs.declared.numbers.ViewNumbers.{ViewNumbers}
 use Rattle.certificate.specs.Criteria.{count_from, has_events, processes_from, view_numbers}
-use Rattle.certificate.specs.Steps.Numbers.{view_numbers_of, process_each, event_each}
+use Rattle.certificate.specs.Steps.Numbers.{view_numbers_of}
 
--- ---- a loop that looks for an event of the process p, at the place i of the first n events
-module _ (p : ℕ) (es : List Event) (n : ℕ) (l : n ≤ length es) where
-  module _ (i : ℕ) (d : Event) (h : i < n) where
-    first : drop i (take n es) ≡ get_or es i d ∷ drop (suc i) (take n es)
-    first =
-        drop-cons (take n es) i d (omega (arith, length-take-le n es l))
-        ∙ ap (λ (e : Event). e ∷ drop (suc i) (take n es)) (get_or-take n es i d h)
-
-    pub has_here : (get_or es i d).process.0 ≡ p → has_events p (drop i (take n es)) ≡ true
-    unfolding has_events
-    has_here e = rw (first, eq-eqb (get_or es i d).process.0 p e)
-
-    pub has-next : ((get_or es i d).process.0 ≡ p → ⊥) → has_events p (drop i (take n es)) ≡ has_events p (drop (i + 1) (take n es))
-    unfolding has_events
-    has-next e = rw (add-one, first, ne_eqb (get_or es i d).process.0 p e)
-
-  pub has-none : (i : ℕ) → i ≡ n → has_events p (drop i (take n es)) ≡ false
-  unfolding has_events
-  has-none i e =
-      ap (λ (k : ℕ). has_events p (drop k (take n es))) (e ∙ sym (length-take-le n es l))
-      ∙ ap (has_events p) (drop-length (take n es))
+-- ---- whether some event is of the process p
+pub any-has : (p : ℕ) (es : List Event) → list_any (λ (e : Event). eqb e.process.0 p) es ≡ has_events p es
+unfolding has_events
+any-has p [] = refl
+any-has p (e ∷ es) = ap (λ (t : Bool). eqb e.process.0 p || t) (any-has p es)
 
 -- ---- numbers in an array
 pub numbers-are : (numbers : List ℕ) (count : ℕ) (ns : List ℕ) → Filled 64 0 numbers count → take count numbers ≡ ns
@@ -170,52 +155,12 @@ numbers-few Converge es h = omega arith
 numbers-few Sequential es h = omega arith
 numbers-few Strict es h = omega (arith, processes-few es 0 8)
 
-module _ (c : Criterion) (events : List Event) (n : ℕ) (room : n ≤ 64) (long : length events ≡ 64) (r : ViewNumbers) where
-  abbrev es : List Event
-  es = take n events
-
-  all : length es ≡ n
-  all = length-take-le n events (omega arith)
-
-  views-are : (ns : List ℕ) → r ≡ view_numbers_of ns → ns ≡ view_numbers c es → (r ≡ view_numbers_of (view_numbers c es)) × (r.count ≤ 64)
-  unfolding view_numbers_of
-  views-are ns e k =
-      let t : r ≡ view_numbers_of (view_numbers c es) = e ∙ ap view_numbers_of k in
-      let l : r.count ≡ length (view_numbers c es) = ap (λ (v : ViewNumbers). v.count) t in
-      (t, omega (arith, numbers-few c es (omega (arith, all))))
-
-  pub process-views : process_each c ≡ true → r ≡ view_numbers_of (processes_from es 0 8) → (r ≡ view_numbers_of (view_numbers c es)) × (r.count ≤ 64)
-  unfolding view_numbers
-  process-views t e = views-are (processes_from es 0 8) e (go c t)
-    where
-      go : (c : Criterion) → process_each c ≡ true → processes_from es 0 8 ≡ view_numbers c es
-      go Pram t = refl
-      go Weak t = absurd (false≢true t)
-      go Causal t = absurd (false≢true t)
-      go Converge t = absurd (false≢true t)
-      go Sequential t = absurd (false≢true t)
-      go Strict t = refl
-
-  pub event-views : event_each c ≡ true → r ≡ view_numbers_of (count_from 0 n) → (r ≡ view_numbers_of (view_numbers c es)) × (r.count ≤ 64)
-  unfolding view_numbers
-  event-views t e = views-are (count_from 0 n) e (go c t)
-    where
-      go : (c : Criterion) → event_each c ≡ true → count_from 0 n ≡ view_numbers c es
-      go Pram t = absurd (false≢true t)
-      go Weak t = rw all
-      go Causal t = rw all
-      go Converge t = absurd (false≢true t)
-      go Sequential t = absurd (false≢true t)
-      go Strict t = absurd (false≢true t)
-
-  pub one-view : process_each c ≡ false → event_each c ≡ false → r ≡ view_numbers_of (0 ∷ []) → (r ≡ view_numbers_of (view_numbers c es)) × (r.count ≤ 64)
-  unfolding view_numbers
-  one-view p t e = views-are (0 ∷ []) e (go c p t)
-    where
-      go : (c : Criterion) → process_each c ≡ false → event_each c ≡ false → 0 ∷ [] ≡ view_numbers c es
-      go Pram p t = absurd (false≢true (sym p))
-      go Weak p t = absurd (false≢true (sym t))
-      go Causal p t = absurd (false≢true (sym t))
-      go Converge p t = refl
-      go Sequential p t = refl
-      go Strict p t = absurd (false≢true (sym p))
+-- one of two criteria with the same numbers
+pub views-are : (c a b : Criterion) (es : List Event) (r : ViewNumbers) (ns : List ℕ) → length es ≤ 64 → (c ≡ a) ⊎ (c ≡ b)
+    → view_numbers a es ≡ ns → view_numbers b es ≡ ns → r ≡ view_numbers_of ns → (r ≡ view_numbers_of (view_numbers c es)) × (r.count ≤ 64)
+unfolding view_numbers_of
+views-are c a b es r ns few one p q e =
+    let t : view_numbers c es ≡ ns =
+    elim one [ inl h ↦ ap (λ (x : Criterion). view_numbers x es) h ∙ p | inr h ↦ ap (λ (x : Criterion). view_numbers x es) h ∙ q ] in
+    let l : r.count ≡ length ns = ap (λ (v : ViewNumbers). v.count) e in
+    (e ∙ ap view_numbers_of (sym t), omega (arith, numbers-few c es few, ap length t))

@@ -6,6 +6,7 @@ ghost use Rattle.certificate.specs.Faults.{criterion_line};
 
 use crate::record::Criterion;
 use layout::split::split_once;
+use layout::word::is_word;
 
 // Whether a certificate of the criterion has the past of each event.
 pub fn has_pasts(c: Criterion) -> bool
@@ -21,25 +22,15 @@ pub fn has_pasts(c: Criterion) -> bool
 fn read_word(word: &[u8]) -> Option<Criterion>
     ensures { result ≡ cond (is_criterion word.now) (Some (criterion_of word.now)) None }
 {
-    if word == b"weak" {
-        return Some(Criterion::Weak);
+    match word {
+        b"weak" => Some(Criterion::Weak),
+        b"causal" => Some(Criterion::Causal),
+        b"converge" => Some(Criterion::Converge),
+        b"sequential" => Some(Criterion::Sequential),
+        b"strict" => Some(Criterion::Strict),
+        b"pram" => Some(Criterion::Pram),
+        _ => None,
     }
-    if word == b"causal" {
-        return Some(Criterion::Causal);
-    }
-    if word == b"converge" {
-        return Some(Criterion::Converge);
-    }
-    if word == b"sequential" {
-        return Some(Criterion::Sequential);
-    }
-    if word == b"strict" {
-        return Some(Criterion::Strict);
-    }
-    if word == b"pram" {
-        return Some(Criterion::Pram);
-    }
-    None
 }
 
 // Reads the first line of a certificate, without its line feed: the criterion, or none where the line is not a criterion's.
@@ -47,7 +38,7 @@ pub fn read_criterion(line: &[u8]) -> Option<Criterion>
     ensures { result ≡ cond (criterion_line line.now) (Some (criterion_of (get_or (split 32 line.now) 1 []))) None }
 {
     let (heading, word) = split_once(line, b' ')?;
-    if heading == b"criterion" {
+    if is_word(heading, b"criterion") {
         return read_word(word);
     }
     None

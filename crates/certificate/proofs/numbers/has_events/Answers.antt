@@ -1,25 +1,15 @@
--- `has_events` meets its contract: the answer for the whole is the answer for what is left. Assumes nothing.
-use native.Mathlib.Omega.{arith}
-use mathlib.Core.Path.{◌≡◌, refl, sym, ◌∙◌}
-use lib.ListN.{length}
-use Rattle.certificate.proofs.NumberingLaws.{has_here, has-next, has-none}
-use borrow.Author.Rules.{rules}
+-- `has_events` meets its contract: `any` tests each event in turn. Assumes nothing.
+use mathlib.Core.Path.{◌∙◌}
+use lib.Dec.{eqb}
+use Rattle.std.proofs.Common.{rules, tests}
+use Rattle.std.proofs.lemmas.Iterator.{YieldsList-from_slice}
+use Rattle.std.proofs.lemmas.Iterator.Search.{any_from_yields_List}
+use Rattle.history.specs.declared.record.Event.{Event}
+use Rattle.certificate.proofs.NumberingLaws.{any-has}
 use Rattle.certificate.proofs.numbers.has_events.Goals as goal
-
-pub loop-i-init : goal.loop-i-init
-loop-i-init c = (search rules, refl)
-
-pub returns-then-e-p : goal.returns-then-e-p
-returns-then-e-p c =
-    let l : length c.args.events ≡ 64 = search rules in
-    sym (c.loop-i.invariant.1 ∙ has_here c.args.p.0 c.args.events c.args.n (omega (arith, c.requires)) c.loop-i.i _ (omega arith) c.if-e-p.true)
-
-pub loop-i-preserved : goal.loop-i-preserved
-loop-i-preserved c =
-    let l : length c.args.events ≡ 64 = search rules in
-    (search rules, c.loop-i.invariant.1 ∙ has-next c.args.p.0 c.args.events c.args.n (omega (arith, c.requires)) c.loop-i.i _ (omega arith) c.if-e-p.false)
 
 pub returns : goal.returns
 returns c =
-    let l : length c.args.events ≡ 64 = search rules in
-    sym (c.loop-i.invariant.1 ∙ has-none c.args.p.0 c.args.events c.args.n (omega (arith, c.requires)) c.loop-i.i (omega arith))
+    any_from_yields_List (λ (e : Event). eqb e.process.0 c.args.p.0) _ _ _ c.any.ensures.ran
+    (YieldsList-from_slice c.args.events.now cc) (λ x b q k. search (rules, tests))
+    ∙ any-has c.args.p.0 c.args.events.now
