@@ -1,3 +1,4 @@
+pub mod RisingLaws
 pub mod CriterionLaws
 pub mod NumberingLaws
 pub mod ListLineLaws
