@@ -1,5 +1,5 @@
 // The replay of a view: the first event whose visible answer the objects do not give.
-ghost use Rattle.std.specs.Prelude.{◌≡◌, ◌≤◌, true, not, ◌&&◌, length};
+ghost use Rattle.std.specs.Prelude.{◌≡◌, ◌≤◌, false, length, map};
 ghost use Rattle.history.specs.Record.{recorded_in};
 ghost use Rattle.criteria.specs.Check.{fits, first_wrong};
 ghost use Rattle.criteria.specs.OneLine.{is_update};
@@ -40,12 +40,37 @@ fn sees(who: Visible, process: ProcessNo, no: EventNo) -> bool
     }
 }
 
+// The value of the event with this number; 0 past the last.
+fn value(values: &[Value; 65], number: u8) -> Value
+    requires { length values.now ≡ 65 }
+    ensures { result ≡ value_in values.now number }
+{
+    values.get(usize::from(number)).copied().unwrap_or(0)
+}
+
+// Whether the values are those of the events with these numbers, one by one.
+fn same_values(values: &[Value; 65], answer: &[Value], numbers: &[u8]) -> bool
+    requires { length values.now ≡ 65 }
+    ensures { result ≡ same_list answer.now (map (value_in values.now) numbers.now) }
+{
+    answer.len() == numbers.len()
+        && answer
+            .iter()
+            .zip(numbers)
+            .all(|(v, number)| *v == value(values, *number))
+}
+
 // Whether the recorded answer is what the state gives; one that was lost fits whatever it gives.
 pub fn fits_given(values: &[Value; 65], answer: &Answer, given: &Given) -> bool
-    requires { (length values.now ≡ 65) × (answer.now.count ≤ 8) × (given.now.count ≤ 8) }
+    requires { (length values.now ≡ 65) × (answer.now.lost ≡ false → answer.now.count ≤ 8) × (given.now.count ≤ 8) }
     ensures { result ≡ fits (recorded_in answer.now) (given_of values.now given.now) }
 {
-    fits_given(values, answer, given)
+    answer.lost
+        || same_values(
+            values,
+            &answer.values[..usize::from(answer.count)],
+            &given.numbers[..given.count],
+        )
 }
 
 // Whether the op can change what an object holds: whether it is an update.
@@ -65,5 +90,22 @@ pub fn replay(
     requires { Ready history.now starts view.now }
     ensures { found_event result ≡ first_wrong (history_in history.now) (is_visible (history_in history.now) who) (contents_in history.now.values starts) view.now }
 {
-    replay(history, starts, view, who)
+    let mut states = starts;
+    for number in view {
+        let no = EventNo(*number);
+        let at = usize::from(*number);
+        let e = history.events[at];
+        let o = usize::from(e.object);
+        let event = EventOp { no, op: e.op };
+        if !e.silent && sees(who, e.process, no) {
+            let step = states[o].step(event);
+            if !fits_given(&history.values, &history.answers[at], &step.answer) {
+                return Some(no);
+            }
+            states[o] = step.state;
+        } else if changes(e.op) {
+            states[o] = states[o].changed(event);
+        }
+    }
+    None
 }
