@@ -6,8 +6,7 @@ use mathlib.Core.List.{List}
 use mathlib.Core.Option.{some}
 use lib.ListN.{length}
 use Rattle.history.specs.Readable as HistoryReadable
-use Rattle.history_reader.specs.declared.read.HistoryRead.{HistoryRead}
-use Rattle.history_reader.specs.ReadHistory.{read_history}
+use Rattle.history_reader.specs.ReadHistory.{HistoryRead, read_history}
 use Rattle.history_theorems.proofs.Theorems.{readable-no-fault, written_read}
 use Rattle.certificate.specs.declared.record.Criterion.{Criterion}
 use Rattle.certificate_theorems.proofs.Theorems.{events_of}

@@ -10,8 +10,7 @@ use borrow.Author.Tests.{eq-eqb, ne_eqb}
 use Rattle.layout.proofs.Cases.{by-eq}
 use Rattle.history.specs.Record.{no_event, events_in}
 use Rattle.history.specs.HistoryText.{event_text}
-use Rattle.history_reader.specs.declared.place.Place.{Place}
-use Rattle.history_reader.specs.Place.{nowhere, event_place, line_of, part_at}
+use Rattle.history_reader.specs.Place.{Place, nowhere, event_place, line_of, part_at}
 use Rattle.history_reader.specs.ReadHistory.{read_history}
 use Rattle.history_theorems.proofs.EventLineTheorem.{event-line}
 use Rattle.certificate.specs.declared.record.Criterion.{Criterion}

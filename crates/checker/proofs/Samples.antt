@@ -6,9 +6,7 @@ use mathlib.Core.List.{List, [], ◌∷◌, ◌++◌}
 use mathlib.Core.Option.{Option, none, some}
 use Rattle.certificate.specs.declared.record.Criterion.{Criterion}
 use Rattle.certificate.specs.declared.record.Criterion.TheVariants.{Pram, Weak, Causal, Converge, Sequential, Strict}
-use Rattle.history_reader.specs.declared.place.Text.TheVariants.{HistoryText}
-use Rattle.history_reader.specs.declared.place.Place.{Place}
-use Rattle.history_reader.specs.Place.{nowhere, event_place}
+use Rattle.history_reader.specs.Place.{HistoryText, Place, nowhere, event_place}
 use Rattle.history_reader.specs.ReadHistory.{read_history}
 use Rattle.certificate_reader.specs.ReadCertificate.{read_certificate}
 use Rattle.criteria.specs.History.{History, own}

@@ -17,8 +17,7 @@ use Rattle.certificate.specs.Record.{no_row}
 use Rattle.certificate.specs.Record as TextRecord
 use Rattle.certificate.specs.CertificateText.{certificate_text}
 use Rattle.certificate.specs.Readable.{fits}
-use Rattle.certificate_reader.specs.declared.read.CertificateRead.{CertificateRead}
-use Rattle.certificate_reader.specs.ReadCertificate.{read_certificate}
+use Rattle.certificate_reader.specs.ReadCertificate.{CertificateRead, read_certificate}
 use Rattle.certificate_theorems.proofs.Theorems.{events_of, few-events, no-fault-history, written_read, written-rows}
 use Rattle.certificate_theorems.proofs.Guarantees as CertificateGuarantees
 use Rattle.criteria.specs.Criteria.{Meets}

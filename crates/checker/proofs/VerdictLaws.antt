@@ -13,10 +13,7 @@ use Rattle.history.specs.declared.record.History.{History}
 use Rattle.history.specs.Record.{events_in}
 use Rattle.history.specs.Readable.{within}
 use Rattle.history.proofs.WithinLaws.{within-limits}
-use Rattle.history_reader.specs.declared.place.Text.{Text}
-use Rattle.history_reader.specs.declared.place.Text.TheVariants.{Neither}
-use Rattle.history_reader.specs.declared.place.Place.{Place}
-use Rattle.history_reader.specs.Place.{nowhere, event_place, line_in, line_of, bytes_at, text_named, part_at}
+use Rattle.history_reader.specs.Place.{Text, Neither, Place, nowhere, event_place, line_in, line_of, bytes_at, text_named, part_at}
 use Rattle.history_reader.specs.ReadHistory.{read_history}
 use Rattle.history_reader.proofs.EventPlaceLaws.{few-declared, few-counted, event-within}
 use Rattle.history_theorems.proofs.Theorems.{no-fault-readable, read-within}
@@ -24,8 +21,7 @@ use Rattle.certificate.specs.declared.record.Criterion.{Criterion}
 use Rattle.certificate.specs.declared.record.Certificate.{Certificate}
 use Rattle.certificate.specs.Record.{no_row}
 use Rattle.certificate.specs.Readable.{fits}
-use Rattle.certificate_reader.specs.declared.read.CertificateRead.{CertificateRead}
-use Rattle.certificate_reader.specs.ReadCertificate.{read_certificate, rows_read}
+use Rattle.certificate_reader.specs.ReadCertificate.{CertificateRead, read_certificate, rows_read}
 use Rattle.certificate_reader.proofs.TwoTextLaws.{PlacedIn, placed-two}
 use Rattle.certificate_theorems.proofs.Theorems.{no-fault-history, read_as, read_fits}
 use Rattle.certificate_theorems.proofs.Places.{Small, small-two}

@@ -2,13 +2,11 @@
 -- (document 02, T-06), then 0.
 use Rattle.std.specs.Prelude.{ℕ, ◌≡◌, cond, List, replicate, eqb}
 use Rattle.std.proofs.Math.Option.{Option, none, some}
-use Rattle.history_reader.specs.declared.place.Place.{Place}
-use Rattle.history_reader.specs.Place.{nowhere, event_place, part_at}
+use Rattle.history_reader.specs.Place.{Place, nowhere, event_place, part_at}
 use Rattle.history_reader.specs.ReadHistory.{read_history}
 use Rattle.certificate.specs.declared.record.Criterion.{Criterion}
 use Rattle.certificate.specs.Record.{no_row}
-use Rattle.certificate_reader.specs.declared.read.CertificateRead.{CertificateRead}
-use Rattle.certificate_reader.specs.ReadCertificate.{read_certificate, rows_read}
+use Rattle.certificate_reader.specs.ReadCertificate.{CertificateRead, read_certificate, rows_read}
 use Rattle.criteria.specs.History.{History}
 use Rattle.criteria.specs.Certificate.{Certificate}
 use Rattle.criteria.specs.Check.{Fault, Answer, answer_of, check}

@@ -2,5 +2,6 @@
 
 #![tactic(auto)]
 
+pub mod answer;
 pub mod check;
 pub mod place;

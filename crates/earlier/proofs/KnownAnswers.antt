@@ -18,8 +18,7 @@ use Rattle.history.specs.Record as WrittenHistory
 use Rattle.history.specs.Kinds.{is_op}
 use Rattle.history.specs.Faults.{ObjectRead, EventRead, first_fault, is_optional, is_lost, answer_items, answer_said, object_line, event_layout, event_limits, event_long, event_fault, event_said, event_six, event_fields, event_line}
 use Rattle.history.proofs.PadLaws.{take-pad}
-use Rattle.history_reader.specs.declared.read.HistoryRead.{HistoryRead}
-use Rattle.history_reader.specs.ReadHistory.{refusal, events_from, objects_from, lines_from, read_history}
+use Rattle.history_reader.specs.ReadHistory.{HistoryRead, refusal, events_from, objects_from, lines_from, read_history}
 use Rattle.certificate.specs.declared.record.Criterion.{Criterion}
 use Rattle.certificate_reader.specs.ReadCertificate.{read_certificate, rows_read}
 use Rattle.criteria.specs.Tests.{or, found_if}

@@ -13,8 +13,7 @@ use Rattle.history.specs.declared.record.Event.{Event}
 use Rattle.history.specs.Record.{value_bound, answer_of}
 use Rattle.history.specs.Kinds.{is_op, op_of, can_answer}
 use Rattle.history.specs.Faults.{EventRead, first_fault, is_optional, optional, is_lost, object_line, event_fits, object_named, faulty_event, event_with}
-use Rattle.history_reader.specs.declared.read.HistoryRead.{HistoryRead}
-use Rattle.history_reader.specs.ReadHistory.{refusal, read_as}
+use Rattle.history_reader.specs.ReadHistory.{HistoryRead, refusal, read_as}
 use Rattle.certificate.specs.declared.record.Criterion.{Criterion}
 use Rattle.criteria.specs.Tests.{or, found_if, lowest, same_list}
 use Rattle.criteria.specs.History.{History, event}

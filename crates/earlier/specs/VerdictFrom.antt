@@ -3,10 +3,9 @@
 use Rattle.std.specs.Prelude.{ℕ, cond, List, replicate, eqb}
 use Rattle.std.proofs.Math.Option.{Option}
 use Rattle.history.specs.Record.{events_in}
-use Rattle.history_reader.specs.declared.read.HistoryRead.{HistoryRead}
+use Rattle.history_reader.specs.ReadHistory.{HistoryRead}
 use Rattle.certificate.specs.Record.{no_row}
-use Rattle.certificate_reader.specs.declared.read.CertificateRead.{CertificateRead}
-use Rattle.certificate_reader.specs.ReadCertificate.{read_lines, history_refused, certificate_read, rows_after}
+use Rattle.certificate_reader.specs.ReadCertificate.{CertificateRead, read_lines, history_refused, certificate_read, rows_after}
 use Rattle.criteria.specs.History.{History}
 use Rattle.criteria.specs.Certificate.{Certificate}
 use Rattle.criteria.specs.Check.{Fault}

@@ -10,14 +10,12 @@ use Rattle.layout.specs.Fill.{after}
 use Rattle.history.specs.HistoryText.{history_text}
 use Rattle.history.specs.Record.{events_in}
 use Rattle.history.specs.Readable.{within}
-use Rattle.history_reader.specs.declared.read.HistoryRead.{HistoryRead}
-use Rattle.history_reader.specs.ReadHistory.{read_history}
+use Rattle.history_reader.specs.ReadHistory.{HistoryRead, read_history}
 use Rattle.history_writer.specs.declared.write.HistoryWritten.{HistoryWritten}
 use Rattle.history_writer.specs.WriteHistory.{history_written, history_after}
 use Rattle.history_theorems.proofs.Theorems as HistoryTheorems
 use Rattle.certificate.specs.CertificateText.{certificate_text}
-use Rattle.certificate_reader.specs.declared.read.CertificateRead.{CertificateRead}
-use Rattle.certificate_reader.specs.ReadCertificate.{read_certificate, rows_read}
+use Rattle.certificate_reader.specs.ReadCertificate.{CertificateRead, read_certificate, rows_read}
 use Rattle.certificate_writer.specs.declared.write.CertificateWritten.{CertificateWritten}
 use Rattle.certificate_writer.specs.WriteCertificate.{writable, certificate_written, certificate_after}
 use Rattle.certificate_theorems.proofs.Theorems.{no-fault-history, read_as, read-written, read_fits}

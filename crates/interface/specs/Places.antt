@@ -4,9 +4,7 @@ use Rattle.std.specs.Prelude.{ℕ, ◌-◌, List, [], ◌∷◌, ◌++◌, lengt
 use Rattle.std.proofs.Math.Option.{Option, none, some}
 use Rattle.certificate.specs.declared.record.Criterion.{Criterion}
 use Rattle.certificate.specs.declared.record.Criterion.TheVariants.{Pram, Weak, Causal, Converge, Sequential, Strict}
-use Rattle.history_reader.specs.declared.place.Text.{Text}
-use Rattle.history_reader.specs.declared.place.Text.TheVariants.{Neither, HistoryText, CertificateText}
-use Rattle.history_reader.specs.Place.{line_of}
+use Rattle.history_reader.specs.Place.{Text, Neither, HistoryText, CertificateText, line_of}
 use Rattle.faults.specs.Finding.{or_none}
 use Rattle.checker.specs.CheckText.{Verdict}
 

@@ -14,9 +14,7 @@ use Rattle.history.specs.Record.{pad}
 use Rattle.certificate.specs.declared.record.Criterion.{Criterion}
 use Rattle.certificate.specs.declared.record.Criterion.TheVariants.{Pram, Weak, Causal, Converge, Sequential, Strict}
 use Rattle.certificate.specs.Criteria.{word_of}
-use Rattle.history_reader.specs.declared.place.Text.{Text}
-use Rattle.history_reader.specs.declared.place.Text.TheVariants.{Neither, HistoryText, CertificateText}
-use Rattle.history_reader.specs.Place.{line_of}
+use Rattle.history_reader.specs.Place.{Text, Neither, HistoryText, CertificateText, line_of}
 use Rattle.criteria.specs.Check.{answer_of}
 use Rattle.faults.specs.Finding.{finding_of}
 use Rattle.checker.specs.declared.check.Checked.{Checked}

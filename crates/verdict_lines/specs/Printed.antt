@@ -7,9 +7,7 @@ use Rattle.layout.specs.Number.{spell}
 use Rattle.history.specs.Record.{pad}
 use Rattle.certificate.specs.declared.record.Criterion.{Criterion}
 use Rattle.certificate.specs.Criteria.{word_of}
-use Rattle.history_reader.specs.declared.place.Text.{Text}
-use Rattle.history_reader.specs.declared.place.Text.TheVariants.{Neither, HistoryText, CertificateText}
-use Rattle.history_reader.specs.Place.{line_of}
+use Rattle.history_reader.specs.Place.{Text, Neither, HistoryText, CertificateText, line_of}
 use Rattle.checker.specs.CheckText.{Verdict}
 use Rattle.verdict_lines.specs.declared.print.Printed.{Printed}
 

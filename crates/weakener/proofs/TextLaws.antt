@@ -14,8 +14,7 @@ use Rattle.history_reader.specs.ReadHistory.{read_history}
 use Rattle.certificate.specs.declared.record.Criterion.{Criterion}
 use Rattle.certificate.specs.declared.record.Certificate.{Certificate}
 use Rattle.certificate.specs.Record.{no_row}
-use Rattle.certificate_reader.specs.declared.read.CertificateRead.{CertificateRead}
-use Rattle.certificate_reader.specs.ReadCertificate.{read_certificate, rows_read}
+use Rattle.certificate_reader.specs.ReadCertificate.{CertificateRead, read_certificate, rows_read}
 use Rattle.criteria.specs.Check.{Fault, check}
 use Rattle.criteria.specs.Records.{history_of, certificate_of}
 use Rattle.checker.specs.CheckText.{Verdict, refused, found_in, history_read, certificate_read, check_text}

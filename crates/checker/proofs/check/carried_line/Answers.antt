@@ -1,7 +1,7 @@
 -- `carried_line` meets its contract: the place that an answer has lies within the text that it is in. Assumes nothing.
 use Prim.Native.Nat.{◌≤◌}
 use lib.ListN.{length}
-use Rattle.history_reader.specs.declared.place.Text.TheVariants.{HistoryText, CertificateText}
+use Rattle.history_reader.specs.Place.{HistoryText, CertificateText}
 use Rattle.certificate_reader.proofs.TwoTextLaws.{PlacedIn}
 use Rattle.checker.proofs.VerdictLaws.{answer-placed, carried-part, carried_none}
 use Rattle.checker.proofs.check.carried_line.Goals as goal

@@ -1,6 +1,6 @@
 -- `walnutgleam_rewrite_certificate` meets its contract: the record and the rows that were read are written back as the text. Assumes nothing.
 use mathlib.Core.Path.{◌≡◌, ap}
-use Rattle.certificate_reader.specs.declared.read.CertificateRead.{CertificateRead}
+use Rattle.certificate_reader.specs.ReadCertificate.{CertificateRead}
 use Rattle.interface.proofs.RewriteLaws.{refused, certificate-back}
 use borrow.Author.Rules.{rules}
 use Rattle.interface.proofs.rewrite.walnutgleam_rewrite_certificate.Goals as goal

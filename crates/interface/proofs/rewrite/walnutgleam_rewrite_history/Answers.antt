@@ -1,6 +1,6 @@
 -- `walnutgleam_rewrite_history` meets its contract: the record that was read is written back as the text. Assumes nothing.
 use mathlib.Core.Path.{◌≡◌, ap}
-use Rattle.history_reader.specs.declared.read.HistoryRead.{HistoryRead}
+use Rattle.history_reader.specs.ReadHistory.{HistoryRead}
 use Rattle.interface.proofs.RewriteLaws.{refused, history-back}
 use borrow.Author.Rules.{rules}
 use Rattle.interface.proofs.rewrite.walnutgleam_rewrite_history.Goals as goal
