@@ -16,11 +16,10 @@ use Rattle.layout.proofs.StandsLaws.{at-cons}
 use Rattle.history.specs.Record.{pad}
 use Rattle.history.proofs.PadLaws.{pad-set, take-pad}
 use Rattle.history.specs.declared.record.Event.{Event}
-use Rattle.history_reader.specs.declared.place.Place.{Place}
-use Rattle.history_reader.specs.Place.{nowhere}
+use Rattle.history_reader.specs.Place.{Place, nowhere}
 use Rattle.certificate.specs.declared.record.Criterion.{Criterion}
 use Rattle.certificate.specs.declared.record.EventList.{EventList}
-use Rattle.certificate.specs.declared.next.NextList.{NextList}
+use Rattle.certificate.specs.Steps.Next.{NextList, next_read}
 use Rattle.certificate.specs.Record.{no_list, no_row, event_list_of, row_of, certificate_of, rows_of, entries_in}
 use Rattle.certificate.proofs.FitsLaws.{entries-made}
 use Rattle.certificate.specs.Criteria.{has_pasts, count_from, view_numbers, criterion_of}
@@ -29,7 +28,6 @@ use Rattle.certificate.specs.declared.numbers.ViewNumbers.{ViewNumbers}
 use Rattle.certificate.specs.Steps.Numbers.{view_numbers_of}
 use Rattle.certificate.specs.declared.criterion.CriterionRead.{CriterionRead}
 use Rattle.certificate.specs.Steps.Lists.{list_with, list_read, criterion_read}
-use Rattle.certificate.specs.Steps.Next.{next_read}
 use Rattle.certificate.proofs.NextLaws.{next-cut, next-line}
 use Rattle.certificate_reader.specs.declared.read.LinesRead.{LinesRead}
 use Rattle.certificate_reader.specs.ReadCertificate.{Lines, refusal, accepted, heading_from, lists_from, views_from, pasts_from, body_from, rows_after}

@@ -10,7 +10,7 @@ use Rattle.layout.specs.Split.{split, join}
 use Rattle.layout.specs.Word.{same, past_heading, view_heading}
 use Rattle.layout.proofs.SplitLaws.{join-split}
 use Rattle.history.specs.declared.record.Event.{Event}
-use Rattle.history_reader.specs.declared.place.Text.TheVariants.{CertificateText}
+use Rattle.history_reader.specs.Place.{CertificateText}
 use Rattle.history_reader.proofs.PlaceLaws.{PartOf, part-nowhere, part-faulty, join_more, join_one}
 use Rattle.certificate.specs.declared.record.Criterion.{Criterion}
 use Rattle.certificate.specs.Criteria.{has_pasts, count_from, view_numbers, criterion_of}

@@ -9,17 +9,14 @@ use lib.Dec.{eqb}
 use borrow.Author.Tests.{eq-eqb, ne_eqb}
 use Rattle.layout.proofs.Cases.{by-eq}
 use Rattle.history.specs.Record.{pad, events_in}
-use Rattle.history_reader.specs.declared.place.Place.{Place}
-use Rattle.history_reader.specs.declared.read.HistoryRead.{HistoryRead}
-use Rattle.history_reader.specs.Place.{text_named}
-use Rattle.history_reader.specs.ReadHistory.{read_history}
+use Rattle.history_reader.specs.Place.{Place, text_named}
+use Rattle.history_reader.specs.ReadHistory.{HistoryRead, read_history}
 use Rattle.history_reader.proofs.PlaceLaws.{placed-history}
 use Rattle.certificate.specs.declared.record.Criterion.TheVariants.{Pram}
 use Rattle.certificate.specs.declared.record.Certificate.{Certificate}
 use Rattle.certificate.specs.Record.{certificate_of}
 use Rattle.certificate_reader.specs.declared.read.LinesRead.{LinesRead}
-use Rattle.certificate_reader.specs.declared.read.CertificateRead.{CertificateRead}
-use Rattle.certificate_reader.specs.ReadCertificate.{Lines, read_lines, history_refused, certificate_read, read_certificate, rows_after, rows_read}
+use Rattle.certificate_reader.specs.ReadCertificate.{CertificateRead, Lines, read_lines, history_refused, certificate_read, read_certificate, rows_after, rows_read}
 use Rattle.certificate_reader.specs.Steps.Lines.{lines_read}
 use Rattle.certificate_reader.proofs.PlaceLaws.{placed-text}
 

@@ -8,8 +8,7 @@ use borrow.Author.Tests.{leb-true}
 use Rattle.layout.proofs.Cases.{by_bool}
 use Rattle.history.specs.declared.record.Event.{Event}
 use Rattle.history.specs.Record.{events_in}
-use Rattle.history_reader.specs.declared.place.Text.{Text}
-use Rattle.history_reader.specs.declared.place.Place.{Place}
+use Rattle.history_reader.specs.Place.{Text, Place}
 use Rattle.history_reader.specs.ReadHistory.{read_history}
 use Rattle.history_reader.proofs.PlaceLaws.{PartOf, placed-history}
 use Rattle.certificate_reader.specs.ReadCertificate.{read_lines, read_certificate}

@@ -18,8 +18,7 @@ use Rattle.certificate.specs.Criteria.{view_numbers, past_count}
 use Rattle.certificate.specs.CertificateText.{text_of, certificate_text}
 use Rattle.certificate.specs.Readable.{fits, Readable}
 use Rattle.certificate.proofs.FitsLaws.{Fits, fits-facts, facts-fit, pasts-in, views-in}
-use Rattle.certificate_reader.specs.declared.read.CertificateRead.{CertificateRead}
-use Rattle.certificate_reader.specs.ReadCertificate.{Lines, accepted, read_lines, certificate_read, read_certificate, rows_after, rows_read}
+use Rattle.certificate_reader.specs.ReadCertificate.{CertificateRead, Lines, accepted, read_lines, certificate_read, read_certificate, rows_after, rows_read}
 use Rattle.certificate_theorems.proofs.TextRound.{text-read, Reads, read-text}
 use Rattle.certificate_theorems.proofs.TextLength.{text-short}
 

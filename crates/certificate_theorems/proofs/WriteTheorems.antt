@@ -14,15 +14,13 @@ use Rattle.history.specs.declared.record.History.{History}
 use Rattle.history.specs.Record.{events_in}
 use Rattle.history.specs.HistoryText.{history_text}
 use Rattle.history.specs.Readable as HistoryReadable
-use Rattle.history_reader.specs.declared.read.HistoryRead.{HistoryRead}
+use Rattle.history_reader.specs.ReadHistory.{HistoryRead, read_history}
 use Rattle.history_reader.specs.Place.{nowhere}
-use Rattle.history_reader.specs.ReadHistory.{read_history}
 use Rattle.history_theorems.proofs.Theorems as HistoryTheorems
 use Rattle.certificate.specs.declared.record.Certificate.{Certificate}
 use Rattle.certificate.specs.CertificateText.{certificate_text}
 use Rattle.certificate.specs.Readable.{fits}
-use Rattle.certificate_reader.specs.declared.read.CertificateRead.{CertificateRead}
-use Rattle.certificate_reader.specs.ReadCertificate.{read_certificate, rows_read}
+use Rattle.certificate_reader.specs.ReadCertificate.{CertificateRead, read_certificate, rows_read}
 use Rattle.certificate_writer.specs.WriteCertificate.{writable, certificate_written, certificate_after}
 use Rattle.certificate_theorems.proofs.Theorems.{events_of, no-fault-history, read-written, read_fits, written_read, written-rows}
 

@@ -16,11 +16,8 @@ use Rattle.history.specs.declared.record.Object.{Object}
 use Rattle.history.specs.declared.record.Event.{Event}
 use Rattle.history.specs.Record.{history_of}
 use Rattle.history.specs.Faults.{object_line, event_line}
-use Rattle.history_reader.specs.declared.place.Text.TheVariants.{HistoryText}
-use Rattle.history_reader.specs.declared.place.Place.{Place}
-use Rattle.history_reader.specs.declared.read.HistoryRead.{HistoryRead}
-use Rattle.history_reader.specs.ReadHistory.{refusal, read_as, events_from, objects_from, lines_from, read_history}
-use Rattle.history_reader.specs.Place.{event_place}
+use Rattle.history_reader.specs.Place.{HistoryText, Place, event_place}
+use Rattle.history_reader.specs.ReadHistory.{HistoryRead, refusal, read_as, events_from, objects_from, lines_from, read_history}
 use Rattle.history_reader.proofs.ReadLaws.{object-own, event-own}
 
 -- ---- at most 16 objects and 64 events are read

@@ -13,13 +13,9 @@ use Rattle.layout.proofs.Cases.{by-eq}
 use Rattle.layout.proofs.SplitLaws.{join-split}
 use Rattle.history.specs.declared.record.Object.{Object}
 use Rattle.history.specs.declared.record.Event.{Event}
-use Rattle.history_reader.specs.declared.place.Text.{Text}
-use Rattle.history_reader.specs.declared.place.Text.TheVariants.{HistoryText}
-use Rattle.history_reader.specs.declared.place.Place.{Place}
-use Rattle.history_reader.specs.declared.read.HistoryRead.{HistoryRead}
+use Rattle.history_reader.specs.Place.{Text, HistoryText, Place, nowhere, faulty_place, text_named}
+use Rattle.history_reader.specs.ReadHistory.{HistoryRead, refusal, read_as, events_from, objects_from, lines_from, read_history}
 use Rattle.history.specs.Faults.{object_line, event_line}
-use Rattle.history_reader.specs.Place.{nowhere, faulty_place, text_named}
-use Rattle.history_reader.specs.ReadHistory.{refusal, read_as, events_from, objects_from, lines_from, read_history}
 
 -- The numbers of a place fit the text t, which has n bytes; and the text that it names, whatever that is.
 pub record PartOf (t : Text) (n : ℕ) (p : Place) : Type 0 where

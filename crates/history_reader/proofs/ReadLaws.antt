@@ -22,8 +22,7 @@ use Rattle.history.specs.Faults.{ObjectRead, EventRead, object_line, event_line,
 use Rattle.history.proofs.FaultLaws.{fault-none}
 use Rattle.history.proofs.ObjectLaws.{three-order, object-three, object-count}
 use Rattle.history.proofs.EventLaws.{limited, event-six, event-count}
-use Rattle.event_reader.specs.declared.next.NextEvent.{NextEvent}
-use Rattle.event_reader.specs.Steps.Next.{next_read}
+use Rattle.event_reader.specs.Steps.Next.{NextEvent, next_read}
 use Rattle.event_reader.proofs.NextLaws.{next-cut, next-line}
 use Rattle.history_reader.specs.ReadHistory.{refusal, read_as, events_from, objects_from, lines_from, read_history}
 
