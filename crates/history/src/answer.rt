@@ -1,8 +1,12 @@
 // The answer of an event: at most eight values, or one that was lost.
-ghost use Rattle.std.specs.Prelude.{◌≡◌};
-ghost use Rattle.history.specs.Record.{no_answer, lost_answer};
+ghost use Rattle.std.specs.Prelude.{◌≡◌, ℕ, ◌≤◌, ◌<◌, length, get_or};
+ghost use Rattle.history.specs.Record.{value_bound, answer_of, no_answer, lost_answer};
+ghost use Rattle.history.specs.Steps.Fields.{answer_field};
 
-use crate::record::{Answer, Value};
+use crate::fault::Fault;
+use crate::record::{Answer, VALUES, Value};
+use layout::list::{ListFault, read_list};
+use layout::word::is_word;
 
 pub fn no_answer() -> Answer
     ensures { result ≡ no_answer }
@@ -21,5 +25,37 @@ pub fn lost_answer() -> Answer
         lost: true,
         count: 0,
         values: [0 as Value; 8],
+    }
+}
+
+// The answer of these items, which are values.
+fn narrow(items: &[u32]) -> Answer
+    requires { (length items.now ≤ 8) × ((i : ℕ) → i < length items.now → get_or items.now i 0 < value_bound) }
+    ensures { result ≡ answer_of items.now }
+{
+    let mut values = [0 as Value; 8];
+    for (i, item) in items.iter().enumerate() {
+        values[i] = *item as Value;
+    }
+    Answer {
+        lost: false,
+        count: items.len() as u8,
+        values,
+    }
+}
+
+// What a field is as an answer: `?`, or a list. One of more than eight values, which no op can give, is none.
+pub fn answer_field(field: &[u8]) -> Result<Result<Option<Answer>, Fault>, Fault>
+    ensures { result ≡ answer_field field.now }
+{
+    if is_word(field, b"?") {
+        return Ok(Ok(Some(lost_answer())));
+    }
+    let mut items = [0u32; 8];
+    match read_list(field, VALUES, &mut items) {
+        Ok(n) => Ok(Ok(Some(narrow(&items[..n])))),
+        Err(ListFault::Many) => Ok(Ok(None)),
+        Err(ListFault::Over) => Ok(Err(Fault::Limits)),
+        Err(ListFault::NotList) => Err(Fault::Layout),
     }
 }

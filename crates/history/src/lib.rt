@@ -6,6 +6,7 @@
 pub mod answer;
 pub mod event;
 pub mod fault;
+pub mod field;
 pub mod object;
 pub mod record;
 pub mod word;

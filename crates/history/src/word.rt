@@ -47,82 +47,46 @@ pub fn read_op(field: &[u8]) -> Option<Op>
 pub fn is_channel(kind: Kind) -> bool
     ensures { result ≡ is_channel kind }
 {
-    match kind {
-        Kind::Register => false,
-        Kind::Queue => false,
-        Kind::Stack => false,
-        Kind::Window => false,
-        Kind::Channel => true,
-    }
+    kind == Kind::Channel
 }
 
 // Whether objects of the kind have a width.
 pub fn has_width(kind: Kind) -> bool
     ensures { result ≡ has_width kind }
 {
-    match kind {
-        Kind::Register => false,
-        Kind::Queue => false,
-        Kind::Stack => false,
-        Kind::Window => true,
-        Kind::Channel => true,
-    }
+    matches!(kind, Kind::Window | Kind::Channel)
 }
 
 // What a width that stands with the kind must be below.
 pub fn width_bound(kind: Kind) -> u64
     ensures { (result ≡ width_limit kind + 1) × (result ≤ 65) }
 {
-    if is_channel(kind) {
-        return 65;
-    }
-    9
+    if is_channel(kind) { 65 } else { 9 }
 }
 
 fn is_shelf(kind: Kind) -> bool
     ensures { result ≡ is_shelf kind }
 {
-    match kind {
-        Kind::Register => false,
-        Kind::Queue => true,
-        Kind::Stack => true,
-        Kind::Window => false,
-        Kind::Channel => true,
-    }
+    matches!(kind, Kind::Queue | Kind::Stack | Kind::Channel)
 }
 
 fn is_shelf_op(op: Op) -> bool
     ensures { result ≡ is_shelf_op op }
 {
-    match op {
-        Op::Write => false,
-        Op::Read => false,
-        Op::Push => true,
-        Op::Pop => true,
-        Op::Peek => true,
-    }
+    matches!(op, Op::Push | Op::Pop | Op::Peek)
 }
 
 // Whether the op is one that the kind has.
 pub fn has_op(kind: Kind, op: Op) -> bool
     ensures { result ≡ has_op kind op }
 {
-    if is_shelf(kind) {
-        return is_shelf_op(op);
-    }
-    !is_shelf_op(op)
+    is_shelf(kind) == is_shelf_op(op)
 }
 
 pub fn takes_value(op: Op) -> bool
     ensures { result ≡ takes_value op }
 {
-    match op {
-        Op::Write => true,
-        Op::Read => false,
-        Op::Push => true,
-        Op::Pop => false,
-        Op::Peek => false,
-    }
+    matches!(op, Op::Write | Op::Push)
 }
 
 // Whether a read of an object of the kind and the width can answer so many values.
@@ -130,11 +94,8 @@ fn read_can_answer(kind: Kind, width: u8, n: u8) -> bool
     ensures { result ≡ read_can_answer kind width n }
 {
     match kind {
-        Kind::Register => n == 1,
-        Kind::Queue => n == 1,
-        Kind::Stack => n == 1,
         Kind::Window => n <= width,
-        Kind::Channel => n == 1,
+        _ => n == 1,
     }
 }
 
@@ -142,23 +103,18 @@ fn read_can_answer(kind: Kind, width: u8, n: u8) -> bool
 fn push_can_answer(kind: Kind, n: u8) -> bool
     ensures { result ≡ push_can_answer kind n }
 {
-    if is_channel(kind) {
-        return n <= 1;
-    }
-    n == 0
+    if is_channel(kind) { n <= 1 } else { n == 0 }
 }
 
 // Whether an op of an object can answer so many values.
 fn can_answer(object: Object, op: Op, n: u8) -> bool
     ensures { result ≡ can_answer object op n }
 {
-    let kind = object.kind;
     match op {
         Op::Write => n == 0,
-        Op::Read => read_can_answer(kind, object.width, n),
-        Op::Push => push_can_answer(kind, n),
-        Op::Pop => n <= 1,
-        Op::Peek => n <= 1,
+        Op::Read => read_can_answer(object.kind, object.width, n),
+        Op::Push => push_can_answer(object.kind, n),
+        Op::Pop | Op::Peek => n <= 1,
     }
 }
 
@@ -167,17 +123,15 @@ pub fn may_answer(object: Object, op: Op, answer: Answer) -> bool
     ensures { result ≡ may_answer object op answer }
 {
     if answer.lost {
-        return answer.count == 0;
+        answer.count == 0
+    } else {
+        can_answer(object, op, answer.count)
     }
-    can_answer(object, op, answer.count)
 }
 
 // Whether a value or a width stands where it belongs, and `-` elsewhere.
 pub fn fits_dash(wanted: bool, dash: bool) -> bool
     ensures { result ≡ cond wanted (not dash) dash }
 {
-    if wanted {
-        return !dash;
-    }
-    dash
+    wanted != dash
 }
