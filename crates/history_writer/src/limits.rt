@@ -125,7 +125,7 @@ fn good_answer(object: Object, op: Op, a: Answer) -> bool
     if count > 8 {
         return false;
     }
-    let can = may_answer(object, op, a.lost, a.count);
+    let can = may_answer(object, op, a);
     let less = all_less(values, count);
     let blank = all_zero(values, count);
     can & less & blank

@@ -5,7 +5,7 @@ ghost use Rattle.layout.specs.Word.{object_heading, event_heading};
 ghost use Rattle.history.specs.HistoryText.{lines_text, object_text, event_text, object_lines, event_lines, history_text};
 ghost use Rattle.history.specs.Readable.{within};
 ghost use Rattle.history_writer.specs.Steps.Lines.{object_fields_of, event_fields_of, short_answers};
-ghost use Rattle.history_writer.specs.WriteHistory.{history_written, history_after};
+ghost use Rattle.history_writer.specs.WriteHistory.{write_fault_number, written_of, history_written, history_after};
 
 use crate::limits::is_within;
 use crate::line::{Field, line_len, put_line};
@@ -13,11 +13,25 @@ use history::record::{Event, History, Object, Value};
 use history::word::{has_width, takes_value};
 use layout::fill::put_bytes;
 
-// The answer's number, and the length of the text or 0.
-#[derive(Clone, Copy)]
-pub struct HistoryWritten {
-    pub number: u8,
-    pub length: usize,
+// Why a record is not written.
+#[derive(Clone, Copy, Debug, PartialEq, Eq)]
+pub enum WriteFault {
+    // It is outside its limits, so that no readable text stands for it.
+    OutsideLimits,
+    // The buffer is too short.
+    TooShort,
+}
+
+impl WriteFault {
+    // The documents' number: 9 or 18.
+    pub fn number(self) -> u8
+        ensures { result ≡ write_fault_number self }
+    {
+        match self {
+            WriteFault::OutsideLimits => 9,
+            WriteFault::TooShort => 18,
+        }
+    }
 }
 
 // The number, or `-`.
@@ -241,25 +255,16 @@ fn put_history(part: &mut [u8], h: History) -> usize
 
 // Writes the text of a record into the first bytes of a buffer. A record outside its limits (9) and a buffer that is too
 // short (18) are refused, and the buffer stays as it was.
-pub fn write_history(buf: &mut [u8], h: History) -> HistoryWritten
-    ensures { (result ≡ history_written h buf.old) × (buf.new ≡ history_after h buf.old) }
+pub fn write_history(buf: &mut [u8], h: History) -> Result<usize, WriteFault>
+    ensures { (written_of result ≡ history_written h buf.old) × (buf.new ≡ history_after h buf.old) }
 {
-    if is_within(h) {
-        let n = history_len(h);
-        if buf.len() < n {
-            return HistoryWritten {
-                number: 18,
-                length: 0,
-            };
-        }
-        put_history(buf, h);
-        return HistoryWritten {
-            number: 0,
-            length: n,
-        };
+    if !is_within(h) {
+        return Err(WriteFault::OutsideLimits);
     }
-    HistoryWritten {
-        number: 9,
-        length: 0,
+    let n = history_len(h);
+    if buf.len() < n {
+        return Err(WriteFault::TooShort);
     }
+    put_history(buf, h);
+    Ok(n)
 }
