@@ -8,7 +8,7 @@ use crate::field::{number_field, optional_field};
 use crate::record::{Event, Object, ProcessNo, VALUES, Value};
 use crate::word::{fits_dash, has_op, may_answer, read_op, takes_value};
 use layout::number::is_spelling;
-use layout::split::{find_from, split_once};
+use layout::split::split_once;
 
 // The six fields of an event's line.
 #[derive(Clone, Copy)]
@@ -22,6 +22,7 @@ struct Fields<'a> {
 }
 
 // Reads the fields of the event whose number is `own`, in a history with these objects.
+#[tactic(auto, unfolding(crate::specs::Faults::event_six, crate::specs::Faults::event_fault, crate::specs::Faults::first_fault, crate::specs::Faults::event_layout, crate::specs::Faults::event_limits, crate::specs::Faults::event_fits, crate::specs::Faults::event_long, crate::specs::Faults::event_said, crate::specs::Faults::is_optional, crate::specs::Faults::optional, crate::specs::Steps::Fields::number_field, crate::specs::Steps::Fields::optional_field, crate::specs::Steps::Fields::answer_field))]
 fn read_six(fields: Fields, own: u32, objects: &[Object]) -> Result<Event, Fault>
     requires { length objects.now ≤ 16 }
     ensures { event_read result ≡ event_six own objects.now fields.entry.number.now fields.entry.process.now fields.entry.object.now fields.entry.op.now fields.entry.value.now fields.entry.answer.now }
@@ -63,6 +64,7 @@ fn read_six(fields: Fields, own: u32, objects: &[Object]) -> Result<Event, Fault
 
 // Reads the line of the event whose number is `own`, in a history with these objects, without its line feed: its event, or
 // its first fault.
+#[tactic(auto, unfolding(crate::specs::Faults::event_line, crate::specs::Faults::event_fields))]
 pub fn read_event(line: &[u8], own: u32, objects: &[Object]) -> Result<Event, Fault>
     requires { length objects.now ≤ 16 }
     ensures { event_read result ≡ event_line own objects.now line.now }
@@ -82,7 +84,7 @@ pub fn read_event(line: &[u8], own: u32, objects: &[Object]) -> Result<Event, Fa
     let Some((value, answer)) = split_once(rest, b' ') else {
         return Err(Fault::Layout);
     };
-    if find_from(answer, 0, b' ').is_some() {
+    if split_once(answer, b' ').is_some() {
         return Err(Fault::Layout);
     }
     let fields = Fields {

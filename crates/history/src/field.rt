@@ -8,6 +8,7 @@ use layout::number::{NumberFault, read_number};
 use layout::word::is_word;
 
 // A number below a bound.
+#[tactic(auto, unfolding(crate::specs::Steps::Fields::number_field, layout::specs::Number::number_of, layout::specs::Number::below))]
 pub fn number_field(field: &[u8], bound: u64) -> Result<Result<u64, Fault>, Fault>
     requires { bound ≤ 4294967296 }
     ensures { result ≡ number_field bound field.now }
@@ -20,6 +21,7 @@ pub fn number_field(field: &[u8], bound: u64) -> Result<Result<u64, Fault>, Faul
 }
 
 // The same of a field that may be `-`, which holds none.
+#[tactic(auto, unfolding(crate::specs::Steps::Fields::number_field, crate::specs::Steps::Fields::optional_field))]
 pub fn optional_field(field: &[u8], bound: u64) -> Result<Result<Option<u64>, Fault>, Fault>
     requires { bound ≤ 4294967296 }
     ensures { result ≡ optional_field bound field.now }

@@ -7,9 +7,10 @@ use crate::field::optional_field;
 use crate::record::Object;
 use crate::word::{fits_dash, has_width, read_kind, width_bound};
 use layout::number::is_spelling;
-use layout::split::{find_from, split_once};
+use layout::split::split_once;
 
 // Reads the three fields of the object whose number is `own`: its own number, its kind and its width.
+#[tactic(auto, unfolding(crate::specs::Faults::object_three, crate::specs::Faults::object_fault, crate::specs::Faults::first_fault, crate::specs::Faults::object_layout, crate::specs::Faults::object_limits, crate::specs::Faults::object_fits, crate::specs::Faults::is_optional, crate::specs::Faults::optional, crate::specs::Steps::Fields::optional_field))]
 fn read_three(number: &[u8], word: &[u8], width: &[u8], own: u32) -> Result<Object, Fault>
     ensures { object_read result ≡ object_three own number.now word.now width.now }
 {
@@ -38,6 +39,7 @@ fn read_three(number: &[u8], word: &[u8], width: &[u8], own: u32) -> Result<Obje
 }
 
 // Reads the line of the object whose number is `own`, without its line feed: its object, or its first fault.
+#[tactic(auto, unfolding(crate::specs::Faults::object_line, crate::specs::Faults::object_fields))]
 pub fn read_object(line: &[u8], own: u32) -> Result<Object, Fault>
     ensures { object_read result ≡ object_line own line.now }
 {
@@ -47,7 +49,7 @@ pub fn read_object(line: &[u8], own: u32) -> Result<Object, Fault>
     let Some((kind, width)) = split_once(rest, b' ') else {
         return Err(Fault::Layout);
     };
-    if find_from(width, 0, b' ').is_some() {
+    if split_once(width, b' ').is_some() {
         return Err(Fault::Layout);
     }
     read_three(number, kind, width, own)
