@@ -1,95 +1,98 @@
 -- Laws of a line of a number and a list of events. Assumes nothing.
-use Prim.Native.Nat.{ℕ, suc, ◌+◌, ◌-◌, ◌≤◌, ◌<◌}
+use Prim.Native.Nat.{ℕ, zero, suc, ◌+◌, ◌≤◌, ◌<◌}
+use native.Mathlib.Numerals.{add-one}
 use native.Mathlib.Omega.{arith}
 use mathlib.Core.Path.{◌≡◌, refl, sym, ap, ◌∙◌}
-use mathlib.Core.Bool.{Bool, true, false, cond, not, ◌||◌}
+use mathlib.Core.Bool.{Bool, true, false, cond, not, ◌||◌, or-true, and-false}
 use mathlib.Core.List.{List, [], ◌∷◌}
-use lib.ListN.{length, get_or, take, drop, length-drop}
-use lib.Seq.{length-take-le, get_or-take, drop-cons}
-use borrow.Author.Tests.{eq-eqb, ne_eqb, lt-ltb, le-ltb, le-leb}
-use Rattle.layout.specs.declared.list.ListRead.TheVariants.{NotList, Over, Many, Listed}
+use lib.ListN.{length, get_or, take}
+use lib.Seq.{get_or-take}
+use lib.Dec.{ltb}
+use borrow.Author.Tests.{ne_eqb, lt-ltb, le-ltb, le-leb, ltb-true, ltb-false}
+use Rattle.core.specs.declared.result.Result.TheVariants.{Ok, Err}
+use Rattle.core.specs.List.{IsAllAdjacentAnswer}
+use Rattle.layout.specs.declared.list.ListFault.TheVariants.{NotList, Over, Many}
 use Rattle.layout.specs.Split.{split}
 use Rattle.layout.specs.Word.{same}
 use Rattle.layout.specs.Number.{spell}
 use Rattle.layout.specs.Fill.{fill}
 use Rattle.layout.specs.List.{items_of, list_of, numbers_of, leading}
+use Rattle.layout.proofs.SplitLaws.{split-some}
 use Rattle.layout.proofs.ListLaws.{is-list, list-not, list_over, list-many, numbers-below, numbers-kept}
 use Rattle.certificate.specs.Record.{no_list, event_list_of}
 use Rattle.certificate.specs.Faults.{rising, list_layout, list_limits, pair_fault, list_fault, list_said}
 use Rattle.certificate.specs.Steps.Lists.{list_with, pair_read, list_read}
 
--- ---- a loop that compares each item with the one before it, at the place i of the first n items
+-- ---- each two neighbours are in order, or some two are not
 pub rising-one : (xs : List ℕ) → length xs ≤ 1 → rising xs ≡ true
 unfolding rising
 rising-one [] h = refl
 rising-one (x ∷ []) h = refl
 rising-one (x ∷ y ∷ xs) h = absurd (omega arith)
 
-module _ (items : List ℕ) (n : ℕ) (l : n ≤ length items) (i : ℕ) (from : 0 < i) where
-  abbrev xs : List ℕ
-  xs = take n items
+rising_all : (xs : List ℕ) → ((k : ℕ) → suc k < length xs → get_or xs k 0 < get_or xs (suc k) 0) → rising xs ≡ true
+unfolding rising
+rising_all [] h = refl
+rising_all (x ∷ []) h = refl
+rising_all (x ∷ y ∷ xs) h =
+    rw (lt-ltb x y (h 0 (omega arith))) (rising_all (y ∷ xs) (λ k l. h (suc k) (omega arith)))
 
-  module _ (h : i < n) where
-    one : drop i xs ≡ get_or items i 0 ∷ drop (suc i) xs
-    one = drop-cons xs i 0 (omega (arith, length-take-le n items l)) ∙ rw (get_or-take n items i 0 h)
+rising_fails : (xs : List ℕ) (k : ℕ) → suc k < length xs → get_or xs (suc k) 0 ≤ get_or xs k 0 → rising xs ≡ false
+unfolding rising
+rising_fails [] k l h = absurd (omega arith)
+rising_fails (x ∷ []) k l h = absurd (omega arith)
+rising_fails (x ∷ y ∷ xs) zero l h = rw (le-ltb x y h)
+rising_fails (x ∷ y ∷ xs) (suc k) l h = rw (rising_fails (y ∷ xs) k (omega arith) h, and-false)
 
-    two : drop (i - 1) xs ≡ get_or items (i - 1) 0 ∷ get_or items i 0 ∷ drop (suc i) xs
-    two =
-        let k : suc (i - 1) ≡ i = omega arith in
-        drop-cons xs (i - 1) 0 (omega (arith, length-take-le n items l))
-        ∙ rw (k, one, get_or-take n items (i - 1) 0 (omega arith))
-
-    pub rising-fails : get_or items i 0 ≤ get_or items (i - 1) 0 → rising (drop (i - 1) xs) ≡ false
-    unfolding rising
-    rising-fails e = rw (two, le-ltb (get_or items (i - 1) 0) (get_or items i 0) e)
-
-    pub rising-goes : get_or items (i - 1) 0 < get_or items i 0 → rising (drop (i - 1) xs) ≡ rising (drop (i + 1 - 1) xs)
-    unfolding rising
-    rising-goes e =
-        let k : i + 1 - 1 ≡ i = omega arith in
-        rw (k, two, one, lt-ltb (get_or items (i - 1) 0) (get_or items i 0) e)
-
-  pub rising-ends : n ≤ i → rising (drop (i - 1) xs) ≡ true
-  rising-ends h = rising-one (drop (i - 1) xs) (omega (arith, length-drop (i - 1) xs, length-take-le n items l))
+-- what the library's `is_sorted_by` answers
+pub rising-told : (xs : List ℕ) (r : Bool) → IsAllAdjacentAnswer (λ x y b. b ≡ ltb x y) xs r → r ≡ rising xs
+rising-told xs true h = sym (rising_all xs (λ k l. rw add-one at (ltb-true _ _ (sym (h k 0 (omega arith))))))
+rising-told xs false h = sym (rising_fails xs h.0 (omega (arith, h.1)) (rw add-one at (ltb-false _ _ (sym (h.2 0)))))
 
 -- ---- the two fields of a line
 module _ (past : Bool) (count own : ℕ) (a s : List ℕ) where
-  pub pair-number : same a (spell own) ≡ false → pair_read past count own a s ≡ record { fault = 2; list = no_list }
+  pub pair-number : same a (spell own) ≡ false → record { fault = 2; list = no_list } ≡ pair_read past count own a s
   unfolding pair_read pair_fault list_layout
   pair-number e = rw e
 
   module _ (e : same a (spell own) ≡ true) where
-    pub pair-not : list_of count count s ≡ NotList → pair_read past count own a s ≡ record { fault = 2; list = no_list }
+    pub pair-not : list_of count count s ≡ Err NotList → record { fault = 2; list = no_list } ≡ pair_read past count own a s
     unfolding pair_read pair_fault list_layout
     pair-not q = rw (e, list-not count count s q)
 
-    pub pair-over : list_of count count s ≡ Over → pair_read past count own a s ≡ record { fault = 3; list = no_list }
+    pub pair-over : list_of count count s ≡ Err Over → record { fault = 3; list = no_list } ≡ pair_read past count own a s
     unfolding pair_read pair_fault list_layout list_limits
     pair-over q = let t = list_over count count s q in rw (e, t.0, t.1)
 
-    pub pair-many : list_of count count s ≡ Many → pair_read past count own a s ≡ record { fault = 3; list = no_list }
+    pub pair-many : list_of count count s ≡ Err Many → record { fault = 3; list = no_list } ≡ pair_read past count own a s
     unfolding pair_read pair_fault list_layout list_limits
     pair-many q = let t = list-many count count s q in rw (e, t.0, t.1, t.2)
 
-    module _ (n : ℕ) (q : list_of count count s ≡ Listed n) (xs ys : List ℕ) (k : xs ≡ fill (leading count count (items_of s)) ys) where
-      pair-listed : pair_read past count own a s ≡ list_with (cond (not past || rising (take n xs)) 0 6) (take n xs)
+    module _ (n : ℕ) (q : list_of count count s ≡ Ok n) (xs ys : List ℕ) (k : xs ≡ fill (leading count count (items_of s)) ys) where
+      pair-listed : list_with (cond (not past || rising (take n xs)) 0 6) (take n xs) ≡ pair_read past count own a s
       unfolding pair_read pair_fault list_layout list_limits
       pair-listed =
           let l = is-list count count n s q in
           let m : length (items_of s) ≤ count = omega (arith, l.count, l.few) in
           rw (e, l.numbers, l.small, le-leb (length (items_of s)) count m, numbers-kept l xs ys k)
 
-      pub pair-past : past ≡ true → rising (take n xs) ≡ true → pair_read past count own a s ≡ record { fault = 0; list = event_list_of (take n xs) }
-      pair-past p r = pair-listed ∙ rw (p, r)
+      pub pair-past : rising (take n xs) ≡ true → record { fault = 0; list = event_list_of (take n xs) } ≡ pair_read past count own a s
+      pair-past r =
+          let e : list_with (cond (not past || rising (take n xs)) 0 6) (take n xs) ≡ record { fault = 0; list = event_list_of (take n xs) } =
+          rw (r, or-true (not past)) in sym e ∙ pair-listed
 
-      pub pair-falls : past ≡ true → rising (take n xs) ≡ false → pair_read past count own a s ≡ record { fault = 6; list = no_list }
-      pair-falls p r = pair-listed ∙ rw (p, r)
+      pub pair-falls : past ≡ true → rising (take n xs) ≡ false → record { fault = 6; list = no_list } ≡ pair_read past count own a s
+      pair-falls p r =
+          let e : list_with (cond (not past || rising (take n xs)) 0 6) (take n xs) ≡ record { fault = 6; list = no_list } =
+          rw (p, r) in sym e ∙ pair-listed
 
-      pub pair-view : past ≡ false → pair_read past count own a s ≡ record { fault = 0; list = event_list_of (take n xs) }
-      pair-view p = pair-listed ∙ rw p
+      pub pair-view : past ≡ false → record { fault = 0; list = event_list_of (take n xs) } ≡ pair_read past count own a s
+      pair-view p =
+          let e : list_with (cond (not past || rising (take n xs)) 0 6) (take n xs) ≡ record { fault = 0; list = event_list_of (take n xs) } =
+          rw p in sym e ∙ pair-listed
 
 -- what the reader keeps of a list is at most 64 numbers, each below 64
-pub kept-fits : (count n : ℕ) (s xs ys : List ℕ) → count ≤ 64 → list_of count count s ≡ Listed n → xs ≡ fill (leading count count (items_of s)) ys
+pub kept-fits : (count n : ℕ) (s xs ys : List ℕ) → count ≤ 64 → list_of count count s ≡ Ok n → xs ≡ fill (leading count count (items_of s)) ys
     → (n ≤ 64) × ((i : ℕ) → i < n → get_or xs i 0 < 64)
 kept-fits count n s xs ys room q k =
     let l = is-list count count n s q in (
@@ -100,12 +103,17 @@ kept-fits count n s xs ys room q k =
           omega (arith, numbers-below l i h),
     )
 
--- ---- the line, by its fields
-module _ (past : Bool) (count own : ℕ) (line : List ℕ) (fs : List (List ℕ)) (cut : split 32 line ≡ fs) where
-  pub list_count : (length fs ≡ 2 → ⊥) → list_read past count own line ≡ record { fault = 2; list = no_list }
+-- ---- the line, by its first field and what is behind it
+module _ (past : Bool) (count own : ℕ) (line : List ℕ) where
+  pub list-whole : split 32 line ≡ line ∷ [] → record { fault = 2; list = no_list } ≡ list_read past count own line
   unfolding list_read list_fault
-  list_count h = rw (cut, ne_eqb (length fs) 2 h)
+  list-whole cut = rw cut
 
-  pub list-pair : length fs ≡ 2 → list_read past count own line ≡ pair_read past count own (get_or fs 0 []) (get_or fs 1 [])
-  unfolding list_read list_fault list_said pair_read
-  list-pair h = rw (cut, eq-eqb (length fs) 2 h)
+  module _ (a s : List ℕ) (cut : split 32 line ≡ a ∷ split 32 s) where
+    pub list_more : (f : List ℕ) (rest : List ℕ) → split 32 s ≡ f ∷ split 32 rest → record { fault = 2; list = no_list } ≡ list_read past count own line
+    unfolding list_read list_fault
+    list_more f rest q = rw (cut, q, ne_eqb (suc (suc (length (split 32 rest)))) 2 (λ z. omega (arith, split-some 32 rest)))
+
+    pub list-pair : split 32 s ≡ s ∷ [] → pair_read past count own a s ≡ list_read past count own line
+    unfolding list_read list_fault list_said pair_read
+    list-pair q = rw (cut, q)

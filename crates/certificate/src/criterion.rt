@@ -19,17 +19,24 @@ pub fn has_pasts(c: Criterion) -> bool
 }
 
 // The criterion of a word.
+#[tactic(auto, unfolding(crate::specs::Criteria::is_criterion, crate::specs::Criteria::criterion_of))]
 fn read_word(word: &[u8]) -> Option<Criterion>
     ensures { result ≡ cond (is_criterion word.now) (Some (criterion_of word.now)) None }
 {
-    match word {
-        b"weak" => Some(Criterion::Weak),
-        b"causal" => Some(Criterion::Causal),
-        b"converge" => Some(Criterion::Converge),
-        b"sequential" => Some(Criterion::Sequential),
-        b"strict" => Some(Criterion::Strict),
-        b"pram" => Some(Criterion::Pram),
-        _ => None,
+    if is_word(word, b"weak") {
+        Some(Criterion::Weak)
+    } else if is_word(word, b"causal") {
+        Some(Criterion::Causal)
+    } else if is_word(word, b"converge") {
+        Some(Criterion::Converge)
+    } else if is_word(word, b"sequential") {
+        Some(Criterion::Sequential)
+    } else if is_word(word, b"strict") {
+        Some(Criterion::Strict)
+    } else if is_word(word, b"pram") {
+        Some(Criterion::Pram)
+    } else {
+        None
     }
 }
 

@@ -23,7 +23,7 @@ pub fn no_list() -> EventList
 fn is_rising(items: &[u32]) -> bool
     ensures { result ≡ rising items.now }
 {
-    items.windows(2).all(|w| w[0] < w[1])
+    items.is_sorted_by(|a, b| *a < *b)
 }
 
 // The list of the items, which are events.
@@ -56,13 +56,13 @@ fn read_pair(
         return Err(Fault::Layout);
     }
     let mut items = [0u32; 64];
-    let n = match read_list(list, count as u64, &mut items[..count]) {
+    let places = &mut items[..count];
+    let n = match read_list(list, count as u64, places) {
         Ok(n) => n,
         Err(ListFault::NotList) => return Err(Fault::Layout),
-        Err(ListFault::Over) => return Err(Fault::Limits),
-        Err(ListFault::Many) => return Err(Fault::Limits),
+        Err(ListFault::Over | ListFault::Many) => return Err(Fault::Limits),
     };
-    let listed = &items[..n];
+    let listed = &places[..n];
     if past && !is_rising(listed) {
         return Err(Fault::NotRising);
     }

@@ -178,21 +178,6 @@ pub criterion-said : (c : Criterion) → criterion_of (get_or (split 32 (criteri
 criterion-said c = rw (criterion-fields c) (criterion-word c)
 
 -- as it is read its criterion writes it again
-word-criterion : (f : List ℕ) → is_criterion f ≡ true → word_of (criterion_of f) ≡ f
-unfolding is_criterion criterion_of word_of
-word-criterion f e =
-    by_bool (same f weak_word)
-    (λ w. rw w (sym (same_true f weak_word w)))
-    (λ w. by_bool (same f causal_word)
-    (λ c. rw (w, c) (sym (same_true f causal_word c)))
-    (λ c. by_bool (same f converge_word)
-    (λ v. rw (w, c, v) (sym (same_true f converge_word v)))
-    (λ v. by_bool (same f sequential_word)
-    (λ s. rw (w, c, v, s) (sym (same_true f sequential_word s)))
-    (λ s. by_bool (same f strict_word)
-    (λ t. rw (w, c, v, s, t) (sym (same_true f strict_word t)))
-    (λ t. rw (w, c, v, s, t) (sym (same_true f pram_word (rw (w, c, v, s, t) at e))))))))
-
 pub criterion-back : (line : List ℕ) → criterion_line line ≡ true
     → criterion_text (criterion_of (get_or (split 32 line) 1 [])) ≡ line
 unfolding criterion_line criterion_text
