@@ -3,7 +3,11 @@ use Prim.Native.Nat.{ℕ, ◌≤◌, ◌<◌}
 use native.Mathlib.Omega.{arith}
 use mathlib.Core.Path.{◌≡◌, refl, ap₂}
 use mathlib.Core.Bool.{Bool, true, false, cond}
+use mathlib.Core.List.{List}
+use lib.ListN.{length}
+use Rattle.layout.specs.Split.{split}
 use Rattle.layout.proofs.Cases.{by_bool}
+use Rattle.layout.proofs.SplitLaws.{split-some}
 use Rattle.history.specs.Faults.{first_fault}
 
 -- ---- the first fault
@@ -40,3 +44,7 @@ fault-zero {l} {m} {f} {g} o = rw (o.layout, o.limits, o.fits, o.long)
 -- ---- an order that is no equality is strict
 pub strict : (a b : ℕ) → a ≤ b → (a ≡ b → ⊥) → a < b
 strict a b h n = omega arith
+
+-- ---- bytes that are cut have a first part
+pub some_part : (b : ℕ) (s : List ℕ) → 0 < length (split b s)
+some_part b s = split-some b s

@@ -64,7 +64,7 @@ fn read_six(fields: Fields, own: u32, objects: &[Object]) -> Result<Event, Fault
 
 // Reads the line of the event whose number is `own`, in a history with these objects, without its line feed: its event, or
 // its first fault.
-#[tactic(auto, unfolding(crate::specs::Faults::event_line, crate::specs::Faults::event_fields))]
+#[tactic(auto, using(crate::proofs::FaultLaws::some_part), unfolding(crate::specs::Faults::event_line, crate::specs::Faults::event_fields))]
 pub fn read_event(line: &[u8], own: u32, objects: &[Object]) -> Result<Event, Fault>
     requires { length objects.now ≤ 16 }
     ensures { event_read result ≡ event_line own objects.now line.now }
