@@ -1,4 +1,5 @@
 pub mod BitLaws
+pub mod FindLaws
 pub mod RowLaws
 pub mod ViewLaws
 pub mod PastLaws

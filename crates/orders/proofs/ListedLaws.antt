@@ -1,18 +1,20 @@
 -- Laws of the rows of pasts. Assumes nothing.
-use Prim.Native.Nat.{ℕ, ◌+◌, ◌<◌}
+use Prim.Native.Nat.{ℕ, ◌+◌, ◌≤◌, ◌<◌}
 use native.Mathlib.Omega.{arith}
 use mathlib.Core.Path.{◌≡◌, sym, ap, ◌∙◌}
 use mathlib.Core.Bool.{false}
 use mathlib.Core.List.{List, [], ◌∷◌, ◌++◌, map, map-append}
 use lib.ListN.{length, get_or, take, set, replicate, length-replicate, length-map, length-append, get_or-replicate, get_or-append, get_or-eq_default}
-use lib.Seq.{length-take-le, get_or-set_same, get_or-set_other, get_or-append-add}
+use lib.Seq.{length-take-le, get_or-set_same, get_or-set_other, get_or-append-add, get_or-take}
+use Rattle.std.proofs.lemmas.List.{length-take}
 use Rattle.layout.proofs.Cases.{by-eq, by-lt}
 use Rattle.history.proofs.PadLaws.{take_more}
 use Rattle.certificate.specs.declared.record.EventList.{EventList}
-use Rattle.certificate.specs.Record.{entries_in}
+use Rattle.certificate.specs.Record.{no_list, entries_in}
 use Rattle.criteria.specs.Tests.{mem}
+use Rattle.criteria.proofs.Loops.{any-default}
 use Rattle.criteria.specs.Certificate.{listed}
-use Rattle.orders.specs.Rows.{in_row, in_rows, IsOrder}
+use Rattle.orders.specs.Rows.{in_row, in_rows, IsOrder, ShortList}
 use Rattle.orders.proofs.BitLaws.{none_in}
 
 -- rows of nothing
@@ -57,3 +59,19 @@ module _ (ps : List EventList) (i : ℕ) (d : EventList) (h : i < length ps) whe
       by-eq b i
       (λ e. rw (e, get_or-set_same rows i row 0 few) (s a ∙ sym (listed_here a)))
       (λ n. rw (get_or-set_other rows i b row 0 n) (o a b ∙ sym (listed-there a b n)))
+
+-- the entries of a past that is there
+pub past_small : (ps : List EventList) (i : ℕ) (d : EventList) → i < length ps → ((k : ℕ) → k < length ps → ShortList (get_or ps k no_list))
+    → (length (entries_in (get_or ps i d)) ≤ 64) × ((k : ℕ) → k < length (entries_in (get_or ps i d)) → get_or (entries_in (get_or ps i d)) k 0 < 64)
+past_small ps i d h short = rw (any-default ps i d no_list h) (few, λ k l. entry k l)
+  where
+    it : EventList
+    it = get_or ps i no_list
+
+    few : length (entries_in it) ≤ 64
+    few = let n = (short i h).few in omega (arith, length-take it.count it.events)
+
+    entry : (k : ℕ) → k < length (entries_in it) → get_or (entries_in it) k 0 < 64
+    entry k l =
+        let below : k < it.count = omega (arith, length-take it.count it.events) in
+        rw (get_or-take it.count it.events k 0 below) ((short i h).entries k below)

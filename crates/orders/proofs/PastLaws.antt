@@ -1,6 +1,6 @@
 -- What the loop of 20 needs: the entries before an own event are marked, and all of them are in its past. Assumes nothing.
 use mathlib.Core.Path.{◌≡◌, sym, ap, subst, ◌∙◌}
-use mathlib.Core.Bool.{Bool, true, not, ◌&&◌}
+use mathlib.Core.Bool.{Bool, true, false, not, ◌&&◌}
 use mathlib.Core.List.{List}
 use Prim.Native.Nat.{ℕ, ◌≤◌, ◌<◌}
 use native.Mathlib.Omega.{arith}
@@ -9,9 +9,8 @@ use lib.Seq.{get_or-take, length-take-le}
 use Rattle.layout.proofs.Cases.{true-and}
 use Rattle.criteria.specs.Tests.{any, mem, place}
 use Rattle.criteria.specs.Check.{outside_past}
-use Rattle.criteria.proofs.Lists.{and-true, same_test, any_at, any_some, mem-get_or, place_in}
+use Rattle.criteria.proofs.Lists.{and-true, same_test, any_at, any_some, none_any, mem-get_or, place_in}
 use Rattle.orders.specs.Rows.{in_row, in_rows}
-use Rattle.orders.proofs.BitLaws.{any_same}
 use Rattle.orders.proofs.RowLaws.{apart}
 
 -- an own event stands at the place j, and one at a place before it is not in its past
@@ -19,10 +18,10 @@ abbrev pub outside_at : (ℕ → ℕ → Bool) → (ℕ → Bool) → List ℕ �
 outside_at R own v j = any j (λ i. own (get_or v j 0) && not (R (get_or v i 0) (get_or v j 0)))
 
 -- the entries before the place i are marked: one of them is not in the past of the own event x
-pub outside-turn : (rows : List ℕ) (own : ℕ → Bool) (view : List ℕ) (n i before : ℕ) → i < n → n ≤ length view
-    → ((k : ℕ) → k < n → get_or view k 0 < 64) → ((e : ℕ) → in_row before e ≡ mem e (take i view))
+outside-here : (rows : List ℕ) (own : ℕ → Bool) (view : List ℕ) (i before : ℕ) → i < length view
+    → ((k : ℕ) → k < length view → get_or view k 0 < 64) → ((e : ℕ) → in_row before e ≡ mem e (take i view))
     → (own (get_or view i 0) && any 64 (apart before (get_or rows (get_or view i 0) 0))) ≡ outside_at (in_rows rows) own view i
-outside-turn rows own view n i before l fits small marked =
+outside-here rows own view i before l small marked =
     same_test (own x && any 64 (apart before (get_or rows x 0))) (outside_at (in_rows rows) own view i)
     (λ t.
     let p = and-true (own x) (any 64 (apart before (get_or rows x 0))) t in
@@ -46,12 +45,18 @@ outside-turn rows own view n i before l fits small marked =
     x : ℕ
     x = get_or view i 0
 
--- all entries were looked at
-pub outside-end : (R : ℕ → ℕ → Bool) (own : ℕ → Bool) (view : List ℕ) (n : ℕ) → n ≤ length view
-    → any n (outside_at R own view) ≡ outside_past R own (take n view)
+pub outside-turn : (rows : List ℕ) (own : ℕ → Bool) (view : List ℕ) (i before x : ℕ) → i < length view → x ≡ get_or view i 0
+    → ((k : ℕ) → k < length view → get_or view k 0 < 64) → ((e : ℕ) → in_row before e ≡ mem e (take i view))
+    → (own x && any 64 (apart before (get_or rows x 0))) ≡ outside_at (in_rows rows) own view i
+outside-turn rows own view i before x l q small marked = rw q (outside-here rows own view i before l small marked)
+
+-- an entry was found, and all entries were looked at
+pub outside_found : (R : ℕ → ℕ → Bool) (own : ℕ → Bool) (view : List ℕ) (i : ℕ) → i < length view
+    → outside_at R own view i ≡ true → outside_past R own view ≡ true
 unfolding outside_past
-outside-end R own view n fits =
-    any_same n (outside_at R own view) (outside_at R own (take n view))
-    (λ j l. any_same j (λ i. own (get_or view j 0) && not (R (get_or view i 0) (get_or view j 0))) (λ i. own (get_or (take n view) j 0) && not (R (get_or (take n view) i 0) (get_or (take n view) j 0)))
-    (λ i k. rw (get_or-take n view j 0 l, get_or-take n view i 0 (omega arith))))
-    ∙ ap (λ (m : ℕ). any m (outside_at R own (take n view))) (sym (length-take-le n view fits))
+outside_found R own view i l t = any_at (length view) (outside_at R own view) i l t
+
+pub outside_nowhere : (R : ℕ → ℕ → Bool) (own : ℕ → Bool) (view : List ℕ)
+    → ((i : ℕ) → i < length view → outside_at R own view i ≡ false) → outside_past R own view ≡ false
+unfolding outside_past
+outside_nowhere R own view h = none_any (length view) (outside_at R own view) h

@@ -6,12 +6,11 @@ use Prim.Native.Nat.{ℕ, ◌+◌, ◌≤◌, ◌<◌}
 use native.Mathlib.Numerals.{add-one}
 use native.Mathlib.Omega.{arith}
 use lib.ListN.{get_or}
-use borrow.Author.Tests.{lt-ltb, le-ltb}
 use Rattle.criteria.specs.Tests.{any, lowest, found_if}
 use Rattle.criteria.proofs.Lists.{none-lowest}
 use Rattle.criteria.proofs.Loops.{lowest-found}
 use Rattle.criteria.specs.Check.{lacks_past}
-use Rattle.orders.specs.Rows.{in_row, in_rows, found_at}
+use Rattle.orders.specs.Rows.{in_row, in_rows}
 
 -- one number more is tested, and all were
 pub any-turn : (f : ℕ → Bool) (k : ℕ) (b : Bool) → b ≡ any k f → b || f k ≡ any (k + 1) f
@@ -19,17 +18,6 @@ any-turn f k b h = rw (add-one, h)
 
 pub any-end : (f : ℕ → Bool) (n k : ℕ) (b : Bool) → k ≤ n → n ≤ k → b ≡ any k f → b ≡ any n f
 any-end f n k b h l e = let q : k ≡ n = omega arith in e ∙ ap (λ (m : ℕ). any m f) q
-
--- the test passes at k and nowhere below, and passes nowhere
-pub found-at : (t : ℕ → Bool) (n k : ℕ) → k < n → ((i : ℕ) → i < k → t i ≡ false) → t k ≡ true
-    → (k ≤ n) × (found_at n k ≡ lowest n (λ e. found_if (t e) e))
-found-at t n k l g e =
-    (omega arith, rw (lt-ltb k n l) (sym (lowest-found n (λ i. found_if (t i) i) k k l (λ i m. ap (λ (b : Bool). found_if b i) (g i m)) (ap (λ (b : Bool). found_if b k) e))))
-
-pub found_nowhere : (t : ℕ → Bool) (n k : ℕ) → k ≤ n → n ≤ k → ((i : ℕ) → i < k → t i ≡ false)
-    → (k ≤ n) × (found_at n k ≡ lowest n (λ e. found_if (t e) e))
-found_nowhere t n k h l g =
-    (h, rw (le-ltb k n l) (sym (none-lowest n (λ i. found_if (t i) i) (λ i m. ap (λ (b : Bool). found_if b i) (g i (omega arith))))))
 
 -- g is in row a and not in row b; it is in both; the row of e lacks something that it must have
 abbrev pub apart : ℕ → ℕ → ℕ → Bool

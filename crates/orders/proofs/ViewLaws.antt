@@ -8,15 +8,16 @@ use native.Mathlib.Nat.{not-suc-le-zero, le_of_suc-le-suc}
 use native.Mathlib.Numerals.{add-one}
 use native.Mathlib.Omega.{arith}
 use lib.Dec.{eqb, ltb, eqb-suc-zero, eqb-suc-suc}
-use lib.ListN.{length, get_or, take}
-use lib.Seq.{slice, slice-cons, slice_empty, get_or-take, length-take-le}
+use lib.ListN.{length, get_or, take, drop}
+use lib.Seq.{drop-cons, get_or-take}
+use Rattle.std.proofs.lemmas.List.{drop_all, length-take}
 use borrow.Author.Tests.{eq-eqb, le-ltb, ltb-true, ltb-false, not-true, not-false, eqb-true}
 use Rattle.layout.proofs.Cases.{true-and}
 use Rattle.criteria.specs.Tests.{any, more, one, count, mem, place}
 use Rattle.criteria.specs.Check.{not_its_set, against}
 use Rattle.criteria.proofs.Lists.{by-test, clash, and-true, true-or-right, same_test, any_none, any_at, any_some, at_head, mem-get_or, Once, once-tail, once-head, count-out, place_in}
 use Rattle.criteria.proofs.Loops.{mem-take-suc}
-use Rattle.orders.specs.Rows.{in_row, in_rows}
+use Rattle.orders.specs.Rows.{in_row, in_rows, EventViews, view_at}
 use Rattle.orders.proofs.BitLaws.{any_same}
 use Rattle.orders.proofs.RowLaws.{both}
 
@@ -133,59 +134,55 @@ pub walk_end : (rows : List ℕ) (all : List ℕ) (later : ℕ) → Walk rows al
 unfolding against
 walk_end rows all later w = w.decides
 
--- ---- a view in an array: its first n entries
-module _ (view : List ℕ) (n i : ℕ) (l : i < n) (fits : n ≤ length view) where
-  next : slice i n view ≡ get_or view i 0 ∷ slice (i + 1) n view
-  next = slice-cons i n view 0 l fits ∙ rw add-one refl
+-- ---- a view as far as a loop has come: its first i entries, the entry x at i, and the others
+module _ (view : List ℕ) (i : ℕ) (l : i < length view) (x : ℕ) (q : x ≡ get_or view i 0) where
+  next : drop i view ≡ x ∷ drop (i + 1) view
+  next = rw (q, add-one) (drop-cons view i 0 l)
 
-  pub set-turn-stops : (row : ℕ) → get_or view i 0 < 64 → in_row row (get_or view i 0) ≡ false → not_its_set 64 (in_row row) (slice i n view) ≡ true
-  set-turn-stops row h f = ap (not_its_set 64 (in_row row)) next ∙ set-stops row (get_or view i 0) (slice (i + 1) n view) h f
+  pub set-turn-stops : (row : ℕ) → x < 64 → in_row row x ≡ false → not_its_set 64 (in_row row) (drop i view) ≡ true
+  set-turn-stops row h f = ap (not_its_set 64 (in_row row)) next ∙ set-stops row x (drop (i + 1) view) h f
 
-  pub set-turn-on : (row row' : ℕ) → in_row row (get_or view i 0) ≡ true → Less row (get_or view i 0) row'
-      → not_its_set 64 (in_row row) (slice i n view) ≡ not_its_set 64 (in_row row') (slice (i + 1) n view)
-  set-turn-on row row' t less = ap (not_its_set 64 (in_row row)) next ∙ set_on row row' (get_or view i 0) (slice (i + 1) n view) t less
+  pub set-turn-on : (row row' : ℕ) → in_row row x ≡ true → Less row x row'
+      → not_its_set 64 (in_row row) (drop i view) ≡ not_its_set 64 (in_row row') (drop (i + 1) view)
+  set-turn-on row row' t less = ap (not_its_set 64 (in_row row)) next ∙ set_on row row' x (drop (i + 1) view) t less
 
-  pub walk-turn-stops : (rows : List ℕ) (all : List ℕ) (later : ℕ) → Walk rows all (slice i n view) later
-      → any 64 (both later (get_or rows (get_or view i 0) 0)) ≡ true → against (in_rows rows) all ≡ true
-  walk-turn-stops rows all later w t =
-      walk-stops rows all later (get_or view i 0) (slice (i + 1) n view) (subst (λ (r : List ℕ). Walk rows all r later) next w) t
+  pub walk-turn-stops : (rows : List ℕ) (later : ℕ) → Walk rows view (drop i view) later
+      → any 64 (both later (get_or rows x 0)) ≡ true → against (in_rows rows) view ≡ true
+  walk-turn-stops rows later w t =
+      walk-stops rows view later x (drop (i + 1) view) (subst (λ (r : List ℕ). Walk rows view r later) next w) t
 
-  pub walk-turn-on : (rows : List ℕ) (all : List ℕ) (later : ℕ) → Walk rows all (slice i n view) later
-      → any 64 (both later (get_or rows (get_or view i 0) 0)) ≡ false → (later' : ℕ) → Less later (get_or view i 0) later'
-      → Walk rows all (slice (i + 1) n view) later'
-  walk-turn-on rows all later w f later' less =
-      walk-on rows all later (get_or view i 0) (slice (i + 1) n view) (subst (λ (r : List ℕ). Walk rows all r later) next w) f later' less
+  pub walk-turn-on : (rows : List ℕ) (later : ℕ) → Walk rows view (drop i view) later
+      → any 64 (both later (get_or rows x 0)) ≡ false → (later' : ℕ) → Less later x later'
+      → Walk rows view (drop (i + 1) view) later'
+  walk-turn-on rows later w f later' less =
+      walk-on rows view later x (drop (i + 1) view) (subst (λ (r : List ℕ). Walk rows view r later) next w) f later' less
 
   -- one entry more is marked
-  pub mark-turn : (row row' : ℕ) → More row (get_or view i 0) row' → ((e : ℕ) → in_row row e ≡ mem e (take i view))
+  pub mark-turn : (row row' : ℕ) → More row x row' → ((e : ℕ) → in_row row e ≡ mem e (take i view))
       → (e : ℕ) → in_row row' e ≡ mem e (take (i + 1) view)
   mark-turn row row' more_of m e =
       more_of e
-      ∙ ap (λ (b : Bool). b || eqb e (get_or view i 0)) (m e)
-      ∙ sym (mem-take-suc e view i (omega arith))
-      ∙ rw add-one refl
+      ∙ ap (λ (b : Bool). b || eqb e x) (m e)
+      ∙ rw (q, add-one) (sym (mem-take-suc e view i l))
 
-pub set-over : (row : ℕ) (view : List ℕ) (n i : ℕ) → i ≤ n → n ≤ i → not_its_set 64 (in_row row) (slice i n view) ≡ any 64 (in_row row)
-set-over row view n i a b = let q : i ≡ n = omega arith in ap (not_its_set 64 (in_row row)) (ap (λ (k : ℕ). slice k n view) q ∙ slice_empty n view) ∙ set-end row
+pub set-over : (row : ℕ) (view : List ℕ) (i : ℕ) → length view ≤ i → not_its_set 64 (in_row row) (drop i view) ≡ any 64 (in_row row)
+set-over row view i h = ap (not_its_set 64 (in_row row)) (drop_all i view h) ∙ set-end row
 
-pub walk-over : (rows : List ℕ) (all : List ℕ) (later : ℕ) (view : List ℕ) (n i : ℕ) → i ≤ n → n ≤ i
-    → Walk rows all (slice i n view) later → against (in_rows rows) all ≡ false
-walk-over rows all later view n i a b w =
-    let q : i ≡ n = omega arith in
-    walk_end rows all later (subst (λ (r : List ℕ). Walk rows all r later) (ap (λ (k : ℕ). slice k n view) q ∙ slice_empty n view) w)
+pub walk-over : (rows : List ℕ) (later : ℕ) (view : List ℕ) (i : ℕ) → length view ≤ i
+    → Walk rows view (drop i view) later → against (in_rows rows) view ≡ false
+walk-over rows later view i h w =
+    walk_end rows view later (subst (λ (r : List ℕ). Walk rows view r later) (drop_all i view h) w)
 
--- the entries of a view whose first n entries are below 64
-pub entries-inside : (view : List ℕ) (n : ℕ) → n ≤ length view → ((k : ℕ) → k < n → get_or view k 0 < 64) → (e : ℕ) → mem e (take n view) ≡ true → e < 64
-entries-inside view n fits h e m =
-    let p = place_in e (take n view) m in
-    let len = length-take-le n view fits in
-    let g : get_or view (place e (take n view)) 0 ≡ e = sym (get_or-take n view (place e (take n view)) 0 (omega arith)) ∙ p.1 in
-    let b = h (place e (take n view)) (omega arith) in
-    omega arith
+-- the entries of a view, all below 64
+pub entries-inside : (view : List ℕ) → ((k : ℕ) → k < length view → get_or view k 0 < 64) → (e : ℕ) → mem e view ≡ true → e < 64
+entries-inside view h e m =
+    let p = place_in e view m in
+    let b = h (place e view) (omega arith) in
+    omega (arith, p.1)
 
-pub walk_start : (rows : List ℕ) (view : List ℕ) (n : ℕ) (later : ℕ) → n ≤ length view → ((k : ℕ) → k < n → get_or view k 0 < 64)
-    → Once (take n view) → ((e : ℕ) → in_row later e ≡ mem e (take n view)) → Walk rows (take n view) (take n view) later
-walk_start rows view n later fits h o m = record { decides = refl; marked = m; once = o; inside = entries-inside view n fits h }
+pub walk_start : (rows : List ℕ) (view : List ℕ) (later : ℕ) → ((k : ℕ) → k < length view → get_or view k 0 < 64)
+    → Once view → ((e : ℕ) → in_row later e ≡ mem e view) → Walk rows view view later
+walk_start rows view later h o m = record { decides = refl; marked = m; once = o; inside = entries-inside view h }
 
 -- a view that is its set has no entry twice
 pub once-of-set : (P : ℕ → Bool) (v : List ℕ) → ((e : ℕ) → mem e v ≡ true → e < 64) → not_its_set 64 P v ≡ false → Once v
@@ -198,3 +195,21 @@ once-of-set P v inside f e =
     go : (b : Bool) → count e v ≡ one b → count e v ≤ 1
     go true q = omega arith
     go false q = omega arith
+
+-- the view of number k of some views of events
+pub view-few : (views : List (List ℕ)) (lengths : List ℕ) (m n : ℕ) → EventViews views lengths m n → (k : ℕ) → k < m → length (view_at views lengths k) ≤ 64
+view-few views lengths m n e k l =
+    let few = e.few k l in
+    omega (arith, length-take (get_or lengths k 0) (get_or views k []))
+
+pub view-inside : (views : List (List ℕ)) (lengths : List ℕ) (m n : ℕ) → EventViews views lengths m n → (k : ℕ) → k < m
+    → (i : ℕ) → i < length (view_at views lengths k) → get_or (view_at views lengths k) i 0 < n
+view-inside views lengths m n e k l i h =
+    let below : i < get_or lengths k 0 = omega (arith, length-take (get_or lengths k 0) (get_or views k [])) in
+    rw (get_or-take (get_or lengths k 0) (get_or views k []) i 0 below) (e.entries k l i below)
+
+-- the same of a list v that is that view
+pub small-view : {views : List (List ℕ)} {lengths : List ℕ} {m k : ℕ} {v : List ℕ} → EventViews views lengths m 64 → k < m → v ≡ view_at views lengths k
+    → (length v ≤ 64) × ((i : ℕ) → i < length v → get_or v i 0 < 64)
+small-view {views} {lengths} {m} {k} {v} e l q =
+    rw q (view-few views lengths m 64 e k l, view-inside views lengths m 64 e k l)

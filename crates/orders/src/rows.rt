@@ -13,12 +13,7 @@ pub fn in_own_past(rows: &[u64; 64], n: usize) -> Option<usize>
     ensures found { option_in result ≡ lowest n (λ e. found_if (in_rows rows.now e e) e) }
     ensures below { IfSome result (λ e. e < n) }
 {
-    for e in 0..n {
-        if in_row(rows[e], e) {
-            return Some(e);
-        }
-    }
-    None
+    (0..n).find(|&e| in_row(rows[e], e))
 }
 
 // 11: the lowest e below n whose row of `must` is not inside its row.
@@ -27,12 +22,7 @@ pub fn lacks_own(rows: &[u64; 64], must: &[u64; 64], n: usize) -> Option<usize>
     ensures found { option_in result ≡ lowest n (λ e. found_if (any 64 (λ f. in_rows must.now f e && not (in_rows rows.now f e))) e) }
     ensures below { IfSome result (λ e. e < n) }
 {
-    for e in 0..n {
-        if escapes(must[e], rows[e]) {
-            return Some(e);
-        }
-    }
-    None
+    (0..n).find(|&e| escapes(must[e], rows[e]))
 }
 
 // 13, at e: whether some f is before e, and some g before f and not before e.
@@ -40,12 +30,7 @@ pub fn lacks_past(rows: &[u64; 64], e: usize) -> bool
     requires { e < 64 }
     ensures { result ≡ lacks_past 64 (in_rows rows.now) e }
 {
-    for f in 0..64 {
-        if in_row(rows[e], f) && escapes(rows[f], rows[e]) {
-            return true;
-        }
-    }
-    false
+    (0..64).any(|f| in_row(rows[e], f) && escapes(rows[f], rows[e]))
 }
 
 // 13: the lowest such e below n.
@@ -54,10 +39,5 @@ pub fn not_transitive(rows: &[u64; 64], n: usize) -> Option<usize>
     ensures found { option_in result ≡ lowest n (λ e. found_if (lacks_past 64 (in_rows rows.now) e) e) }
     ensures below { IfSome result (λ e. e < n) }
 {
-    for e in 0..n {
-        if lacks_past(rows, e) {
-            return Some(e);
-        }
-    }
-    None
+    (0..n).find(|&e| lacks_past(rows, e))
 }

@@ -6,7 +6,7 @@ ghost use Rattle.criteria.specs.Check.{not_its_set, against, outside_past};
 ghost use Rattle.orders.specs.Rows.{in_row, in_rows, EventViews, view_at};
 
 use crate::sets::with_event;
-use crate::views::{against_order, not_its_set, outside_past};
+use crate::views::{against_order, not_its_set, outside_past, view_at};
 
 // The row of the first n events.
 fn all_row(n: usize) -> u64
@@ -27,12 +27,7 @@ pub fn first_not_all(views: &[[u8; 64]; 64], lengths: [u8; 64], m: usize, n: usi
     ensures below { IfSome result (λ k. k < m) }
 {
     let all = all_row(n);
-    for k in 0..m {
-        if not_its_set(&views[k][..usize::from(lengths[k])], all) {
-            return Some(k);
-        }
-    }
-    None
+    (0..m).find(|&k| not_its_set(view_at(views, &lengths, k), all))
 }
 
 // 14: the lowest of the first m views that is not the past of its event and that event, each once.
@@ -46,13 +41,7 @@ pub fn first_not_past(
     ensures found { option_in result ≡ lowest m (λ k. found_if (not_its_set 64 (λ f. in_rows rows.now f k || eqb f k) (view_at views.now lengths k)) k) }
     ensures below { IfSome result (λ k. k < m) }
 {
-    for k in 0..m {
-        let past = with_event(rows[k], k);
-        if not_its_set(&views[k][..usize::from(lengths[k])], past) {
-            return Some(k);
-        }
-    }
-    None
+    (0..m).find(|&k| not_its_set(view_at(views, &lengths, k), with_event(rows[k], k)))
 }
 
 // 15: the lowest of the first m views, none with an entry twice, that is against the order.
@@ -66,12 +55,7 @@ pub fn first_against(
     ensures found { option_in result ≡ lowest m (λ k. found_if (against (in_rows rows.now) (view_at views.now lengths k)) k) }
     ensures below { IfSome result (λ k. k < m) }
 {
-    for k in 0..m {
-        if against_order(&views[k][..usize::from(lengths[k])], rows) {
-            return Some(k);
-        }
-    }
-    None
+    (0..m).find(|&k| against_order(view_at(views, &lengths, k), rows))
 }
 
 // 20: the lowest of the first m views in which an event outside the past stands before an own event. The own events of a view are
@@ -88,10 +72,5 @@ pub fn first_outside(
     ensures found { option_in result ≡ lowest m (λ k. found_if (outside_past (in_rows rows.now) (λ e. eqb (get_or processes e 0) (get_or numbers k 0)) (view_at views.now lengths k)) k) }
     ensures below { IfSome result (λ k. k < m) }
 {
-    for k in 0..m {
-        if outside_past(&views[k][..usize::from(lengths[k])], rows, &processes, numbers[k]) {
-            return Some(k);
-        }
-    }
-    None
+    (0..m).find(|&k| outside_past(view_at(views, &lengths, k), rows, &processes, numbers[k]))
 }

@@ -3,10 +3,19 @@ ghost use Rattle.std.specs.Prelude.{◌≡◌, ℕ, ◌≤◌, ◌<◌, length, 
 ghost use Rattle.certificate.specs.Record.{entries_in};
 ghost use Rattle.criteria.specs.Tests.{keep, count, mem};
 ghost use Rattle.criteria.specs.Check.{not_its_set, against, outside_past};
-ghost use Rattle.orders.specs.Rows.{in_row, in_rows};
+ghost use Rattle.orders.specs.Rows.{in_row, in_rows, view_at};
 
 use crate::sets::{escapes, holds_some, in_row, meets, with_event, without_event};
 use certificate::record::EventList;
+
+// The view of number k, cut to its length.
+pub fn view_at<'a>(views: &'a [[u8; 64]; 64], lengths: &[u8; 64], k: usize) -> &'a [u8]
+    requires { (k < 64) × (get_or lengths.now k 0 ≤ 64) }
+    ensures { result.now ≡ view_at views.now lengths.now k }
+{
+    let view = &views[k];
+    &view[..usize::from(lengths[k])]
+}
 
 // The row of the entries of a view.
 pub fn marks(view: &[u8]) -> u64

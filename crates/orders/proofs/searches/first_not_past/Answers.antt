@@ -1,0 +1,17 @@
+-- The lowest view that is not the past of its event, and that event. Assumes nothing.
+use Rattle.std.proofs.Common.{◌≡◌, ◌∙◌, ℕ, Bool, ◌||◌, eqb, get_or, rules}
+use Rattle.std.proofs.lemmas.Iterator.{serves_from_Range}
+use Rattle.criteria.specs.Check.{not_its_set}
+use Rattle.orders.specs.Rows.{in_row, in_rows, view_at}
+use Rattle.orders.proofs.FindLaws.{lowest-from_find}
+use Rattle.orders.proofs.SearchLaws.{not_past, set_same}
+use Rattle.orders.proofs.ViewLaws.{small-view}
+use Rattle.orders.proofs.searches.first_not_past.Goals as goal
+
+pub find-requires-clause-callable : goal.find-requires-clause-callable
+find-requires-clause-callable c = serves_from_Range (λ x q k. search rules) (λ x low high. search (rules, small-view))
+
+pub returns-clause-found : goal.returns-clause-found
+returns-clause-found c =
+    lowest-from_find (not_past c.args.views.now c.args.lengths c.args.rows.now) c.args.m _ _ _ c.find.ensures.ran
+    (λ x b q k. search (rules, set_same))
