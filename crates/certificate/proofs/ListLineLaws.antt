@@ -3,14 +3,16 @@ use Prim.Native.Nat.{ℕ, zero, suc, ◌+◌, ◌≤◌, ◌<◌}
 use native.Mathlib.Numerals.{add-one}
 use native.Mathlib.Omega.{arith}
 use mathlib.Core.Path.{◌≡◌, refl, sym, ap, ◌∙◌}
-use mathlib.Core.Bool.{Bool, true, false, cond, not, ◌||◌, or-true, and-false}
+use mathlib.Core.Bool.{Bool, true, false, cond, not, ◌||◌, and-false, false≢true}
 use mathlib.Core.List.{List, [], ◌∷◌}
 use lib.ListN.{length, get_or, take}
-use lib.Seq.{get_or-take}
 use lib.Dec.{ltb}
 use borrow.Author.Tests.{ne_eqb, lt-ltb, le-ltb, le-leb, ltb-true, ltb-false}
 use Rattle.core.specs.declared.result.Result.TheVariants.{Ok, Err}
+use Rattle.core.specs.Option.{MatchOption, is_some}
 use Rattle.core.specs.List.{IsAllAdjacentAnswer}
+use Rattle.core.specs.declared.option.Option.{Option}
+use Rattle.core.specs.declared.option.Option.TheVariants.{Some, None}
 use Rattle.layout.specs.declared.list.ListFault.TheVariants.{NotList, Over, Many}
 use Rattle.layout.specs.Split.{split}
 use Rattle.layout.specs.Word.{same}
@@ -18,7 +20,7 @@ use Rattle.layout.specs.Number.{spell}
 use Rattle.layout.specs.Fill.{fill}
 use Rattle.layout.specs.List.{items_of, list_of, numbers_of, leading}
 use Rattle.layout.proofs.SplitLaws.{split-some}
-use Rattle.layout.proofs.ListLaws.{is-list, list-not, list_over, list-many, numbers-below, numbers-kept}
+use Rattle.layout.proofs.ListLaws.{is-list, list-not, list_over, list-many, numbers-count, numbers-below, numbers-kept}
 use Rattle.certificate.specs.Record.{no_list, event_list_of}
 use Rattle.certificate.specs.Faults.{rising, list_layout, list_limits, pair_fault, list_fault, list_said}
 use Rattle.certificate.specs.Steps.Lists.{list_with, pair_read, list_read}
@@ -55,53 +57,55 @@ module _ (past : Bool) (count own : ℕ) (a s : List ℕ) where
   unfolding pair_read pair_fault list_layout
   pair-number e = rw e
 
-  module _ (e : same a (spell own) ≡ true) where
-    pub pair-not : list_of count count s ≡ Err NotList → record { fault = 2; list = no_list } ≡ pair_read past count own a s
+  -- the list is read into `count` places
+  module _ (e : same a (spell own) ≡ true) (ps : List ℕ) (long : length ps ≡ count) where
+    pub pair-not : list_of count (length ps) s ≡ Err NotList → record { fault = 2; list = no_list } ≡ pair_read past count own a s
     unfolding pair_read pair_fault list_layout
-    pair-not q = rw (e, list-not count count s q)
+    pair-not q = rw (e, list-not count (length ps) s q)
 
-    pub pair-over : list_of count count s ≡ Err Over → record { fault = 3; list = no_list } ≡ pair_read past count own a s
+    pub pair-over : list_of count (length ps) s ≡ Err Over → record { fault = 3; list = no_list } ≡ pair_read past count own a s
     unfolding pair_read pair_fault list_layout list_limits
-    pair-over q = let t = list_over count count s q in rw (e, t.0, t.1)
+    pair-over q = let t = list_over count (length ps) s q in rw (e, t.0, t.1)
 
-    pub pair-many : list_of count count s ≡ Err Many → record { fault = 3; list = no_list } ≡ pair_read past count own a s
+    pub pair-many : list_of count (length ps) s ≡ Err Many → record { fault = 3; list = no_list } ≡ pair_read past count own a s
     unfolding pair_read pair_fault list_layout list_limits
-    pair-many q = let t = list-many count count s q in rw (e, t.0, t.1, t.2)
+    pair-many q = let t = list-many count (length ps) s q in rw (e, t.0, t.1, rw long at t.2)
 
-    module _ (n : ℕ) (q : list_of count count s ≡ Ok n) (xs ys : List ℕ) (k : xs ≡ fill (leading count count (items_of s)) ys) where
+    module _ (n : ℕ) (q : list_of count (length ps) s ≡ Ok n) (xs : List ℕ) (k : xs ≡ fill (leading count (length ps) (items_of s)) ps) where
       pair-listed : list_with (cond (not past || rising (take n xs)) 0 6) (take n xs) ≡ pair_read past count own a s
       unfolding pair_read pair_fault list_layout list_limits
       pair-listed =
-          let l = is-list count count n s q in
+          let l = is-list count (length ps) n s q in
           let m : length (items_of s) ≤ count = omega (arith, l.count, l.few) in
-          rw (e, l.numbers, l.small, le-leb (length (items_of s)) count m, numbers-kept l xs ys k)
+          rw (e, l.numbers, l.small, le-leb (length (items_of s)) count m, numbers-kept l xs ps k)
 
-      pub pair-past : rising (take n xs) ≡ true → record { fault = 0; list = event_list_of (take n xs) } ≡ pair_read past count own a s
-      pair-past r =
+      pub pair-good : not past || rising (take n xs) ≡ true → record { fault = 0; list = event_list_of (take n xs) } ≡ pair_read past count own a s
+      pair-good r =
           let e : list_with (cond (not past || rising (take n xs)) 0 6) (take n xs) ≡ record { fault = 0; list = event_list_of (take n xs) } =
-          rw (r, or-true (not past)) in sym e ∙ pair-listed
+          rw r in sym e ∙ pair-listed
 
       pub pair-falls : past ≡ true → rising (take n xs) ≡ false → record { fault = 6; list = no_list } ≡ pair_read past count own a s
       pair-falls p r =
           let e : list_with (cond (not past || rising (take n xs)) 0 6) (take n xs) ≡ record { fault = 6; list = no_list } =
           rw (p, r) in sym e ∙ pair-listed
 
-      pub pair-view : past ≡ false → record { fault = 0; list = event_list_of (take n xs) } ≡ pair_read past count own a s
-      pair-view p =
-          let e : list_with (cond (not past || rising (take n xs)) 0 6) (take n xs) ≡ record { fault = 0; list = event_list_of (take n xs) } =
-          rw p in sym e ∙ pair-listed
-
 -- what the reader keeps of a list is at most 64 numbers, each below 64
-pub kept-fits : (count n : ℕ) (s xs ys : List ℕ) → count ≤ 64 → list_of count count s ≡ Ok n → xs ≡ fill (leading count count (items_of s)) ys
-    → (n ≤ 64) × ((i : ℕ) → i < n → get_or xs i 0 < 64)
-kept-fits count n s xs ys room q k =
-    let l = is-list count count n s q in (
-      omega (arith, l.few),
-      λ i h.
-          let t : get_or xs i 0 ≡ get_or (numbers_of s) i 0 =
-          sym (get_or-take n xs i 0 h) ∙ ap (λ (r : List ℕ). get_or r i 0) (numbers-kept l xs ys k) in
-          omega (arith, numbers-below l i h),
-    )
+module _ (count n : ℕ) (s xs ps : List ℕ) (room : count ≤ 64) (long : length ps ≡ count) (q : list_of count (length ps) s ≡ Ok n)
+    (k : xs ≡ fill (leading count (length ps) (items_of s)) ps) where
+  said : take n xs ≡ numbers_of s
+  said = numbers-kept (is-list count (length ps) n s q) xs ps k
+
+  pub kept-count : length (take n xs) ≡ n
+  kept-count = ap length said ∙ numbers-count (is-list count (length ps) n s q)
+
+  pub kept-fits : (length (take n xs) ≤ 64) × ((i : ℕ) → i < length (take n xs) → get_or (take n xs) i 0 < 64)
+  kept-fits =
+      let l = is-list count (length ps) n s q in (
+        omega (arith, l.few, kept-count),
+        λ i h.
+            let t : get_or (take n xs) i 0 ≡ get_or (numbers_of s) i 0 = ap (λ (r : List ℕ). get_or r i 0) said in
+            omega (arith, t, numbers-below l i (omega (arith, kept-count))),
+      )
 
 -- ---- the line, by its first field and what is behind it
 module _ (past : Bool) (count own : ℕ) (line : List ℕ) where
@@ -110,10 +114,19 @@ module _ (past : Bool) (count own : ℕ) (line : List ℕ) where
   list-whole cut = rw cut
 
   module _ (a s : List ℕ) (cut : split 32 line ≡ a ∷ split 32 s) where
-    pub list_more : (f : List ℕ) (rest : List ℕ) → split 32 s ≡ f ∷ split 32 rest → record { fault = 2; list = no_list } ≡ list_read past count own line
+    pub list_more : (f rest : List ℕ) → split 32 s ≡ f ∷ split 32 rest → record { fault = 2; list = no_list } ≡ list_read past count own line
     unfolding list_read list_fault
     list_more f rest q = rw (cut, q, ne_eqb (suc (suc (length (split 32 rest)))) 2 (λ z. omega (arith, split-some 32 rest)))
 
     pub list-pair : split 32 s ≡ s ∷ [] → pair_read past count own a s ≡ list_read past count own line
     unfolding list_read list_fault list_said pair_read
     list-pair q = rw (cut, q)
+
+-- what `is_some` tells of an answer
+pub some-tells : {A : Type 0} (P : Type 0) (Q : A → Type 0) (o : Option A) → MatchOption o P Q → true ≡ is_some o → (x : A) × Q x
+some-tells P Q None m e = absurd (false≢true (sym e))
+some-tells P Q (Some x) m e = (x, m)
+
+pub none-tells : {A : Type 0} (P : Type 0) (Q : A → Type 0) (o : Option A) → MatchOption o P Q → false ≡ is_some o → P
+none-tells P Q None m e = m
+none-tells P Q (Some x) m e = absurd (false≢true e)

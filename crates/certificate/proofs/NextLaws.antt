@@ -9,39 +9,35 @@ use lib.Seq.{take_at}
 use lib.Dec.{leb, ltb}
 use borrow.Author.Tests.{lt-ltb, le-ltb, leb-true}
 use Rattle.layout.specs.Split.{find}
-use Rattle.layout.specs.Number.{is_digit, spell}
+use Rattle.layout.specs.Number.{spell}
 use Rattle.layout.specs.List.{list_text}
 use Rattle.layout.specs.Steps.Stands.{Stands}
 use Rattle.layout.proofs.Cases.{by-lt, and_left, and_right}
 use Rattle.layout.proofs.SplitLaws.{find-append, find-le}
-use Rattle.layout.proofs.NumberLaws.{digit-from, digit-to}
 use Rattle.layout.proofs.SpellLaws.{spell-low, spell_high}
 use Rattle.layout.proofs.StandsLaws.{byte-stands, stands-then, stands-end}
 use Rattle.history.specs.Record.{pad}
 use Rattle.history.specs.Readable.{all_less}
 use Rattle.history.proofs.ListingLaws.{Listing, listing_begins, more_numbers, more-small, listing-more, listing-filled, listing-count, listing-ends}
-use Rattle.certificate.specs.declared.next.NextList.{NextList}
+use Rattle.layout.specs.declared.at.At.{At}
+use Rattle.certificate.specs.declared.record.EventList.{EventList}
+use Rattle.certificate.specs.declared.next.NextList as code
 use Rattle.certificate.specs.Record.{no_list, event_list_of}
 use Rattle.certificate.specs.Faults.{rising}
 use Rattle.certificate.specs.CertificateText.{list_line}
 use Rattle.certificate.specs.Steps.Lists.{list_read}
-use Rattle.certificate.specs.Steps.Next.{ending_at, next_read, Good, ListFrom}
+use Rattle.certificate.specs.Steps.Next.{NextList, ending_at, next_list_of, next_read, Good, ListFrom}
 use Rattle.certificate.proofs.LineTextLaws.{line-without, good-fault, line-said}
 
 -- ---- a number of one digit or of two at a place
-module _ (s : List ℕ) (a : ℕ) (h : a + 1 < length s) (first : is_digit (get_or s a 0) ≡ true) where
+module _ (s : List ℕ) (a : ℕ) (h : a + 1 < length s) (p : 48 ≤ get_or s a 0) (q : get_or s a 0 ≤ 57) where
   pub entry-one : Stands (spell (get_or s a 0 - 48)) a (a + 1) s
   entry-one =
-      rw (spell-low (get_or s a 0 - 48) [] (omega (arith, digit-to _ first)))
-      (byte-stands s a _ (omega arith) (omega (arith, digit-from _ first)))
+      rw (spell-low (get_or s a 0 - 48) [] (omega arith)) (byte-stands s a _ (omega arith) (omega arith))
 
-  pub entry-two : is_digit (get_or s (a + 1) 0) ≡ true → (get_or s a 0 ≡ 48 → ⊥)
+  pub entry-two : 48 ≤ get_or s (a + 1) 0 → get_or s (a + 1) 0 ≤ 57 → (get_or s a 0 ≡ 48 → ⊥)
       → Stands (spell ((get_or s a 0 - 48) * 10 + (get_or s (a + 1) 0 - 48))) a (a + 2) s
-  entry-two second n =
-      let p = digit-from _ first in
-      let q = digit-to _ first in
-      let t = digit-from _ second in
-      let u = digit-to _ second in
+  entry-two t u n =
       let v : ℕ = (get_or s a 0 - 48) * 10 + (get_or s (a + 1) 0 - 48) in
       let m : a + 1 + 1 ≡ a + 2 = omega arith in
       let w : spell v ≡ (48 + v / 10) ∷ (48 + v % 10) ∷ [] =
@@ -90,7 +86,7 @@ module _ {past : Bool} {count from : ℕ} {s events : List ℕ} {k a low : ℕ} 
 
   -- a line feed stands behind it
   pub reading-ends : from ≤ length s → get_or s e 0 ≡ 10
-      → ListFrom past count from (drop from s) (record { fault = 0; end = e; list = record { count = k + 1; events = set events k v } })
+      → ListFrom past count from (drop from s) (record { value = record { count = k + 1; events = set events k v }; end = e })
   unfolding event_list_of
   reading-ends start c =
       let n = listing-count r.listing (omega arith) v e number is-event in
@@ -109,14 +105,14 @@ module _ {past : Bool} {count from : ℕ} {s events : List ℕ} {k a low : ℕ} 
       }
 
 -- ---- the empty list
-pub empty-list : (past : Bool) (count from : ℕ) (s : List ℕ) → from + 1 < length s → get_or s from 0 ≡ 45 → get_or s (from + 1) 0 ≡ 10
-    → ListFrom past count from (drop from s) (record { fault = 0; end = from + 1; list = no_list })
+pub empty-list : (past : Bool) (count from : ℕ) (s : List ℕ) → Stands (45 ∷ 10 ∷ []) from (from + 2) s
+    → ListFrom past count from (drop from s) (record { value = no_list; end = from + 1 })
 unfolding all_less rising event_list_of pad list_text
-empty-list past count from s h d c = record {
+empty-list past count from s p = record {
   entries = [];
-  rest = drop (from + 1 + 1) s;
+  rest = drop (from + 2) s;
   good = record { few = omega arith; small = refl; order = or-true (not past) };
-  spelt = (stands-then (byte-stands s from 45 (omega arith) d) (byte-stands s (from + 1) 10 h c)).whole;
+  spelt = p.whole;
   told = refl;
 }
 
@@ -137,14 +133,15 @@ good-next past count own from xs rest g =
 
 -- its own number and a space go from `from` to a, and its list begins there
 pub line-quick : (past : Bool) (count own from : ℕ) (s : List ℕ) (a : ℕ) → from ≤ length s → Stands (spell own ++ 32 ∷ []) from a s
-    → (r : NextList) → ListFrom past count a (drop a s) r → r ≡ next_read past count own from (drop from s)
+    → (r : At EventList) → ListFrom past count a (drop a s) r
+    → ◌≡◌ {A = NextList} (record { fault = 0; end = r.end; list = r.value }) (next_read past count own from (drop from s))
 unfolding list_line
 line-quick past count own from s a start number r l =
     let xs : List ℕ = l.entries in
     let d : drop from s ≡ list_line own xs ++ 10 ∷ l.rest = number.whole ∙ rw (l.spelt, append_assoc, append_assoc) in
     let z : a + length (list_text xs) ≡ from + length (list_line own xs) =
     omega (arith, stands-end start number, length-append (spell own) (32 ∷ []), length-append (spell own) (32 ∷ list_text xs)) in
-    l.told
+    ap (λ (t : At EventList). record { fault = 0; end = t.end; list = t.value }) l.told
     ∙ ap (λ (e : ℕ). record { fault = 0; end = e; list = event_list_of xs }) z
     ∙ sym (ap (next_read past count own from) d ∙ good-next past count own from xs l.rest l.good)
 
@@ -164,8 +161,9 @@ module _ (past : Bool) (count own : ℕ) (s : List ℕ) (from e : ℕ) (found : 
       rw (lt-ltb (find 10 (drop from s)) (length (drop from s)) (omega (arith, length-drop from s)), k, m)
 
 -- where it ends
-pub next_place : (past : Bool) (count own : ℕ) (s : List ℕ) (from : ℕ) → from ≤ length s → (r : NextList) → r ≡ next_read past count own from (drop from s)
-    → (r ≡ next_read past count own from (drop from s)) × (r.end ≡ from + find 10 (drop from s)) × (from ≤ r.end) × (r.end ≤ length s)
+pub next_place : (past : Bool) (count own : ℕ) (s : List ℕ) (from : ℕ) → from ≤ length s → (r : code.NextList)
+    → next_list_of r ≡ next_read past count own from (drop from s)
+    → (next_list_of r ≡ next_read past count own from (drop from s)) × (r.end ≡ from + find 10 (drop from s)) × (from ≤ r.end) × (r.end ≤ length s)
 next_place past count own s from start r q =
     let e : ℕ = from + find 10 (drop from s) in
     let k : r.end ≡ e =

@@ -60,7 +60,8 @@ fn read_pair(
     let n = match read_list(list, count as u64, places) {
         Ok(n) => n,
         Err(ListFault::NotList) => return Err(Fault::Layout),
-        Err(ListFault::Over | ListFault::Many) => return Err(Fault::Limits),
+        Err(ListFault::Over) => return Err(Fault::Limits),
+        Err(ListFault::Many) => return Err(Fault::Limits),
     };
     let listed = &places[..n];
     if past && !is_rising(listed) {
