@@ -13,8 +13,8 @@ abbrev pub invariant-loop-start : goal.invariant-loop-start
 invariant-loop-start l = record {
   to : l.start ≤ length l.text;
   filled : Filled 64 no_event l.events l.count;
-  says : events_from (take l.read.declared l.read.objects) [] (l.read.declared + 3) l.read.end (split 10 (drop l.read.end l.text))
-      ≡ events_from (take l.read.declared l.read.objects) (take l.count l.events) (l.read.declared + l.count + 3) l.start (split 10 (drop l.start l.text));
+  says : events_from (take l.fn.read.declared l.fn.read.objects) [] (l.fn.read.declared + 3) l.fn.read.end (split 10 (drop l.fn.read.end l.text))
+      ≡ events_from (take l.fn.read.declared l.fn.read.objects) (take l.count l.events) (l.fn.read.declared + l.count + 3) l.start (split 10 (drop l.start l.text));
 }
 
 abbrev pub decreases-loop-start : goal.decreases-loop-start
