@@ -2,12 +2,14 @@
 use Prim.Native.Nat.{ℕ, ◌+◌, ◌-◌, ◌≤◌, ◌<◌}
 use native.Mathlib.Nat.{not-suc-le-zero}
 use native.Mathlib.Omega.{arith}
-use mathlib.Core.Path.{◌≡◌, refl, sym, ap, ◌∙◌}
+use mathlib.Core.Path.{◌≡◌, refl, sym, ap, subst, ◌∙◌}
 use mathlib.Core.Bool.{true, false, cond}
 use mathlib.Core.List.{List, [], ◌∷◌, ◌++◌}
 use lib.ListN.{length, take, drop, drop_of_length-le}
 use lib.Dec.{eqb, ltb}
 use borrow.Author.Tests.{eq-eqb, ne_eqb, eqb-false, ltb-true, le-leb, lt-leb}
+use Rattle.std.specs.Prelude.{Result, Ok, Err, MatchResult}
+use Rattle.core.specs.Result.{IsErrAnd}
 use Rattle.layout.specs.Split.{find, split}
 use Rattle.layout.specs.Word.{same, object_heading, event_heading}
 use Rattle.layout.proofs.Cases.{by-lt, by-eq, and_left}
@@ -18,13 +20,36 @@ use Rattle.history.specs.declared.record.Event.{Event}
 use Rattle.history.specs.declared.record.History.{History}
 use Rattle.history.specs.Record.{pad, no_object, no_event, history_of}
 use Rattle.history.proofs.PadLaws.{Filled, filled-count}
-use Rattle.history.specs.Faults.{ObjectRead, EventRead, object_line, event_line, object_limits, object_fault, object_three, event_fault, event_said, event_six, object_with, event_with}
+use Rattle.history.specs.declared.fault.Fault.{Fault}
+use Rattle.history.specs.declared.fault.Fault.TheVariants.{TooLong, Layout, Limits, Misfit, BadAnswer, NotRising}
+use Rattle.history.specs.Faults.{ObjectRead, EventRead, fault_number, object_read, event_read, object_line, event_line, object_limits, object_fault, object_three, event_fault, event_said, event_six, object_with, event_with}
 use Rattle.history.proofs.FaultLaws.{fault-none}
 use Rattle.history.proofs.ObjectLaws.{three-order, object-three, object-count}
 use Rattle.history.proofs.EventLaws.{limited, event-six, event-count}
 use Rattle.event_reader.specs.Steps.Next.{NextEvent, next_read}
 use Rattle.event_reader.proofs.NextLaws.{next-cut, next-line}
 use Rattle.history_reader.specs.ReadHistory.{refusal, read_as, events_from, objects_from, lines_from, read_history}
+
+-- ---- the result of a reader, with its error mapped
+module _ {X E F : Type 0} where
+  pub kept : (r : Result X E) (m : Result X F) (Q : E → F → Type 0) (x : X) → MatchResult r (λ x. m ≡ Ok x) (λ e. IsErrAnd m (Q e)) → m ≡ Ok x → r ≡ Ok x
+  kept (Ok y) m Q x h w = cc
+  kept (Err e) (Ok z) Q x h w = absurd h
+  kept (Err e) (Err f) Q x h w = cc
+
+  pub failed : (r : Result X E) (m : Result X F) (Q : E → F → Type 0) (y : F) → MatchResult r (λ x. m ≡ Ok x) (λ e. IsErrAnd m (Q e)) → m ≡ Err y
+      → (e : E) × ((r ≡ Err e) × Q e y)
+  failed (Ok x) m Q y h w = absurd (cc)
+  failed (Err e) (Ok z) Q y h w = absurd h
+  failed (Err e) (Err f) Q y h w = let k : f ≡ y = cc in (e, (refl, subst (λ (f : F). Q e f) k h))
+
+pub fault-some : (f : Fault) → fault_number f ≡ 0 → ⊥
+fault-some TooLong z = omega arith
+fault-some Layout z = omega arith
+fault-some Limits z = omega arith
+fault-some Misfit z = omega arith
+fault-some BadAnswer z = omega arith
+fault-some NotRising z = omega arith
 
 -- ---- a line with its line feed: some part follows it
 events-step : (os : List Object) (es : List Event) (line at : ℕ) (p : List ℕ) (l : List (List ℕ)) → 0 < length l
@@ -103,17 +128,19 @@ module _ (line : ℕ) (s : List ℕ) (a e : ℕ) (found : e ≡ a + find 10 (dro
           ∙ objects-step os line a (take (e - a) (drop a s)) (split 10 (drop (e + 1) s)) rest_some
           ∙ rw (next, long)
 
-      pub objects-heading : same (take (e - a) (drop a s)) event_heading ≡ true
-          → objects_from os line a (split 10 (drop a s)) ≡ events_from os [] (line + 1) (e + 1) (split 10 (drop (e + 1) s))
-      objects-heading w = objects-turn ∙ rw w
+      pub objects-heading : (after : ℕ) → line + 1 ≡ after → same (take (e - a) (drop a s)) event_heading ≡ true
+          → objects_from os line a (split 10 (drop a s)) ≡ events_from os [] after (e + 1) (split 10 (drop (e + 1) s))
+      objects-heading after k w = objects-turn ∙ rw (w, k)
 
-      module _ (w : same (take (e - a) (drop a s)) event_heading ≡ false) (x : ObjectRead) (q : x ≡ object_line (length os) (take (e - a) (drop a s))) where
-        pub objects-more : x.fault ≡ 0
-            → objects_from os line a (split 10 (drop a s)) ≡ objects_from (os ++ x.object ∷ []) (line + 1) (e + 1) (split 10 (drop (e + 1) s))
-        objects-more z = objects-turn ∙ rw (w, ← q, eq-eqb x.fault 0 z)
+      -- the line is that of an object
+      module _ (w : same (take (e - a) (drop a s)) event_heading ≡ false) (r : Result Object Fault) (own : ℕ) (many : length os ≡ own)
+          (q : object_read r ≡ object_line own (take (e - a) (drop a s))) where
+        pub objects-more : (o : Object) (after : ℕ) → r ≡ Ok o → line + 1 ≡ after
+            → objects_from os line a (split 10 (drop a s)) ≡ objects_from (os ++ o ∷ []) after (e + 1) (split 10 (drop (e + 1) s))
+        objects-more o after z k = objects-turn ∙ rw (w, many, ← q, z, k)
 
-        pub objects-bad : (x.fault ≡ 0 → ⊥) → objects_from os line a (split 10 (drop a s)) ≡ refusal x.fault line a (e - a)
-        objects-bad z = objects-turn ∙ rw (w, ← q, ne_eqb x.fault 0 z)
+        pub objects-bad : (f : Fault) → r ≡ Err f → objects_from os line a (split 10 (drop a s)) ≡ refusal (fault_number f) line a (e - a)
+        objects-bad f z = objects-turn ∙ rw (w, many, ← q, z, ne_eqb (fault_number f) 0 (fault-some f))
 
 -- ---- the end of the text, after the last event
 pub events-done : (os : List Object) (es : List Event) (line : ℕ) (s : List ℕ) (a : ℕ) → length s ≤ a → events_from os es line a (split 10 (drop a s)) ≡ read_as os es
@@ -154,6 +181,9 @@ object-own own line e =
     by-eq (length (split 32 line)) 3
     (λ h. three-own own _ _ _ (sym (three-fault own _ _ _) ∙ ap (λ (x : ObjectRead). x.fault) (sym (object-three own line (split 32 line) refl h)) ∙ e))
     (λ h. absurd (eqb-false 2 0 refl (ap (λ (x : ObjectRead). x.fault) (sym (object-count own line (split 32 line) refl h)) ∙ e)))
+
+pub object-few : (r : Result Object Fault) (o : Object) (own : ℕ) (line : List ℕ) → object_read r ≡ object_line own line → r ≡ Ok o → own < 16
+object-few r o own line q z = object-own own line (ap (λ (x : ObjectRead). x.fault) (sym q ∙ ap object_read z))
 
 -- ---- the next line is x, of an event
 module _ (own : ℕ) (os : List Object) (s : List ℕ) (a e : ℕ) (found : e ≡ a + find 10 (drop a s)) (from : a ≤ length s)
