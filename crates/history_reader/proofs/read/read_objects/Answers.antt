@@ -4,13 +4,14 @@ use Prim.Native.Nat.{ℕ, ◌<◌, ◌-◌, ◌+◌}
 use mathlib.Core.Path.{◌≡◌, refl, sym, ap, ◌∙◌}
 use mathlib.Core.List.{List}
 use lib.ListN.{length, take, drop, length-drop}
-use Rattle.std.specs.Prelude.{Ok}
+use Rattle.std.specs.Prelude.{Ok, Err}
+use borrow.Author.Rules.{rules}
 use Rattle.std.proofs.lemmas.Result.{err_from_is_err_and}
 use Rattle.layout.specs.Split.{find, split}
 use Rattle.history.specs.declared.record.Object.{Object}
-use Rattle.history.specs.Faults.{object_line}
+use Rattle.history.specs.Faults.{fault_number, object_line}
 use Rattle.history.specs.Record.{no_object}
-use Rattle.history_reader.specs.ReadHistory.{objects_from}
+use Rattle.history_reader.specs.ReadHistory.{refusal, history_read, objects_from}
 use Rattle.history.proofs.PadLaws.{filled_none, filled-count, filled-take, filled_more}
 use Rattle.history_reader.proofs.ReadLaws.{kept, failed, objects-end, objects-heading, objects-more, objects-bad, object-few}
 use Rattle.history_reader.proofs.read.read_objects.Goals as goal
@@ -40,13 +41,13 @@ pub returns-in_err-objects : goal.returns-in_err-objects
 returns-in_err-objects c =
     let p = err_from_is_err_and c.from_residual.result c.from_residual.ensures.1 in
     let f = failed c.read_object.result c.map_err.result _ c.in_err-objects.field-0.0 c.map_err.ensures.cases c.in_err-objects.was in
-    let l = f.2.1 in
-    let k = f.2.1.ensures in
+    let l = f.1.1 in
+    let refused : history_read (Err c.in_err-objects.field-0.0) ≡ refusal (fault_number f.0) (c.loop-end.declared + 2) c.loop-end.start (c.in-Some.end - c.loop-end.start) = search rules in
     rw (p.1, p.2)
     (c.loop-end.invariant.says
     ∙ objects-bad (c.loop-end.declared + 2) c.args.text.now c.loop-end.start c.in-Some.end c.in-Some.ensures.0 c.loop-end.invariant.to (omega (arith, c.in-Some.ensures.2)) _ c.in-Some.ensures.2
     (sym c.is_word.ensures ∙ c.if-is_word.false) c.read_object.result c.loop-end.declared (filled-count c.loop-end.invariant.filled) c.read_object.ensures f.0 f.1.0
-    ∙ ?)
+    ∙ sym refused)
 
 pub bounds-objects-declared : goal.bounds-objects-declared
 bounds-objects-declared c =
