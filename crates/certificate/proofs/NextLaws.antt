@@ -1,13 +1,14 @@
 -- Laws of the next line of a list in a text. Assumes nothing.
 use Prim.Native.Nat.{ℕ, ◌+◌, ◌-◌, ◌*◌, ◌/◌, ◌%◌, ◌≤◌, ◌<◌}
 use native.Mathlib.Omega.{arith}
-use mathlib.Core.Path.{◌≡◌, refl, sym, ap, ◌∙◌}
+use mathlib.Core.Logic.{◌⊎◌, inl, inr}
+use mathlib.Core.Path.{◌≡◌, refl, sym, ap, ◌∙◌, subst}
 use mathlib.Core.Bool.{Bool, true, false, not, ◌||◌, or-true}
 use mathlib.Core.List.{List, [], ◌∷◌, ◌++◌, append_assoc}
 use lib.ListN.{length, get_or, take, drop, set, replicate, length-append, length-drop}
 use lib.Seq.{take_at}
 use lib.Dec.{leb, ltb}
-use borrow.Author.Tests.{lt-ltb, le-ltb, leb-true}
+use borrow.Author.Tests.{lt-ltb, le-ltb, le-leb, leb-true}
 use Rattle.layout.specs.Split.{find}
 use Rattle.layout.specs.Number.{spell}
 use Rattle.layout.specs.List.{list_text}
@@ -19,14 +20,18 @@ use Rattle.layout.proofs.StandsLaws.{byte-stands, stands-then, stands-end}
 use Rattle.history.specs.Record.{pad}
 use Rattle.history.specs.Readable.{all_less}
 use Rattle.history.proofs.ListingLaws.{Listing, listing_begins, more_numbers, more-small, listing-more, listing-filled, listing-count, listing-ends}
+use Rattle.core.specs.Option.{IfSome}
+use Rattle.core.specs.declared.option.Option.{Option}
+use Rattle.core.specs.declared.option.Option.TheVariants.{Some, None}
+use Rattle.core.specs.declared.result.Result.{Result}
 use Rattle.layout.specs.declared.at.At.{At}
+use Rattle.history.specs.declared.fault.Fault.{Fault}
 use Rattle.certificate.specs.declared.record.EventList.{EventList}
-use Rattle.certificate.specs.declared.next.NextList as code
 use Rattle.certificate.specs.Record.{no_list, event_list_of}
 use Rattle.certificate.specs.Faults.{rising}
 use Rattle.certificate.specs.CertificateText.{list_line}
-use Rattle.certificate.specs.Steps.Lists.{list_read}
-use Rattle.certificate.specs.Steps.Next.{NextList, ending_at, next_list_of, next_read, Good, ListFrom}
+use Rattle.certificate.specs.Steps.Lists.{list_line_of, list_read}
+use Rattle.certificate.specs.Steps.Next.{NextList, ending_at, next_read, Good, ListFrom}
 use Rattle.certificate.proofs.LineTextLaws.{line-without, good-fault, line-said}
 
 -- ---- a number of one digit or of two at a place
@@ -70,7 +75,10 @@ reading_begins past count from s events e = record { listing = listing_begins 64
 
 module _ {past : Bool} {count from : ℕ} {s events : List ℕ} {k a low : ℕ} (r : Reading past count from s events k a low)
     (fits : count ≤ 64) (room : k < count) (v e : ℕ) (number : Stands (spell v) a e s) (is-event : v < count)
-    (follows : not past || leb low v ≡ true) (to : e < length s) where
+    (may : ((past ≡ true) × (low ≤ v)) ⊎ (past ≡ false)) (to : e < length s) where
+  follows : not past || leb low v ≡ true
+  follows = elim may [ inl h ↦ rw (le-leb low v h.1, or-true (not past)) | inr h ↦ rw h ]
+
   abbrev ys : List ℕ
   ys = take (k + 1) (set events k v)
 
@@ -132,18 +140,25 @@ good-next past count own from xs rest g =
     )
 
 -- its own number and a space go from `from` to a, and its list begins there
-pub line-quick : (past : Bool) (count own from : ℕ) (s : List ℕ) (a : ℕ) → from ≤ length s → Stands (spell own ++ 32 ∷ []) from a s
-    → (r : At EventList) → ListFrom past count a (drop a s) r
-    → ◌≡◌ {A = NextList} (record { fault = 0; end = r.end; list = r.value }) (next_read past count own from (drop from s))
-unfolding list_line
-line-quick past count own from s a start number r l =
-    let xs : List ℕ = l.entries in
-    let d : drop from s ≡ list_line own xs ++ 10 ∷ l.rest = number.whole ∙ rw (l.spelt, append_assoc, append_assoc) in
-    let z : a + length (list_text xs) ≡ from + length (list_line own xs) =
-    omega (arith, stands-end start number, length-append (spell own) (32 ∷ []), length-append (spell own) (32 ∷ list_text xs)) in
-    ap (λ (t : At EventList). record { fault = 0; end = t.end; list = t.value }) l.told
-    ∙ ap (λ (e : ℕ). record { fault = 0; end = e; list = event_list_of xs }) z
-    ∙ sym (ap (next_read past count own from) d ∙ good-next past count own from xs l.rest l.good)
+module _ (past : Bool) (count own from : ℕ) (s : List ℕ) (a : ℕ) (start : from ≤ length s) (v : ℕ) (number : Stands (spell v ++ 32 ∷ []) from a s)
+    (is-own : v ≡ own) where
+  line-quick : (r : At EventList) → ListFrom past count a (drop a s) r
+      → ◌≡◌ {A = NextList} (record { fault = 0; end = r.end; list = r.value }) (next_read past count own from (drop from s))
+  unfolding list_line
+  line-quick r l =
+      let xs : List ℕ = l.entries in
+      let n : Stands (spell own ++ 32 ∷ []) from a s = subst (λ (k : ℕ). Stands (spell k ++ 32 ∷ []) from a s) is-own number in
+      let d : drop from s ≡ list_line own xs ++ 10 ∷ l.rest = n.whole ∙ rw (l.spelt, append_assoc, append_assoc) in
+      let z : a + length (list_text xs) ≡ from + length (list_line own xs) =
+      omega (arith, stands-end start n, length-append (spell own) (32 ∷ []), length-append (spell own) (32 ∷ list_text xs)) in
+      ap (λ (t : At EventList). record { fault = 0; end = t.end; list = t.value }) l.told
+      ∙ ap (λ (e : ℕ). record { fault = 0; end = e; list = event_list_of xs }) z
+      ∙ sym (ap (next_read past count own from) d ∙ good-next past count own from xs l.rest l.good)
+
+  pub line-told : (o : Option (At EventList)) → IfSome o (λ r. ListFrom past count a (drop a s) r)
+      → IfSome o (λ r. ◌≡◌ {A = NextList} (record { fault = 0; end = r.end; list = r.value }) (next_read past count own from (drop from s)))
+  line-told None t = tt
+  line-told (Some r) l = line-quick r l
 
 -- ---- what the line is, by its end e
 module _ (past : Bool) (count own : ℕ) (s : List ℕ) (from e : ℕ) (found : e ≡ from + find 10 (drop from s)) (start : from ≤ length s) where
@@ -161,12 +176,12 @@ module _ (past : Bool) (count own : ℕ) (s : List ℕ) (from e : ℕ) (found : 
       rw (lt-ltb (find 10 (drop from s)) (length (drop from s)) (omega (arith, length-drop from s)), k, m)
 
 -- where it ends
-pub next_place : (past : Bool) (count own : ℕ) (s : List ℕ) (from : ℕ) → from ≤ length s → (r : code.NextList)
-    → next_list_of r ≡ next_read past count own from (drop from s)
-    → (next_list_of r ≡ next_read past count own from (drop from s)) × (r.end ≡ from + find 10 (drop from s)) × (from ≤ r.end) × (r.end ≤ length s)
-next_place past count own s from start r q =
+pub next_place : (past : Bool) (count own : ℕ) (s : List ℕ) (from : ℕ) → from ≤ length s → (end : ℕ) (l : Result EventList Fault)
+    → ending_at end (list_line_of l) ≡ next_read past count own from (drop from s)
+    → (ending_at end (list_line_of l) ≡ next_read past count own from (drop from s)) × (end ≡ from + find 10 (drop from s)) × (from ≤ end) × (end ≤ length s)
+next_place past count own s from start end l q =
     let e : ℕ = from + find 10 (drop from s) in
-    let k : r.end ≡ e =
+    let k : end ≡ e =
     ap (λ (x : NextList). x.end) q
     ∙ by-lt e (length s)
     (λ h. ap (λ (x : NextList). x.end) (next-line past count own s from e refl start h))

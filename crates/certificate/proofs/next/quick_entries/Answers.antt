@@ -1,0 +1,20 @@
+-- `quick_entries` meets its contract: the entries so far are what the text spells up to the place that is reached. Assumes nothing.
+use mathlib.Core.Path.{refl}
+use borrow.Author.Rules.{rules}
+use Rattle.certificate.proofs.NextLaws.{reading_begins, reading-more, reading-ends}
+use Rattle.certificate.proofs.next.quick_entries.Goals as goal
+
+pub loop-k-init : goal.loop-k-init
+loop-k-init c = (search rules, reading_begins c.args.past c.args.count c.args.from c.args.text.now _ refl)
+
+pub returns-in-10 : goal.returns-in-10
+returns-in-10 c =
+    reading-ends c.loop-k.invariant.1 c.requires.1 (search rules) _ _ c.in_ok-entry.ensures.1 (search rules) c.if-v-low.either (search rules)
+    c.requires.0 c.in-10.is
+
+pub loop-k-preserved : goal.loop-k-preserved
+loop-k-preserved c = (
+  search rules,
+  reading-more c.loop-k.invariant.1 c.requires.1 (search rules) _ _ c.in_ok-entry.ensures.1 (search rules) c.if-v-low.either (search rules)
+      c.in-44.is,
+)
