@@ -10,7 +10,9 @@ use Rattle.layout.specs.Split.{join}
 use Rattle.layout.specs.Word.{dash}
 use Rattle.layout.specs.Number.{spell}
 use Rattle.layout.specs.List.{list_text}
+use Rattle.layout.specs.Fill.{fill}
 use Rattle.layout.specs.Steps.List.{tail_text}
+use Rattle.layout.proofs.FillLaws.{Writing, writing-first}
 
 pub list-none : list_text [] ≡ dash
 unfolding list_text
@@ -64,6 +66,12 @@ module _ (items : List ℕ) (h : 0 < length items) where
 
   pub list-long : length (list_text items) ≡ length (spell (get_or items 0 0)) + length (tail_text (drop 1 items))
   list-long = ap length list_at ∙ length-append (spell (get_or items 0 0)) (tail_text (drop 1 items))
+
+  -- once the first number is written, the others are left
+  pub list_begun : (b : List ℕ) → length (list_text items) ≤ length b → (k : ℕ) (b₁ : List ℕ)
+      → k ≡ length (spell (get_or items 0 0)) → b₁ ≡ fill (spell (get_or items 0 0)) b
+      → Writing (list_text items) b (tail_text (drop 1 items)) b₁ k
+  list_begun b room k b₁ = writing-first (list_text items) b (spell (get_or items 0 0)) (tail_text (drop 1 items)) room list_at k b₁
 
   pub tail-list : tail_text items ≡ 44 ∷ list_text items
   tail-list =

@@ -1,5 +1,6 @@
 -- Laws of numbers as they are read. Assumes nothing.
-use Prim.Native.Nat.{ℕ, ◌+◌, ◌-◌, ◌*◌, ◌≤◌, ◌<◌}
+use Prim.Native.Nat.{ℕ, suc, ◌+◌, ◌-◌, ◌*◌, ◌≤◌, ◌<◌}
+use Rattle.std.proofs.Common.{one-add}
 use native.Mathlib.Nat.{le_trans, le_refl, not-suc-le-zero, le_of_suc-le-suc, suc-ne-zero, suc_inj, add-zero}
 use native.Mathlib.Numerals.{add-one}
 use native.Mathlib.Omega.{arith}
@@ -12,7 +13,8 @@ use lib.Dec.{eqb, leb}
 use borrow.Author.Tests.{le-leb, lt-leb, lt-ltb, le-ltb, leb-true, eqb-true}
 use Rattle.std.specs.Prelude.{Ok, Err}
 use Rattle.layout.specs.declared.number.NumberFault.TheVariants.{NotNumber, Over}
-use Rattle.layout.specs.Split.{find}
+use Rattle.std.specs.List.{position_or_len}
+use Rattle.std.specs.Char.{is_ascii_digit}
 use Rattle.layout.specs.Number.{is_digit, all_digits, starts_well, is_number, value_from, value, below, number_of}
 use Rattle.layout.specs.Steps.Number.{digits, push_digit}
 use Rattle.layout.proofs.Cases.{by_bool, by-lt, and_left, and_right, and-false}
@@ -78,18 +80,13 @@ below-push bound v b bs =
     (below-not bound (value_from (v * 10 + (b - 48)) bs) (le_trans (omega arith) (from-ge (v * 10 + (b - 48)) bs))
     ∙ sym (below-not bound (value_from v bs) (le_trans h (from-ge v bs)))))
 
+pub below-next : (bound v : ℕ) (s : List ℕ) (i : ℕ) → i < length s → (w : ℕ) → w ≡ push_digit bound v (get_or s i 0)
+    → below bound (value_from v (drop i s)) ≡ below bound (value_from w (drop (i + 1) s))
+below-next bound v s i h w q = rw (add-one, drop-cons s i 0 h, q) (below-push bound v (get_or s i 0) (drop (suc i) s))
+
 pub below_none : (bound v : ℕ) → below bound (value_from v []) ≡ below bound v
 unfolding value_from
 below_none bound v = refl
-
-module _ (bound v b : ℕ) where
-  pub push-more : v < bound → push_digit bound v b ≡ v * 10 + (b - 48)
-  unfolding push_digit
-  push-more h = rw (lt-ltb v bound h)
-
-  pub push-still : bound ≤ v → push_digit bound v b ≡ v
-  unfolding push_digit
-  push-still h = rw (le-ltb v bound h)
 
 -- ---- the digits that a list begins with
 pub digits-all : (s : List ℕ) → all_digits (digits s) ≡ true
@@ -109,11 +106,33 @@ digits-prefix (b ∷ s) =
 pub digits-few : (s : List ℕ) → length (digits s) ≤ length s
 digits-few s = omega (arith, ap length (digits-prefix s), length-take (length (digits s)) s)
 
+-- how many there are is the library's word
+pub digits_is_position : (s : List ℕ) → length (digits s) ≡ position_or_len (λ x. not (is_ascii_digit x)) s
+unfolding digits is_digit
+digits_is_position [] = refl
+digits_is_position (b ∷ s) =
+    let ih = digits_is_position s in
+    by_bool (is_digit b)
+    (λ e. rw (e, ih) (sym (one-add (position_or_len (λ x. not (is_ascii_digit x)) s))))
+    (λ e. rw e)
+
 -- ---- how a number starts
 pub starts_none : (p : List ℕ) → length p ≡ 0 → starts_well p ≡ false
 unfolding starts_well
 starts_none [] h = refl
 starts_none (a ∷ p) h = absurd (suc-ne-zero (length p) h)
+
+pub starts-one : (p : List ℕ) → length p ≡ 1 → starts_well p ≡ true
+unfolding starts_well
+starts-one [] h = absurd (suc-ne-zero 0 (sym h))
+starts-one (a ∷ []) h = refl
+starts-one (a ∷ b ∷ p) h = absurd (suc-ne-zero (length p) (suc_inj h))
+
+pub starts_more : (p : List ℕ) → 1 < length p → starts_well p ≡ not (eqb (get_or p 0 0) 48)
+unfolding starts_well
+starts_more [] h = absurd (not-suc-le-zero h)
+starts_more (a ∷ []) h = absurd (not-suc-le-zero (le_of_suc-le-suc h))
+starts_more (a ∷ b ∷ p) h = refl
 
 module _ (s : List ℕ) (a e : ℕ) (from : a ≤ e) (to : e ≤ length s) where
   pub cut-long : length (take (e - a) (drop a s)) ≡ e - a
@@ -133,6 +152,10 @@ module _ (f : List ℕ) where
   unfolding is_number
   number_digits e = and_right (starts_well f) (all_digits f) e
 
+  pub all-not : all_digits f ≡ false → is_number f ≡ false
+  unfolding is_number
+  all-not e = rw e (and-false (starts_well f))
+
   pub number_is : starts_well f ≡ true → all_digits f ≡ true → is_number f ≡ true
   unfolding is_number
   number_is p q = rw (p, q)
@@ -145,6 +168,13 @@ module _ (bound : ℕ) (f : List ℕ) where
   pub number-below : is_number f ≡ true → number_of bound f ≡ below bound (value f)
   unfolding number_of
   number-below e = rw e
+
+  -- the value of all its digits, and how it starts
+  pub number-read : (v : ℕ) → starts_well f ≡ true → all_digits f ≡ all_digits (drop (length f) f)
+      → below bound (value f) ≡ below bound (value_from v (drop (length f) f)) → number_of bound f ≡ below bound v
+  unfolding value_from
+  number-read v s a b =
+      number-below (number_is f s (a ∙ digits-end f)) ∙ b ∙ ap (λ (l : List ℕ). below bound (value_from v l)) (drop_of_length-le f (le_refl (length f)))
 
   pub number-value : is_number f ≡ true → value f < bound → number_of bound f ≡ Ok (value f)
   number-value e h = number-below e ∙ below-value bound (value f) h

@@ -9,7 +9,9 @@ use mathlib.Core.List.{List, [], ◌∷◌, ◌++◌, append-nil}
 use lib.ListN.{length, drop, set, length-append}
 use lib.Dec.{eqb, ltb}
 use borrow.Author.Tests.{lt-ltb, le-ltb, ltb-true, ltb-false, eq-eqb, ne_eqb, eqb-false, not-true}
-use Rattle.std.specs.Prelude.{Ok, Err}
+use Rattle.std.specs.Prelude.{Result, Ok, Err}
+use Rattle.std.specs.Result.{result_eq}
+use Rattle.layout.specs.declared.number.NumberFault.{NumberFault}
 use Rattle.layout.specs.declared.number.NumberFault.TheVariants.{NotNumber, Over}
 use Rattle.layout.specs.Word.{same}
 use Rattle.layout.specs.Number.{is_digit, all_digits, starts_well, is_number, value_from, value, number_of, spell_within, spell_before, spell}
@@ -202,6 +204,12 @@ module _ (n : ℕ) (f : List ℕ) where
       (λ e. let g : spell n ≡ f = ap spell (sym (t.1 ∙ e)) ∙ spell-value f t.0 in
       rw (eq-eqb v n e, g) (sym (same_refl f)))
       (λ e. rw (ne_eqb v n e) (sym (not-spelling (λ k. e (sym t.1 ∙ k)))))
+
+  -- what is read is the number itself
+  pub own-is : (E : NumberFault → NumberFault → Bool) (q : Result ℕ NumberFault) → q ≡ number_of (n + 1) f → result_eq eqb E q (Ok n) ≡ same f (spell n)
+  own-is E (Ok v) q = own_value v (sym q)
+  own-is E (Err NotNumber) q = sym (own-not (sym q))
+  own-is E (Err Over) q = sym (own-over (sym q))
 
 -- ---- a loop that writes the digits from the last one on
 pub last-spell : (n : ℕ) (r : List ℕ) → last_digits (length (spell n)) n r ≡ spell_before n r

@@ -1,5 +1,6 @@
 -- Laws of `find`, `split` and `join`. Assumes nothing.
 use Prim.Native.Nat.{ℕ, zero, suc, ◌+◌, ◌-◌, ◌≤◌, ◌<◌, suc-le-suc, zero-le}
+use Rattle.std.proofs.Common.{one-add}
 use native.Mathlib.Nat.{le_of_suc-le-suc, not-suc-le-zero}
 use native.Mathlib.Numerals.{add-one, sub-one}
 use native.Mathlib.Omega.{arith}
@@ -10,22 +11,18 @@ use lib.ListN.{length, get_or, take, drop, length-drop, drop_of_length-le}
 use lib.Seq.{drop-cons, drop-drop, take_all, length-take-le}
 use lib.Dec.{eqb}
 use borrow.Author.Tests.{eq-eqb, ne_eqb, not-true, lt-ltb, le-ltb}
+use Rattle.std.specs.List.{position_or_len}
 use Rattle.layout.specs.Split.{find, on_first, split, join, part_start}
-use Rattle.layout.proofs.Cases.{by-eq, by-lt, and_left, and_right}
+use Rattle.layout.proofs.FillLaws.{tail-part}
+use Rattle.layout.proofs.Cases.{by_bool, by-eq, by-lt, and_left, and_right}
 
--- ---- a loop that looks for b, at the place i
-module _ (b : ℕ) (s : List ℕ) (i : ℕ) (h : i < length s) where
-  pub find-here : get_or s i 0 ≡ b → find b (drop i s) ≡ 0
-  unfolding find
-  find-here e = rw (drop-cons s i 0 h, eq-eqb (get_or s i 0) b e)
-
-  pub find-next : (get_or s i 0 ≡ b → ⊥) → find b (drop i s) ≡ suc (find b (drop (i + 1) s))
-  unfolding find
-  find-next e = rw (add-one, drop-cons s i 0 h, ne_eqb (get_or s i 0) b e)
-
-pub find-end : (b : ℕ) (s : List ℕ) (i : ℕ) → length s ≤ i → find b (drop i s) ≡ 0
+-- `find` is the library's word
+pub find_is_position : (b : ℕ) (s : List ℕ) → find b s ≡ position_or_len (λ x. eqb x b) s
 unfolding find
-find-end b s i h = rw (drop_of_length-le s h)
+find_is_position b [] = refl
+find_is_position b (x ∷ s) =
+    let ih = find_is_position b s in
+    by_bool (eqb x b) (λ e. rw e) (λ e. rw (e, ih) (sym (one-add (position_or_len (λ y. eqb y b) s))))
 
 -- ---- the first part
 find-le-by : (t : Bool) (n m : ℕ) → n ≤ m → cond t 0 (suc n) ≤ suc m
@@ -66,6 +63,15 @@ pub split-last : (b : ℕ) (s : List ℕ) → length s ≤ find b s → split b 
 unfolding find split
 split-last b [] h = refl
 split-last b (x ∷ xs) h = split-last-by b x xs (eqb x b) (split-last b xs) h
+
+-- the part before the first b, and what is behind it
+pub cut_once : (b : ℕ) (s : List ℕ) (e : ℕ) → e ≡ find b s → e < length s
+    → (find b s < length s) × (take e s ≡ take (find b s) s) × (take (length s - (e + 1)) (drop (e + 1) s) ≡ drop (find b s + 1) s)
+    × (split b s ≡ take e s ∷ split b (take (length s - (e + 1)) (drop (e + 1) s)))
+cut_once b s e q h =
+    let t = tail-part s (e + 1) in
+    let k : find b s < length s = omega arith in
+    rw (t, q) (k, refl, refl, rw (add-one (find b s)) (split-more b s k))
 
 -- ---- a loop over the parts, at the place a, whose part goes up to e
 module _ (b : ℕ) (s : List ℕ) (a e : ℕ) (found : e ≡ a + find b (drop a s)) (ha : a ≤ length s) where

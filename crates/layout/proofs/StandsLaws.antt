@@ -7,6 +7,7 @@ use mathlib.Core.Bool.{Bool, true, false, false≢true}
 use mathlib.Core.List.{List, [], ◌∷◌, ◌++◌, append_assoc}
 use lib.ListN.{length, get_or, take, drop, length-append, length-drop, take-append-drop}
 use lib.Seq.{drop-cons, drop-drop, take_all}
+use Rattle.std.specs.Result.{result_ok}
 use Rattle.std.specs.Prelude.{Option, Some, None, Result, Ok, Err}
 use Rattle.layout.specs.declared.at.At.{At}
 use Rattle.layout.specs.declared.number.NumberFault.{NumberFault}
@@ -67,7 +68,7 @@ module _ (s w : List ℕ) (from : ℕ) where
       let n : length (drop from s) ≡ length w = ap length (sym (take_all (length w) (drop from s) few) ∙ e) in
       absurd (omega (arith, n, length-drop from s)))
 
-  word_fits : from ≤ length s → stands_at w from s ≡ true → from + length w ≤ length s
+  pub word_fits : from ≤ length s → stands_at w from s ≡ true → from + length w ≤ length s
   word_fits start e =
       by-lt (length s - from) (length w)
       (λ h. absurd (false≢true (sym (word-short h) ∙ e)))
@@ -115,6 +116,34 @@ module _ (s : List ℕ) (from bound : ℕ) where
 
     pub number-stands : Stands (spell r.value) from r.end s
     number-stands = rw (← told.1, told.3) (digits-stand told.0)
+
+  -- what is read up to where the digits end is what is told
+  module _ (n e : ℕ) (long : n ≡ length (digits (drop from s))) (ends : e ≡ from + n) (q : Result ℕ NumberFault)
+      (read : q ≡ number_of bound (take (e - from) (drop from s))) where
+    read-digits : q ≡ number_of bound (digits (drop from s))
+    read-digits =
+        let k : e - from ≡ length (digits (drop from s)) = omega arith in
+        read ∙ ap (λ (m : ℕ). number_of bound (take m (drop from s))) k ∙ ap (number_of bound) (digits-prefix (drop from s))
+
+    told-is : number_at bound from s ≡ told_at from n q
+    unfolding number_at
+    told-is = rw (← long, ← read-digits)
+
+    told-no : (r : Result ℕ NumberFault) → None ≡ result_ok r → None ≡ told_at from n r
+    told-no (Ok v) p = absurd (cc)
+    told-no (Err f) p = refl
+
+    told-yes : (v : ℕ) (r : Result ℕ NumberFault) → Some v ≡ result_ok r → (Some (record { value = v; end = from + n }) ≡ told_at from n r) × (r ≡ Ok v)
+    told-yes v (Ok w) p = let t : v ≡ w = cc in rw t (refl, refl)
+    told-yes v (Err f) p = absurd (cc)
+
+    pub at-none : None ≡ result_ok q → None ≡ number_at bound from s
+    at-none p = told-no q p ∙ sym told-is
+
+    pub at-some : (v : ℕ) → Some v ≡ result_ok q → (Some (record { value = v; end = from + n }) ≡ number_at bound from s) × (v < bound)
+    at-some v p =
+        let t = told-yes v q p in
+        (t.0 ∙ sym told-is, (value-number bound (digits (drop from s)) v (sym read-digits ∙ t.1)).2)
 
   -- with a space behind it
   spaced-some : (t : Option (At ℕ)) (r : At ℕ) → Some r ≡ spaced s t

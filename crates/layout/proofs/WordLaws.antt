@@ -1,12 +1,13 @@
 -- Laws of `same`. Assumes nothing.
 use Prim.Native.Nat.{ℕ, ◌+◌, ◌≤◌, ◌<◌}
 use native.Mathlib.Numerals.{add-one}
-use mathlib.Core.Path.{◌≡◌, refl, ap₂}
-use mathlib.Core.Bool.{true, false, false≢true}
+use mathlib.Core.Path.{◌≡◌, refl, sym, ap, ap₂, ◌∙◌}
+use mathlib.Core.Bool.{Bool, true, false, ◌&&◌, false≢true}
 use mathlib.Core.List.{List, [], ◌∷◌}
 use lib.ListN.{length, get_or, drop, drop_of_length-le}
 use lib.Seq.{drop-cons}
 use lib.Dec.{eqb}
+use lib.Pointwise.{pointwise}
 use borrow.Author.Tests.{eq-eqb, ne_eqb, eqb-true}
 use Rattle.layout.specs.Word.{same}
 use Rattle.layout.proofs.Cases.{by_bool, and_left, and_right}
@@ -28,16 +29,16 @@ same_refl (x ∷ s) = rw (eq-eqb x x refl) (same_refl s)
 pub same_false : (s w : List ℕ) → (s ≡ w → ⊥) → same s w ≡ false
 same_false s w h = by_bool (same s w) (λ e. absurd (h (same_true s w e))) (λ e. e)
 
--- ---- a turn of the loop that compares
-module _ (s w : List ℕ) (i : ℕ) (hs : i < length s) (hw : i < length w) where
-  pub same_here : (get_or s i 0 ≡ get_or w i 0 → ⊥) → same (drop i s) (drop i w) ≡ false
-  unfolding same
-  same_here q = rw (drop-cons s i 0 hs, drop-cons w i 0 hw, ne_eqb (get_or s i 0) (get_or w i 0) q)
-
-  pub same_next : get_or s i 0 ≡ get_or w i 0 → same (drop i s) (drop i w) ≡ same (drop (i + 1) s) (drop (i + 1) w)
-  unfolding same
-  same_next q = rw (add-one, drop-cons s i 0 hs, drop-cons w i 0 hw, eq-eqb (get_or s i 0) (get_or w i 0) q)
-
-pub same_end : (s w : List ℕ) (i : ℕ) → length s ≤ i → length w ≤ i → same (drop i s) (drop i w) ≡ true
+-- `same` is the library's word
+pub same_is_pointwise : (s w : List ℕ) → same s w ≡ pointwise eqb s w
 unfolding same
-same_end s w i p q = rw (drop_of_length-le s p, drop_of_length-le w q)
+same_is_pointwise [] [] = refl
+same_is_pointwise [] (y ∷ w) = refl
+same_is_pointwise (x ∷ s) [] = refl
+same_is_pointwise (x ∷ s) (y ∷ w) = ap (λ (b : Bool). eqb x y && b) (same_is_pointwise s w)
+
+pub same_sym : (s w : List ℕ) → same s w ≡ same w s
+same_sym s w =
+    by_bool (same s w)
+    (λ e. e ∙ sym (ap (same w) (same_true s w e) ∙ same_refl w))
+    (λ e. e ∙ sym (same_false w s (λ q. false≢true (sym e ∙ ap (same s) q ∙ same_refl s))))

@@ -23,6 +23,7 @@ pub enum ListFault {
 }
 
 // The count of items so far, after one item more: a number is kept in the next place, and of two faults the graver stands.
+#[tactic(auto, unfolding(crate::specs::Steps::List::pushed, crate::specs::Steps::List::kept, crate::specs::Steps::List::joined, crate::specs::Steps::List::held))]
 fn push_item(items: &mut [u32], so_far: Result<usize, ListFault>, item: &[u8], bound: u64) -> Result<usize, ListFault>
     requires { bound ≤ 4294967296 }
     ensures { (result ≡ pushed bound (length items.old) so_far item.now) × (items.new ≡ kept bound so_far item.now items.old) }
@@ -32,7 +33,7 @@ fn push_item(items: &mut [u32], so_far: Result<usize, ListFault>, item: &[u8], b
         (Err(ListFault::Over), _) | (_, Err(NumberFault::Over)) => Err(ListFault::Over),
         (Err(ListFault::Many), _) => Err(ListFault::Many),
         (Ok(n), Ok(v)) => {
-            if n == items.len() {
+            if n >= items.len() {
                 return Err(ListFault::Many);
             }
             items[n] = v as u32;

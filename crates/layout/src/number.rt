@@ -1,5 +1,7 @@
 // Numbers in base ten: read from a field of any length, and measured.
-ghost use Rattle.std.specs.Prelude.{◌≡◌, ◌+◌, ◌*◌, ◌≤◌, ◌<◌, length, drop, IfSome};
+ghost use Rattle.std.specs.Prelude.{◌≡◌, ◌+◌, ◌*◌, ◌≤◌, ◌<◌, length, drop, not, IfSome};
+ghost use Rattle.std.specs.Char.{is_ascii_digit};
+ghost use Rattle.std.specs.List.{position};
 ghost use Rattle.layout.specs.Word.{same};
 ghost use Rattle.layout.specs.Number.{starts_well, number_of, spell};
 ghost use Rattle.layout.specs.Fill.{fill};
@@ -60,11 +62,18 @@ pub fn read_number(field: &[u8], bound: u64) -> Result<u64, NumberFault>
     Err(NumberFault::Over)
 }
 
+// The place of the first byte of s that is no digit.
+fn first_other(s: &[u8]) -> Option<usize>
+    ensures { result ≡ position (λ x. not (is_ascii_digit x)) s.now }
+{
+    s.iter().position(|b| !b.is_ascii_digit())
+}
+
 // How many digits s begins with.
 fn digits_len(s: &[u8]) -> usize
     ensures { (result ≡ length (digits s.now)) × (result ≤ length s.now) }
 {
-    s.iter().position(|b| !b.is_ascii_digit()).unwrap_or(s.len())
+    first_other(s).unwrap_or(s.len())
 }
 
 // The number below a bound that stands at a place of s.
@@ -78,6 +87,7 @@ pub fn number_at(s: &[u8], from: usize, bound: u64) -> Option<At<u64>>
 }
 
 // The number below a bound that stands at a place of s with a space behind it, and the place behind the space.
+#[tactic(auto, unfolding(crate::specs::Steps::Stands::spaced_number, crate::specs::Steps::Stands::spaced))]
 pub fn spaced_number(s: &[u8], from: usize, bound: u64) -> Option<At<u64>>
     requires { (from ≤ length s.now) × (bound ≤ 4294967296) }
     ensures { (result ≡ spaced_number bound from s.now) × IfSome result (λ n. (n.value < bound) × (n.end ≤ length s.now)) }

@@ -1,13 +1,22 @@
 // Cutting bytes at a byte: lines at 10, fields at 32.
-ghost use Rattle.std.specs.Prelude.{◌≡◌, ◌+◌, ◌≤◌, ◌<◌, [], ◌∷◌, length, take, drop, get_or, MatchOption};
+ghost use Rattle.std.specs.Prelude.{◌≡◌, ◌+◌, ◌≤◌, ◌<◌, [], ◌∷◌, length, take, drop, get_or, MatchOption, ◌==◌};
+ghost use Rattle.std.specs.List.{position};
 ghost use Rattle.layout.specs.Split.{find, split, part_start};
+
+// The place of the first byte b of s.
+fn first_place(s: &[u8], b: u8) -> Option<usize>
+    ensures { result ≡ position (λ x. x == b) s.now }
+{
+    s.iter().position(|x| *x == b)
+}
 
 // The place of the first byte b of s from a place on.
 pub fn find_from(s: &[u8], from: usize, b: u8) -> Option<usize>
     requires { from ≤ length s.now }
     ensures { MatchOption result (find b (drop from s.now) ≡ length (drop from s.now)) (λ e. (e ≡ from + find b (drop from s.now)) × (from ≤ e) × (e < length s.now)) }
 {
-    s[from..].iter().position(|x| *x == b).map(|i| from + i)
+    let i = first_place(&s[from..], b)?;
+    Some(from + i)
 }
 
 // The bytes before the first byte b of s, and those behind it.
