@@ -45,7 +45,7 @@ lowest-from_find t n u f r d tests =
 -- some number that passes, or none
 any_some_of : (t : ℕ → Bool) (n : ℕ) (r : Bool)
     → MatchBool r ((k : ℕ) × (k < length (range_with_len 0 n)) × HoldsAt (λ e. t e ≡ true) (range_with_len 0 n) k)
-      (AllWithin (λ e. t e ≡ false) (range_with_len 0 n) 0 (length (range_with_len 0 n)))
+    (AllWithin (λ e. t e ≡ false) (range_with_len 0 n) 0 (length (range_with_len 0 n)))
     → r ≡ any n t
 any_some_of t n true h =
     let l : h.0 < n = omega (arith, h.1, length-range_with_len 0 n) in

@@ -8,7 +8,7 @@ pub fn in_row(row: u64, e: usize) -> bool
     requires { e < 64 }
     ensures { result ≡ in_row row e }
 {
-    (row >> (e as u64)) % 2 == 1
+    (row >> e) & 1 == 1
 }
 
 // Whether some event is in a row.
@@ -23,7 +23,7 @@ fn only(e: usize) -> u64
     requires { e < 64 }
     ensures { (f : ℕ) → in_row result f ≡ eqb f e }
 {
-    1 << (e as u64)
+    1 << e
 }
 
 // The events that are in one of two rows, in both, and in the first but not in the second.
@@ -42,14 +42,14 @@ pub fn both(a: u64, b: u64) -> u64
 fn except(a: u64, b: u64) -> u64
     ensures { (e : ℕ) → in_row result e ≡ (in_row a e && not (in_row b e)) }
 {
-    (a | b) ^ b
+    a & !b
 }
 
 // The events that are not in a row.
 pub fn others(row: u64) -> u64
     ensures { (e : ℕ) → e < 64 → in_row result e ≡ not (in_row row e) }
 {
-    except(18446744073709551615, row)
+    !row
 }
 
 // A row and one event more.
@@ -57,8 +57,7 @@ pub fn with_event(row: u64, e: usize) -> u64
     requires { e < 64 }
     ensures { (f : ℕ) → in_row result f ≡ (in_row row f || eqb f e) }
 {
-    let one = only(e);
-    either(row, one)
+    either(row, only(e))
 }
 
 // A row without one event.
@@ -66,22 +65,19 @@ pub fn without_event(row: u64, e: usize) -> u64
     requires { e < 64 }
     ensures { (f : ℕ) → in_row result f ≡ (in_row row f && not (eqb f e)) }
 {
-    let one = only(e);
-    except(row, one)
+    except(row, only(e))
 }
 
 // Whether some event is in both rows.
 pub fn meets(a: u64, b: u64) -> bool
     ensures { result ≡ any 64 (λ g. in_row a g && in_row b g) }
 {
-    let row = both(a, b);
-    holds_some(row)
+    holds_some(both(a, b))
 }
 
 // Whether some event is in row a and not in row b.
 pub fn escapes(a: u64, b: u64) -> bool
     ensures { result ≡ any 64 (λ g. in_row a g && not (in_row b g)) }
 {
-    let row = except(a, b);
-    holds_some(row)
+    holds_some(except(a, b))
 }

@@ -10,6 +10,7 @@ pub marks-requires : goal.marks-requires
 marks-requires c = past_small c.args.pasts.now c.loop-i.i _ c.loop-i-test.true c.requires.1
 
 pub loop-i-preserved : goal.loop-i-preserved
-loop-i-preserved c =
-    (length-set c.loop-i.rows c.loop-i.i _ ∙ c.loop-i.invariant.0,
-    rows_more c.args.pasts.now c.loop-i.i _ c.loop-i-test.true c.loop-i.rows _ (omega arith) c.loop-i.invariant.1 c.marks.ensures)
+loop-i-preserved c = (
+  length-set c.loop-i.rows c.loop-i.i _ ∙ c.loop-i.invariant.0,
+  rows_more c.args.pasts.now c.loop-i.i _ c.loop-i-test.true c.loop-i.rows _ (omega arith) c.loop-i.invariant.1 c.marks.ensures,
+)

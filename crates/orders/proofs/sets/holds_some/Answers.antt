@@ -3,4 +3,4 @@ use Rattle.orders.proofs.BitLaws.{row-some}
 use Rattle.orders.proofs.sets.holds_some.Goals as goal
 
 pub returns : goal.returns
-returns c = row-some c.args.row c.well_formed.0.1
+returns c = row-some c.args.row c.ranges.row.fits

@@ -1,8 +1,6 @@
 -- The bit, shifted to the end. Assumes nothing.
-use mathlib.Core.Path.{refl}
-use Rattle.orders.specs.Rows.{in_row}
+use Rattle.orders.proofs.BitLaws.{row-bit}
 use Rattle.orders.proofs.sets.in_row.Goals as goal
 
 pub returns : goal.returns
-unfolding in_row
-returns c = refl
+returns c = row-bit c.args.row c.args.e

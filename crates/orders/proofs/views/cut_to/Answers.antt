@@ -11,16 +11,16 @@ loop-x-preserved c =
     let i = c.loop-x.x-index in
     let room : c.loop-x.count < length c.loop-x.events = omega arith in
     elim c.if-in_row.branch [
-      then-in_row w ↦
-        rw (w.count-is, w.events-is) (
-          omega arith,
-          length-set c.loop-x.events c.loop-x.count _ ∙ c.loop-x.invariant.1,
-          rw c.from.ensures at (cut-kept (in_row c.args.kept) v c.loop-x.events i c.loop-x.count c.from.result c.loop-x-test.true c.from.ensures c.loop-x.invariant.2 room (sym c.in_row.ensures ∙ w.if-in_row.true)),
-        )
+      | then-in_row w ↦
+          rw (w.count-is, w.events-is) (
+            omega arith,
+            length-set c.loop-x.events c.loop-x.count _ ∙ c.loop-x.invariant.1,
+            rw c.from.ensures at (cut-kept (in_row c.args.kept) v c.loop-x.events i c.loop-x.count c.from.result c.loop-x-test.true c.from.ensures c.loop-x.invariant.2 room (sym c.in_row.ensures ∙ w.if-in_row.true)),
+          )
       | else-in_row w ↦
-        rw (w.count-is, w.events-is) (
-          omega arith,
-          c.loop-x.invariant.1,
-          cut-left (in_row c.args.kept) v c.loop-x.events i c.loop-x.count c.from.result c.loop-x-test.true c.from.ensures c.loop-x.invariant.2 (sym c.in_row.ensures ∙ w.if-in_row.false),
-        )
+          rw (w.count-is, w.events-is) (
+            omega arith,
+            c.loop-x.invariant.1,
+            cut-left (in_row c.args.kept) v c.loop-x.events i c.loop-x.count c.from.result c.loop-x-test.true c.from.ensures c.loop-x.invariant.2 (sym c.in_row.ensures ∙ w.if-in_row.false),
+          )
     ]

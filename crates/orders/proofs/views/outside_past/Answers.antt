@@ -23,14 +23,15 @@ returns-then-escapes c =
 
 pub loop-x-preserved : goal.loop-x-preserved
 loop-x-preserved c =
-    let own : ℕ → Bool = λ e. eqb (get_or c.args.processes.now e 0) c.args.p in
-    (mark-turn c.args.view.now c.loop-x.x-index c.loop-x-test.true _ c.from-x.ensures c.loop-x.before _ c.with_event-before.ensures c.loop-x.invariant.0,
-    below_more _ _ c.loop-x.invariant.1
-    (sym (outside-turn c.args.rows.now own c.args.view.now c.loop-x.x-index c.loop-x.before _ c.loop-x-test.true c.from-x.ensures c.requires.1 c.loop-x.invariant.0)
-    ∙ elim c.else-processes-x.branch [
-      else-processes-x-via-then-processes-x+else-escapes w ↦ false-and _ _ (λ t. sym w.escapes.ensures ∙ w.if-escapes.false)
-      | else-processes-x-via-else-processes-x w ↦ false-and _ _ (λ t. absurd (w.if-processes-x.false (eqb-true _ _ t)))
-    ]))
+    let own : ℕ → Bool = λ e. eqb (get_or c.args.processes.now e 0) c.args.p in (
+      mark-turn c.args.view.now c.loop-x.x-index c.loop-x-test.true _ c.from-x.ensures c.loop-x.before _ c.with_event-before.ensures c.loop-x.invariant.0,
+      below_more _ _ c.loop-x.invariant.1
+          (sym (outside-turn c.args.rows.now own c.args.view.now c.loop-x.x-index c.loop-x.before _ c.loop-x-test.true c.from-x.ensures c.requires.1 c.loop-x.invariant.0)
+          ∙ elim c.else-processes-x.branch [
+            | else-processes-x-via-then-processes-x+else-escapes w ↦ false-and _ _ (λ t. sym w.escapes.ensures ∙ w.if-escapes.false)
+            | else-processes-x-via-else-processes-x w ↦ false-and _ _ (λ t. absurd (w.if-processes-x.false (eqb-true _ _ t)))
+          ]),
+    )
 
 pub returns : goal.returns
 returns c =
