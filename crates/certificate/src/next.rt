@@ -64,15 +64,11 @@ fn quick_entries(text: &[u8], from: usize, count: usize, past: bool) -> Option<A
     let mut low = 0;
     for k in 0..count {
         let entry = quick_entry(text, at)?;
-        let v = entry.value;
-        if v >= count || past && v < low {
+        if entry.value >= count || past && entry.value < low {
             return None;
         }
-        if entry.end >= text.len() {
-            return None;
-        }
-        events[k] = v as u8;
-        match text[entry.end] {
+        events[k] = entry.value as u8;
+        match *text.get(entry.end)? {
             b'\n' => {
                 return Some(At {
                     value: EventList {
@@ -85,7 +81,7 @@ fn quick_entries(text: &[u8], from: usize, count: usize, past: bool) -> Option<A
             b',' => {}
             _ => return None,
         }
-        low = v + 1;
+        low = entry.value + 1;
         at = entry.end + 1;
     }
     None

@@ -9,12 +9,12 @@ loop-k-init c = (search rules, reading_begins c.args.past c.args.count c.args.fr
 
 pub returns-in-10 : goal.returns-in-10
 returns-in-10 c =
-    reading-ends c.loop-k.invariant.1 c.requires.1 (search rules) _ _ c.in_ok-entry.ensures.1 (search rules) c.if-v-low.either (search rules)
-    c.requires.0 c.in-10.is
+    reading-ends c.loop-k.invariant.1 c.requires.1 (search rules) _ _ c.in_ok-entry.ensures.1 (search rules) c.if-entry-low.either (search rules)
+    c.requires.0 (search rules)
 
 pub loop-k-preserved : goal.loop-k-preserved
 loop-k-preserved c = (
   search rules,
-  reading-more c.loop-k.invariant.1 c.requires.1 (search rules) _ _ c.in_ok-entry.ensures.1 (search rules) c.if-v-low.either (search rules)
-      c.in-44.is,
+  reading-more c.loop-k.invariant.1 c.requires.1 (search rules) _ _ c.in_ok-entry.ensures.1 (search rules) c.if-entry-low.either (search rules)
+      (search rules),
 )
