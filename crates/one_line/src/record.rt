@@ -12,42 +12,20 @@ use certificate::record::{Certificate, Criterion};
 use history::record::History;
 use orders::listed::past_rows;
 use weakened::sequential::whole_views;
-use weakened_records::records::no_pasts;
+use weakened_records::records::ViewedRecord;
 
 // 26: whether the causal order leaves two updates unordered.
-pub fn crosses(h: History, c: Certificate) -> bool
-    requires { OrderRead h c }
-    ensures { (views : List (List ℕ)) → result ≡ lists.crosses (history_of h) (order (history_of h) (certificate_of h c views)) }
+pub fn crosses(h: &History, c: &Certificate) -> bool
+    requires { OrderRead h.now c.now }
+    ensures { (views : List (List ℕ)) → result ≡ lists.crosses (history_of h.now) (order (history_of h.now) (certificate_of h.now c.now views)) }
 {
-    let n = h.count;
-    let pasts = c.pasts;
-    let rows = past_rows(pasts, n);
-    let events = h.events;
-    let updates = updates_of(events, n);
-    crossing(&rows, updates, n)
+    crosses(h, c)
 }
 
 // The sequential certificate of the line.
-pub fn line_record(h: History, c: Certificate, made: &mut [[u8; 64]; 64]) -> Certificate
-    requires { OrderRead h c }
-    ensures { (views : List (List ℕ)) → IsRecordOf (lists.in_one_line (history_of h) (certificate_of h c views)) result made.new }
+pub fn line_record(h: &History, c: &Certificate) -> ViewedRecord
+    requires { OrderRead h.now c.now }
+    ensures { (views : List (List ℕ)) → IsRecordOf (lists.in_one_line (history_of h.now) (certificate_of h.now c.now views)) result.certificate result.views }
 {
-    let n = h.count;
-    let pasts = c.pasts;
-    let rows = past_rows(pasts, n);
-    let events = h.events;
-    let updates = updates_of(events, n);
-    let places = places_of(&rows, updates, n);
-    let line = by_place(places, n);
-    let order = line.events;
-    let size = line.count;
-    let mut lengths = [0u8; 64];
-    let views = whole_views(order, size, 1, &mut lengths);
-    *made = views;
-    let none = no_pasts();
-    Certificate {
-        criterion: Criterion::Sequential,
-        pasts: none,
-        lengths,
-    }
+    line_record(h, c)
 }
