@@ -5,6 +5,7 @@ pub mod NumberLaws
 pub mod SpellLaws
 pub mod StandsLaws
 pub mod FillLaws
+pub mod PiecesLaws
 pub mod LineLaws
 pub mod ListLaws
 pub mod ListTextLaws

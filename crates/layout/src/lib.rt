@@ -8,5 +8,6 @@ pub mod fill;
 pub mod line;
 pub mod list;
 pub mod number;
+pub mod pieces;
 pub mod split;
 pub mod word;

@@ -1,0 +1,10 @@
+-- `put_pieces` meets its contract: the pieces left, written behind what is there, complete the text. Assumes nothing.
+use Rattle.std.proofs.Common.{◌≤◌, ◌-◌}
+use Rattle.layout.specs.Pieces.{pieces_from}
+use Rattle.layout.proofs.FillLaws.{Writing}
+use Rattle.layout.proofs.pieces.put_pieces.Given as goal
+
+abbrev pub invariant-loop-i : goal.invariant-loop-i
+invariant-loop-i g l =
+    (l.i ≤ l.n)
+    × Writing (pieces_from (g.P.Pieces.piece l.pieces) 0 l.n) l.initial.part (pieces_from (g.P.Pieces.piece l.pieces) l.i (l.n - l.i)) l.part l.at
