@@ -10,7 +10,7 @@ use mathlib.Core.Option.{Option}
 use lib.ListN.{length, get_or, take, drop, length-map, length-set, take-append-drop, get_or-append}
 use lib.Seq.{length-take-le, get_or-take, set-append_left, ext_get_or}
 use lib.Dec.{eqb}
-use borrow.Author.Tests.{eq-eqb, eqb-true, le-leb, not-true}
+use borrow.Author.Tests.{eq-eqb, eqb-true, not-true}
 use Rattle.layout.proofs.Cases.{and_left, and_right}
 use Rattle.history.specs.declared.record.Kind.TheVariants.{Register}
 use Rattle.history.specs.declared.record.Object.{Object}
@@ -19,7 +19,7 @@ use Rattle.history.specs.declared.record.Op.TheVariants.{Write, Read, Push, Pop,
 use Rattle.history.specs.declared.record.Answer.{Answer}
 use Rattle.history.specs.declared.record.Event as WrittenEvent
 use Rattle.history.specs.declared.record.History as WrittenHistory
-use Rattle.history.specs.Record.{no_object, no_event, recorded_in, objects_in, events_in}
+use Rattle.history.specs.Record.{no_object, no_event, objects_in, events_in}
 use Rattle.history.specs.Kinds.{is_channel}
 use Rattle.history.proofs.PadLaws.{take_more}
 use Rattle.history.proofs.Guarantees.{SoundEvent, Sound}
@@ -32,26 +32,18 @@ use Rattle.criteria.specs.Records.{event_of, history_of}
 use Rattle.criteria.proofs.Lists.{by-test, true-or-left, true-or-right}
 use Rattle.objects.specs.declared.state.State.{State}
 use Rattle.objects.specs.State.{value_in, contents_of, no_state, Fresh}
-use Rattle.replays.specs.declared.replay.Light.{Light}
+use Rattle.replays.specs.declared.light.LightHistory.{LightHistory}
 use Rattle.replays.specs.declared.replay.Visible.{Visible}
 use Rattle.replays.specs.declared.replay.Visible.TheVariants.{All, Of, Only}
-use Rattle.replays.specs.Replay.{recorded_as, no_light, event_at, light_history, contents_in, is_visible, Silent, SoundParts, Ready}
-use Rattle.replays.specs.Light.{never_answers, is_silent, light_of, count_of}
+use Rattle.replays.specs.Replay.{event_in, history_in, contents_in, is_visible, Silent, SoundParts, Ready}
+use Rattle.replays.specs.Light.{never_answers, is_silent, TakenApart}
 use Rattle.replays.proofs.ReplayLaws.{fresh-stands}
-use Rattle.replays.proofs.LightLaws.{Made}
 
 -- an element of a list that is mapped
 get_or-mapped : {A : Type 0} (f : A → List ℕ) (l : List A) (i : ℕ) (d : A) → i < length l → get_or (map f l) i [] ≡ f (get_or l i d)
 get_or-mapped f [] i d h = absurd (not-suc-le-zero h)
 get_or-mapped f (x ∷ l) zero d h = refl
 get_or-mapped f (x ∷ l) (suc i) d h = get_or-mapped f l i d (omega arith)
-
--- an answer that was taken apart
-recorded-is : (a : Answer) → a.count ≤ 8 → recorded_as (count_of a) a.values ≡ recorded_in a
-recorded-is a few = by-test a.lost (λ l. rw l) (λ l. rw (l, le-leb a.count 8 few))
-
-count_small : (a : Answer) → a.count ≤ 8 → count_of a ≤ 9
-count_small a few = by-test a.lost (λ l. rw l (omega arith)) (λ l. rw l (omega arith))
 
 -- an op that never answers gives no value
 never-gives : (o : Object) (op : Op) (v : ℕ) (c : List ℕ) → never_answers o.kind op ≡ true → gives o op v c ≡ []
@@ -62,8 +54,8 @@ never-gives o Pop v c t = absurd (false≢true t)
 never-gives o Peek v c t = absurd (false≢true t)
 
 -- an answer that was lost, or that has no value where the op never answers, is what any object gives
-silent-right : (o : Object) (op : Op) (a : Answer) → is_silent o.kind op a ≡ true → Silent o op (count_of a)
-silent-right o op a t v answer c =
+silent-right : (o : Object) (op : Op) (a : Answer) → is_silent o.kind op a ≡ true → Silent o op a
+silent-right o op a t v c =
     by-test a.lost
     (λ l. rw l)
     (λ l.
@@ -79,19 +71,14 @@ table-takes f g xs d (suc n) h e =
     ap₂ (λ l x. l ++ x ∷ []) (table-takes f g xs d n (omega arith) (λ k l. e k (omega arith))) (e n (omega arith))
     ∙ sym (ap (map g) (rw add-one at (take_more xs n d (omega arith))) ∙ map-append g (take n xs) (get_or xs n d ∷ []))
 
-module _ (os : List Object) (es : List WrittenEvent.Event) (ls : List Light) (vs : List ℕ) (answers : List (List ℕ)) (cs : List ℕ) (n : ℕ)
-    (lights : Made (light_of os) no_event no_light es ls n)
-    (values : Made (λ (x : WrittenEvent.Event). x.value) no_event 0 es vs n)
-    (answered-as : Made (λ (x : WrittenEvent.Event). x.answer.values) no_event [] es answers n)
-    (counts : Made (λ (x : WrittenEvent.Event). count_of x.answer) no_event 0 es cs n)
-    (few-values : (e : ℕ) → e < n → (get_or es e no_event).answer.count ≤ 8) where
-  event-as : (e : ℕ) → e < n → event_at ls vs answers cs e ≡ event_of (get_or es e no_event)
+module _ (h : WrittenHistory.History) (l : LightHistory) (t : TakenApart h l) where
+  event-as : (e : ℕ) → e < h.count → event_in l e ≡ event_of (get_or h.events e no_event)
   unfolding event_of
-  event-as e h = rw (lights e h, values e h, answered-as e h, counts e h, recorded-is (get_or es e no_event).answer (few-values e h))
+  event-as e b = rw (t.lights e b, t.values e b, t.answers e b)
 
-  pub events-are : n ≤ 64 → length es ≡ 64 → table n (event_at ls vs answers cs) ≡ map event_of (take n es)
-  events-are few long =
-      table-takes (event_at ls vs answers cs) event_of es no_event n (omega arith) event-as
+  -- the events are those of the history
+  events-are : h.count ≤ 64 → length h.events ≡ 64 → table h.count (event_in l) ≡ map event_of (events_in h)
+  events-are few long = table-takes (event_in l) event_of h.events no_event h.count (omega arith) event-as
 
 -- ---- the objects: only those that events name count
 module _ (os ps : List Object) (es : List Event)
@@ -154,14 +141,8 @@ starts-are os all states vs few z same fresh-as =
     ∙ ap fresh (same o l)
     ∙ sym (get_or-mapped fresh os o no_object l))
 
--- ---- a replay of the parts is a replay of the history
-module _ (h : WrittenHistory.History) (ls : List Light) (vs : List ℕ) (answers : List (List ℕ)) (cs : List ℕ) (states : List State)
-    (lights : Made (light_of h.objects) no_event no_light h.events ls h.count)
-    (values : Made (λ (x : WrittenEvent.Event). x.value) no_event 0 h.events vs h.count)
-    (answered-as : Made (λ (x : WrittenEvent.Event). x.answer.values) no_event [] h.events answers h.count)
-    (counts : Made (λ (x : WrittenEvent.Event). count_of x.answer) no_event 0 h.events cs h.count)
-    (few-values : (e : ℕ) → e < h.count → (get_or h.events e no_event).answer.count ≤ 8)
-    (zero-value : value_in vs 64 ≡ 0)
+-- ---- a replay of the history that was taken apart is a replay of the history
+module _ (h : WrittenHistory.History) (l : LightHistory) (t : TakenApart h l) (states : List State)
     (few : h.count ≤ 64)
     (long : length h.events ≡ 64)
     (places : length (objects_in h) ≤ length states)
@@ -169,62 +150,61 @@ module _ (h : WrittenHistory.History) (ls : List Light) (vs : List ℕ) (answers
     (fresh-as : (o : ℕ) → o < length (objects_in h) → Fresh (get_or h.objects o no_object) (get_or states o no_state))
     (who : Visible) (v : List ℕ)
     (named : (e : ℕ) → mem e v ≡ true → (event (history_of h) e).object < length (objects_in h)) where
-  same_start : contents_in vs states ≡ map fresh (objects_in h) ++ drop (length (objects_in h)) (contents_in vs states)
+  same_start : contents_in l.values states ≡ map fresh (objects_in h) ++ drop (length (objects_in h)) (contents_in l.values states)
   same_start =
-      sym (take-append-drop (length (objects_in h)) (contents_in vs states))
-      ∙ ap (λ (l : Contents). l ++ drop (length (objects_in h)) (contents_in vs states))
-      (starts-are (objects_in h) h.objects states vs places zero-value (λ o l. agree o) fresh-as)
+      sym (take-append-drop (length (objects_in h)) (contents_in l.values states))
+      ∙ ap (λ (c : Contents). c ++ drop (length (objects_in h)) (contents_in l.values states))
+      (starts-are (objects_in h) h.objects states l.values places t.start (λ o b. agree o) fresh-as)
 
-  pub replay-is : first_wrong (light_history h.objects h.count ls vs answers cs) (is_visible (light_history h.objects h.count ls vs answers cs) who)
-      (contents_in vs states) v
+  same_history : history_in l ≡ record { objects = h.objects; events = map event_of (events_in h) }
+  unfolding history_in
+  same_history = rw (t.objects, t.size, events-are h l t few long)
+
+  pub replay-is : first_wrong (history_in l) (is_visible (history_in l) who) (contents_in l.values states) v
       ≡ first_wrong (history_of h) (is_visible (history_of h) who) (start (history_of h)) v
-  unfolding light_history history_of
+  unfolding history_of
   replay-is =
       let es : List Event = map event_of (events_in h) in
       let k : History = record { objects = objects_in h; events = map event_of (events_in h) } in
-      ap (λ (l : List Event). first_wrong record { objects = h.objects; events = l } (is_visible record { objects = h.objects; events = l } who) (contents_in vs states) v)
-      (events-are h.objects h.events ls vs answers cs h.count lights values answered-as counts few-values few long)
-      ∙ other-objects h.objects (objects_in h) es agree (is_visible record { objects = h.objects; events = es } who) (contents_in vs states) v
-      ∙ same-visible k (is_visible record { objects = h.objects; events = es } who) (is_visible k who) (visible-events h.objects (objects_in h) es who) (contents_in vs states) v
+      ap (λ (x : History). first_wrong x (is_visible x who) (contents_in l.values states) v) same_history
+      ∙ other-objects h.objects (objects_in h) es agree (is_visible record { objects = h.objects; events = es } who) (contents_in l.values states) v
+      ∙ same-visible k (is_visible record { objects = h.objects; events = es } who) (is_visible k who) (visible-events h.objects (objects_in h) es who) (contents_in l.values states) v
       ∙ ap (λ (s : Contents). first_wrong k (is_visible k who) s v) same_start
-      ∙ longer k (is_visible k who) (drop (length (objects_in h)) (contents_in vs states)) (map fresh (objects_in h)) v
+      ∙ longer k (is_visible k who) (drop (length (objects_in h)) (contents_in l.values states)) (map fresh (objects_in h)) v
       (λ e m. omega (arith, named e m, length-map (objects_in h) fresh))
 
 -- ---- what a replay takes for granted is what the reader guarantees
-module _ (h : WrittenHistory.History) (s : Sound h) (ls : List Light) (vs cs : List ℕ) (states : List State) (view : List ℕ) (n : ℕ)
-    (lights : Made (light_of h.objects) no_event no_light h.events ls h.count)
-    (counts : Made (λ (x : WrittenEvent.Event). count_of x.answer) no_event 0 h.events cs h.count)
-    (values-long : length vs ≡ 65)
+module _ (h : WrittenHistory.History) (s : Sound h) (l : LightHistory) (t : TakenApart h l) (states : List State) (view : List ℕ)
     (agree : (o : ℕ) → get_or h.objects o no_object ≡ get_or (objects_in h) o no_object)
     (fresh-as : (o : ℕ) → o < 16 → Fresh (get_or h.objects o no_object) (get_or states o no_state))
     (narrow : (o : ℕ) → keeps (get_or h.objects o no_object).kind (get_or h.objects o no_object).width ≤ 8)
-    (short-view : n ≤ 64)
-    (entries : (i : ℕ) → i < n → get_or view i 0 < h.count) where
+    (short-view : length view ≤ 64)
+    (entries : (i : ℕ) → i < length view → get_or view i 0 < h.count) where
   sound-at : (e : ℕ) → e < h.count → SoundEvent (objects_in h) (get_or h.events e no_event)
-  sound-at e l =
-      let q : get_or (events_in h) e no_event ≡ get_or h.events e no_event = get_or-take h.count h.events e no_event l in
-      rw q at (s.event e l)
+  sound-at e b =
+      let q : get_or (events_in h) e no_event ≡ get_or h.events e no_event = get_or-take h.count h.events e no_event b in
+      rw q at (s.event e b)
 
-  light-at : (e : ℕ) → e < h.count → get_or ls e no_light ≡ light_of h.objects (get_or h.events e no_event)
-  light-at e l = lights e l
+  below : (e : ℕ) → e < l.size → e < h.count
+  below e b = omega (arith, t.size)
 
-  parts-of : SoundParts h.objects h.count ls vs cs
+  parts-of : SoundParts l
   parts-of = record {
-    values = values-long;
-    small = s.count;
-    object = λ e l. rw (light-at e l) (omega (arith, (sound-at e l).declared, s.objects, s.declared));
-    op = λ e l. rw (light-at e l, agree (get_or h.events e no_event).object) (sound-at e l).op;
-    answer = λ e l. rw (counts e l) (count_small (get_or h.events e no_event).answer (sound-at e l).few);
-    silent = λ e l t.
+    values = t.long;
+    small = omega (arith, t.size, s.count);
+    object = λ e b. let a = sound-at e (below e b) in rw (t.lights e (below e b)) (omega (arith, a.declared, s.objects, s.declared));
+    op = λ e b. rw (t.objects, t.lights e (below e b), agree (get_or h.events e no_event).object) (sound-at e (below e b)).op;
+    answer = λ e b f. rw (t.answers e (below e b)) (sound-at e (below e b)).few;
+    silent = λ e b q.
         let x = get_or h.events e no_event in
-        rw (light-at e l, counts e l)
-        (silent-right (get_or h.objects x.object no_object) x.op x.answer (rw (light-at e l) at t));
+        rw (t.objects, t.lights e (below e b), t.answers e (below e b))
+        (silent-right (get_or h.objects x.object no_object) x.op x.answer (rw (t.lights e (below e b)) at q));
   }
 
-  pub ready_of : Ready h.objects h.count ls vs cs states view n
+  pub ready_of : Ready l states view
   ready_of = record {
     parts = parts-of;
     short = short-view;
-    event = entries;
-    start = λ o l. fresh-stands (get_or h.objects o no_object) (get_or states o no_state) (narrow o) (fresh-as o l);
+    event = λ i b. omega (arith, entries i b, t.size);
+    start = λ o b. rw t.objects (fresh-stands (get_or h.objects o no_object) (get_or states o no_state) (narrow o) (fresh-as o b));
   }

@@ -3,15 +3,19 @@ use Prim.Native.Nat.{ℕ, zero, suc, ◌+◌, ◌≤◌, ◌<◌}
 use native.Mathlib.Numerals.{add-one}
 use native.Mathlib.Omega.{arith}
 use native.Mathlib.Decide.{ℕ_discrete}
-use mathlib.Core.Path.{◌≡◌, refl, ap, sym, subst, ◌∙◌}
-use mathlib.Core.Bool.{Bool, true, false, not, ◌&&◌, true≢false}
+use mathlib.Core.Path.{◌≡◌, refl, ap, ap₂, sym, subst, ◌∙◌}
+use mathlib.Core.Bool.{Bool, true, false, not, ◌&&◌, true≢false, false≢true}
 use mathlib.Core.List.{List, [], ◌∷◌, ◌++◌, map}
-use mathlib.Core.Option.{Option, none, some}
-use borrow.Author.Tests.{eq-eqb, ne_eqb, lt-ltb}
-use lib.ListN.{length, take, drop, get_or, set, length-map, get_or-map}
-use lib.Seq.{slice, slice-cons, slice_empty, length-take-le, get_or-set_same, get_or-set_other}
+use mathlib.Core.Option as math
+use mathlib.Core.Option.{Option}
+use Rattle.std.proofs.lemmas.List.{drop_more, drop_all}
+use Rattle.std.proofs.lemmas.Bool.Decides.{same_from_decides}
+use Rattle.std.specs.Bool.{Decides}
+use borrow.Author.Tests.{eq-eqb, eqb-true}
+use lib.ListN.{length, take, drop, get_or, set, length-map, length-set, get_or-map}
+use lib.Seq.{get_or-set_same, get_or-set_other, set-get_or}
 use lib.Dec.{eqb}
-use Rattle.layout.proofs.Cases.{and_right, and-false}
+use Rattle.layout.proofs.Cases.{and_left, and_right, and-false}
 use Rattle.history.specs.declared.record.Kind.{Kind}
 use Rattle.history.specs.declared.record.Kind.TheVariants.{Register, Queue, Stack, Window, Channel}
 use Rattle.history.specs.declared.record.Object.{Object}
@@ -30,9 +34,10 @@ use Rattle.objects.specs.declared.state.State.{State}
 use Rattle.objects.specs.declared.state.Given.{Given}
 use Rattle.objects.specs.State.{value_in, contents_of, given_of, Fresh, Suits, Changed, Answered}
 use Rattle.objects.specs.State.{no_state}
-use Rattle.history.specs.Record.{no_object}
-use Rattle.replays.specs.Replay.{recorded_as, no_light, event_at, light_history, contents_in, is_visible, found_event, Stands, Silent}
-use Rattle.replays.specs.Steps.{sees_of, Judged}
+use Rattle.history.specs.Record.{no_object, recorded_in}
+use Rattle.replays.specs.Replay.{no_light, unused_answer, event_in, history_in, contents_in, is_visible, Stands, SoundParts, Ready}
+use Rattle.replays.specs.Steps.{sees_of}
+use Rattle.replays.specs.declared.light.LightHistory.{LightHistory}
 use Rattle.replays.specs.declared.replay.Light.{Light}
 use Rattle.replays.specs.declared.replay.Visible.{Visible}
 use Rattle.replays.specs.declared.replay.Visible.TheVariants.{All, Of, Only}
@@ -43,68 +48,18 @@ past_end [] k le = refl
 past_end (x ∷ xs) zero le = absurd (omega (arith, le))
 past_end (x ∷ xs) (suc k) le = past_end xs k (omega (arith, le))
 
-same_length : (xs ys : List ℕ) → (length xs ≡ length ys → ⊥) → same_list xs ys ≡ false
-same_length [] [] ne = absurd (ne refl)
-same_length [] (y ∷ ys) ne = refl
-same_length (x ∷ xs) [] ne = refl
-same_length (x ∷ xs) (y ∷ ys) ne = rw (same_length xs ys (λ e. ne (ap suc e))) (and-false (eqb x y))
-
--- ---- two answers: what is left to compare from place i on
-abbrev pub rest : List ℕ → List ℕ → List ℕ → ℕ → ℕ → Bool
-rest vs xs ks n i = same_list (slice i n xs) (map (value_in vs) (slice i n ks))
-
-module _ (vs xs : List ℕ) (g : Given) (n : ℕ) (lx : length xs ≡ 8) (lk : length g.numbers ≡ 8) (sn : n ≤ 8) (sg : g.count ≤ 8) where
-  pub same-counts : (g.count ≡ n → ⊥) → same_list (take n xs) (given_of vs g) ≡ false
-  unfolding given_of
-  same-counts ne =
-      let za : length (take n xs) ≡ n = length-take-le n xs (omega (arith, lx, sn)) in
-      let zb : length (take g.count g.numbers) ≡ g.count = length-take-le g.count g.numbers (omega (arith, lk, sg)) in
-      same_length (take n xs) (map (value_in vs) (take g.count g.numbers))
-      (λ e. ne (sym zb ∙ sym (length-map (take g.count g.numbers) (value_in vs)) ∙ sym e ∙ za))
-
-  pub same-starts : g.count ≡ n → same_list (take n xs) (given_of vs g) ≡ rest vs xs g.numbers g.count 0
-  unfolding given_of
-  same-starts e = ap (λ (k : ℕ). same_list (take k xs) (map (value_in vs) (take g.count g.numbers))) (sym e)
-
-  same_turn : (i : ℕ) → i < g.count
-      → rest vs xs g.numbers g.count i ≡ eqb (get_or xs i 0) (value_in vs (get_or g.numbers i 0)) && rest vs xs g.numbers g.count (i + 1)
-  same_turn i lt = rw (add-one, slice-cons i g.count xs 0 lt (omega (arith, lx, sg)), slice-cons i g.count g.numbers 0 lt (omega (arith, lk, sg)))
-
-  pub same_differs : (i v : ℕ) → i < g.count → v ≡ value_in vs (get_or g.numbers i 0) → (get_or xs i 0 ≡ v → ⊥) → rest vs xs g.numbers g.count i ≡ false
-  same_differs i v lt e ne = same_turn i lt ∙ rw (ne_eqb _ _ (λ q. ne (q ∙ sym e)))
-
-  pub same-agrees : (i v : ℕ) → i < g.count → v ≡ value_in vs (get_or g.numbers i 0) → get_or xs i 0 ≡ v → rest vs xs g.numbers g.count i ≡ rest vs xs g.numbers g.count (i + 1)
-  same-agrees i v lt e q = same_turn i lt ∙ rw (eq-eqb _ _ (q ∙ e))
-
-  pub same_ends : (i : ℕ) → i ≡ g.count → rest vs xs g.numbers g.count i ≡ true
-  same_ends i e = rw (e, slice_empty g.count xs, slice_empty g.count g.numbers)
-
--- ---- one event's test
-module _ (silent : Bool) (vs : List ℕ) (answer : Option (List ℕ)) (s : State) (op : Op) (number : ℕ) where
-  pub judged-given : {b : Bool} (g : Given) → Answered s op number g → b ≡ fits answer (given_of vs g)
-      → Judged silent true vs answer s op number (not b)
-  unfolding Judged
-  judged-given g g' q o suits few silent-fits = rw (q, g'.values vs o suits few)
-
-module _ (silent seen : Bool) (vs : List ℕ) (answer : Option (List ℕ)) (s : State) (op : Op) (number : ℕ) where
-  pub judged-seen : {d b : Bool} → seen ≡ true → Judged silent true vs answer s op number d → d ≡ b → Judged silent seen vs answer s op number b
-  unfolding Judged
-  judged-seen t j q o suits few silent-fits = rw t (sym q ∙ j o suits few silent-fits)
-
-  pub judged-unseen : seen ≡ false → Judged silent seen vs answer s op number false
-  unfolding Judged
-  judged-unseen f o suits few silent-fits = rw f
-
-  module _ {a : Bool} (asked : a ≡ not silent && seen) where
-    pub judged-asked : {d b : Bool} → a ≡ true → Judged silent true vs answer s op number d → d ≡ b → Judged silent seen vs answer s op number b
-    judged-asked t = judged-seen (and_right (not silent) seen (sym asked ∙ t))
-
-    pub judged-unasked : a ≡ false → Judged silent seen vs answer s op number false
-    unfolding Judged
-    judged-unasked f o suits few silent-fits =
-        by-test silent
-        (λ q. rw (silent-fits q (contents_of vs s)) (sym (and-false seen)))
-        (λ q. let z : seen ≡ false = rw q at (sym asked ∙ f) in rw z)
+pub same-decides : {b : Bool} {xs ys : List ℕ} → Decides b (xs ≡ ys) → b ≡ same_list xs ys
+same-decides {b} {xs} {ys} d = same_from_decides b (same_list xs ys) d (list-decides xs ys)
+  where
+    list-decides : (xs ys : List ℕ) → Decides (same_list xs ys) (xs ≡ ys)
+    list-decides [] [] = (λ _. refl, λ _. refl)
+    list-decides [] (y ∷ ys) = (λ t. absurd (false≢true t), λ e. cc)
+    list-decides (x ∷ xs) [] = (λ t. absurd (false≢true t), λ e. cc)
+    list-decides (x ∷ xs) (y ∷ ys) =
+        let d = list-decides xs ys in (
+          λ t. ap₂ (λ (z : ℕ) (zs : List ℕ). z ∷ zs) (eqb-true x y (and_left (eqb x y) (same_list xs ys) t)) (d.0 (and_right (eqb x y) (same_list xs ys) t)),
+          λ e. let h : x ≡ y = cc in let t : xs ≡ ys = cc in rw (eq-eqb x y h) (d.1 t),
+        )
 
 -- an op that changes nothing leaves the state as it is
 pub unchanged : (s : State) (op : Op) (e : ℕ) → is_update op ≡ false → s.head ≤ s.tail → Changed s op e s
@@ -214,77 +169,161 @@ pub get_or-contents : (vs : List ℕ) (states : List State) (o : ℕ) → get_or
 get_or-contents vs states o =
     ap (λ (d : List ℕ). get_or (map (contents_of vs) states) o d) (sym (no-contents vs)) ∙ get_or-map (contents_of vs) states o no_state
 
--- an event of the history that was taken apart
-pub event-at : (os : List Object) (size : ℕ) (ls : List Light) (vs : List ℕ) (answers : List (List ℕ)) (cs : List ℕ) (x : ℕ) → x < size
-    → event (light_history os size ls vs answers cs) x ≡ event_at ls vs answers cs x
-unfolding light_history
-event-at os size ls vs answers cs x lt = get_or-table size (event_at ls vs answers cs) x _ lt
+-- ---- one event of a history that was taken apart
+module _ (h : LightHistory) where
+  pub event-at : (x : ℕ) → x < h.size → event (history_in h) x ≡ event_in h x
+  unfolding history_in
+  event-at x lt = get_or-table h.size (event_in h) x _ lt
 
-module _ (os : List Object) (size : ℕ) (ls : List Light) (vs : List ℕ) (answers : List (List ℕ)) (cs : List ℕ) (who : Visible) where
-  -- the first wrong answer of what is left of a view
-  unfoldable pub wrong_in : List State → List ℕ → Option ℕ
-  wrong_in states view = first_wrong (light_history os size ls vs answers cs) (is_visible (light_history os size ls vs answers cs) who) (contents_in vs states) view
+  visible-at : (who : Visible) (x : ℕ) → x < h.size → is_visible (history_in h) who x ≡ sees_of who (get_or h.events x no_light).process.0 x
+  visible-at All x lt = refl
+  visible-at (Of p) x lt = ap (λ (e : Event). eqb e.process p.0) (event-at x lt)
+  visible-at (Only f) x lt = refl
 
-  -- what is said of it is said of the definition
-  pub whole : (states : List State) (view : List ℕ) {r : Option ℕ} → wrong_in states view ≡ r
-      → first_wrong (light_history os size ls vs answers cs) (is_visible (light_history os size ls vs answers cs) who) (contents_in vs states) view ≡ r
-  unfolding wrong_in
-  whole states view e = e
+  -- event x, of the object o
+  module _ (parts : SoundParts h) {x o : ℕ} (lt : x < h.size) (on : o ≡ (get_or h.events x no_light).object) where
+    pub place-of : x < 64
+    place-of = omega (arith, parts.small)
 
-  module _ (states : List State) (x : ℕ) (lt : x < size) where
-    visible-at : (w : Visible) → is_visible (light_history os size ls vs answers cs) w x ≡ sees_of w (get_or ls x no_light).process.0 x
-    visible-at All = refl
-    visible-at (Of p) = ap (λ (e : Event). eqb e.process p.0) (event-at os size ls vs answers cs x lt)
-    visible-at (Only f) = refl
+    pub object-of : o < 16
+    object-of = rw on (parts.object x lt)
 
-    right-at : right (light_history os size ls vs answers cs) (contents_in vs states) x
-        ≡ fits (recorded_as (get_or cs x 0) (get_or answers x [])) (gives (get_or os (get_or ls x no_light).object no_object) (get_or ls x no_light).op (value_in vs x) (contents_of vs (get_or states (get_or ls x no_light).object no_state)))
-    unfolding right light_history
-    right-at =
-        ap (λ (e : Event). fits e.answer (gives (get_or os e.object no_object) e.op e.value (get_or (contents_in vs states) e.object []))) (event-at os size ls vs answers cs x lt)
-        ∙ ap (λ (l : List ℕ). fits (recorded_as (get_or cs x 0) (get_or answers x [])) (gives (get_or os (get_or ls x no_light).object no_object) (get_or ls x no_light).op (value_in vs x) l)) (get_or-contents vs states (get_or ls x no_light).object)
+    pub has-its-op : has_op (get_or h.objects o no_object).kind (get_or h.events x no_light).op ≡ true
+    has-its-op = rw on (parts.op x lt)
 
-    module _ (t : State) (m : ℕ) (st : Stands (get_or os (get_or ls x no_light).object no_object) m (get_or states (get_or ls x no_light).object no_state))
-        (has : has_op (get_or os (get_or ls x no_light).object no_object).kind (get_or ls x no_light).op ≡ true)
-        (c : Changed (get_or states (get_or ls x no_light).object no_state) (get_or ls x no_light).op x t) where
-      changed-at : changed (light_history os size ls vs answers cs) (contents_in vs states) x ≡ contents_in vs (set states (get_or ls x no_light).object t)
-      unfolding light_history
-      changed-at =
-          let o = (get_or ls x no_light).object in
-          let ob = get_or os o no_object in
-          ap (λ (e : Event). set (contents_in vs states) e.object (after (get_or os e.object no_object) e.op e.value (get_or (contents_in vs states) e.object []))) (event-at os size ls vs answers cs x lt)
-          ∙ ap (λ (l : List ℕ). set (contents_in vs states) o (after ob (get_or ls x no_light).op (value_in vs x) l)) (get_or-contents vs states o)
-          ∙ ap (λ (l : List ℕ). set (contents_in vs states) o l) (sym (c.contents vs ob (suits ob m (get_or states o no_state) st (get_or ls x no_light).op has)))
-          ∙ sym (map-set (contents_of vs) states o t)
+    -- what its object answers and what it holds after the event, where that object's state stands
+    module _ {m : ℕ} {s : State} (stands : Stands (get_or h.objects o no_object) m s) where
+      pub given-is : (g : Given) → Answered s (get_or h.events x no_light).op x g
+          → given_of h.values g ≡ gives (get_or h.objects o no_object) (get_or h.events x no_light).op (value_in h.values x) (contents_of h.values s)
+      given-is g a =
+          a.values h.values (get_or h.objects o no_object) (suits (get_or h.objects o no_object) m s stands (get_or h.events x no_light).op has-its-op)
+          (few-read (get_or h.objects o no_object) m s stands (get_or h.events x no_light).op has-its-op h.values)
 
-  -- at a place of a view: the loop goes on, or ends here
-  module _ (states : List State) (view : List ℕ) (n i : ℕ) (i_lt : i < n) (le : n ≤ length view) (lt : get_or view i 0 < size) (w : Bool) (m : ℕ)
-      (st : Stands (get_or os (get_or ls (get_or view i 0) no_light).object no_object) m (get_or states (get_or ls (get_or view i 0) no_light).object no_state))
-      (has : has_op (get_or os (get_or ls (get_or view i 0) no_light).object no_object).kind (get_or ls (get_or view i 0) no_light).op ≡ true)
-      (silent-fits : (get_or ls (get_or view i 0) no_light).silent ≡ true → Silent (get_or os (get_or ls (get_or view i 0) no_light).object no_object) (get_or ls (get_or view i 0) no_light).op (get_or cs (get_or view i 0) 0))
-      (judged : Judged (get_or ls (get_or view i 0) no_light).silent (sees_of who (get_or ls (get_or view i 0) no_light).process.0 (get_or view i 0)) vs (recorded_as (get_or cs (get_or view i 0) 0) (get_or answers (get_or view i 0) [])) (get_or states (get_or ls (get_or view i 0) no_light).object no_state) (get_or ls (get_or view i 0) no_light).op (get_or view i 0) w) where
-    test_at : is_visible (light_history os size ls vs answers cs) who (get_or view i 0) && not (right (light_history os size ls vs answers cs) (contents_in vs states) (get_or view i 0)) ≡ w
-    unfolding Judged
-    test_at =
-        let x = get_or view i 0 in
-        let ob = get_or os (get_or ls x no_light).object no_object in
-        let s = get_or states (get_or ls x no_light).object no_state in
-        rw (visible-at states x lt who, right-at states x lt)
-        (sym (judged ob (suits ob m s st (get_or ls x no_light).op has) (few-read ob m s st (get_or ls x no_light).op has vs)
-        (λ t c. silent-fits t (value_in vs x) (get_or answers x []) c)))
+      pub contents-after : (t : State) → Changed s (get_or h.events x no_light).op x t
+          → after (get_or h.objects o no_object) (get_or h.events x no_light).op (value_in h.values x) (contents_of h.values s) ≡ contents_of h.values t
+      contents-after t c =
+          sym (c.contents h.values (get_or h.objects o no_object) (suits (get_or h.objects o no_object) m s stands (get_or h.events x no_light).op has-its-op))
 
-    pub turn-stops : w ≡ true → wrong_in states (slice i n view) ≡ some (get_or view i 0)
-    unfolding wrong_in
-    turn-stops q = rw (slice-cons i n view 0 i_lt le, test_at, q)
+-- ---- the replay's loop
+-- the first wrong answer of what is left of a view
+unfoldable pub wrong_from : LightHistory → Visible → List State → List ℕ → Option ℕ
+wrong_from h who states view = first_wrong (history_in h) (is_visible (history_in h) who) (contents_in h.values states) view
 
-    pub turn_on : w ≡ false → (t : State) → Changed (get_or states (get_or ls (get_or view i 0) no_light).object no_state) (get_or ls (get_or view i 0) no_light).op (get_or view i 0) t
-        → wrong_in states (slice i n view) ≡ wrong_in (set states (get_or ls (get_or view i 0) no_light).object t) (slice (i + 1) n view)
-    unfolding wrong_in
-    turn_on q t c = rw (add-one, slice-cons i n view 0 i_lt le, test_at, q, changed-at states (get_or view i 0) lt t m st has c)
+-- Nothing is wrong in the first i entries of the view: each object's state stands, and what is left says what the whole view says.
+pub record Passed (h : LightHistory) (starts : List State) (view : List ℕ) (who : Visible) (i : ℕ) (states : List State) : Type 0 where
+  pub places : length states ≡ 16
+  pub stand : AllStand h.objects i states
+  pub same : wrong_from h who starts view ≡ wrong_from h who states (drop i view)
 
-  pub view-ends : (states : List State) (view : List ℕ) (n i : ℕ) → i ≡ n → wrong_in states (slice i n view) ≡ none
-  unfolding wrong_in
-  view-ends states view n i q = rw (q, slice_empty n view)
+module _ {h : LightHistory} {starts : List State} {view : List ℕ} {who : Visible} (r : Ready h starts view) where
+  pub none-passed : length starts ≡ 16 → Passed h starts view who 0 starts
+  none-passed long = record { places = long; stand = r.start; same = refl }
 
-pub found_some : (e : ℕ) → e < 64 → found_event e ≡ some e
-found_some e lt = rw (lt-ltb e 64 lt)
+  pub all-passed : {states : List State} {i : ℕ} → i ≡ length view → Passed h starts view who i states
+      → math.none ≡ first_wrong (history_in h) (is_visible (history_in h) who) (contents_in h.values starts) view
+  unfolding wrong_from
+  all-passed {states} {i} e p = sym (p.same ∙ ap (wrong_from h who states) (drop_all i view (omega arith)))
+
+  -- entry i of the view: event x, of the object o
+  module _ {i : ℕ} {states : List State} (p : Passed h starts view who i states) (lt : i < length view)
+      {x o : ℕ} (is : x ≡ get_or view i 0) (on : o ≡ (get_or h.events x no_light).object) where
+    is-event : x < h.size
+    is-event = rw is (r.event i lt)
+
+    abbrev light : Light
+    light = get_or h.events x no_light
+
+    its-state : Stands (get_or h.objects o no_object) i (get_or states o no_state)
+    its-state = p.stand o (object-of h r.parts is-event on)
+
+    left : drop i view ≡ x ∷ drop (i + 1) view
+    left = drop_more view i 0 lt ∙ ap (λ (k : ℕ). k ∷ drop (i + 1) view) (sym is)
+
+    -- what the check asks of the event
+    abbrev wrong-here : Bool
+    wrong-here = is_visible (history_in h) who x && not (right (history_in h) (contents_in h.values states) x)
+
+    right-here : right (history_in h) (contents_in h.values states) x
+        ≡ fits (recorded_in (get_or h.answers x unused_answer)) (gives (get_or h.objects o no_object) light.op (value_in h.values x) (contents_of h.values (get_or states o no_state)))
+    unfolding right history_in
+    right-here =
+        rw on (ap (λ (e : Event). fits e.answer (gives (get_or h.objects e.object no_object) e.op e.value (get_or (contents_in h.values states) e.object [])))
+        (event-at h x is-event)
+        ∙ ap (λ (l : List ℕ). fits (recorded_in (get_or h.answers x unused_answer)) (gives (get_or h.objects light.object no_object) light.op (value_in h.values x) l))
+        (get_or-contents h.values states light.object))
+
+    -- an event that was not asked is right, or not visible
+    unasked : not light.silent && sees_of who light.process.0 x ≡ false → wrong-here ≡ false
+    unasked f =
+        by-test light.silent
+        (λ t. rw (right-here, silent-right t) (and-false (is_visible (history_in h) who x)))
+        (λ t. let z : sees_of who light.process.0 x ≡ false = rw t at f in rw (visible-at h who x is-event, z))
+      where
+        silent-right : light.silent ≡ true
+            → fits (recorded_in (get_or h.answers x unused_answer)) (gives (get_or h.objects o no_object) light.op (value_in h.values x) (contents_of h.values (get_or states o no_state))) ≡ true
+        silent-right t = rw on (r.parts.silent x is-event t (value_in h.values x) (contents_of h.values (get_or states light.object no_state)))
+
+    -- one that was asked is wrong where its answer is not the given one
+    asked : {b : Bool} (g : Given) → sees_of who light.process.0 x ≡ true → Answered (get_or states o no_state) light.op x g
+        → b ≡ fits (recorded_in (get_or h.answers x unused_answer)) (given_of h.values g) → wrong-here ≡ not b
+    asked g seen a q = rw (visible-at h who x is-event, seen, right-here, q, given-is h r.parts is-event on its-state g a)
+
+    stops : wrong-here ≡ true → math.some x ≡ first_wrong (history_in h) (is_visible (history_in h) who) (contents_in h.values starts) view
+    unfolding wrong_from
+    stops q = sym (p.same ∙ ap (wrong_from h who states) left ∙ rw q)
+
+    changed-at : (t : State) → Changed (get_or states o no_state) light.op x t
+        → changed (history_in h) (contents_in h.values states) x ≡ contents_in h.values (set states o t)
+    unfolding history_in
+    changed-at t c =
+        rw on at-object
+        ∙ ap (set (contents_in h.values states) o) (contents-after h r.parts is-event on its-state t c)
+        ∙ sym (map-set (contents_of h.values) states o t)
+      where
+        at-object : changed (history_in h) (contents_in h.values states) x
+            ≡ set (contents_in h.values states) light.object (after (get_or h.objects light.object no_object) light.op (value_in h.values x) (contents_of h.values (get_or states light.object no_state)))
+        at-object =
+            ap (λ (e : Event). set (contents_in h.values states) e.object (after (get_or h.objects e.object no_object) e.op e.value (get_or (contents_in h.values states) e.object [])))
+            (event-at h x is-event)
+            ∙ ap (λ (l : List ℕ). set (contents_in h.values states) light.object (after (get_or h.objects light.object no_object) light.op (value_in h.values x) l))
+            (get_or-contents h.values states light.object)
+
+    goes-on : wrong-here ≡ false → (t : State) → Changed (get_or states o no_state) light.op x t → Passed h starts view who (i + 1) (set states o t)
+    unfolding wrong_from
+    goes-on q t c = record {
+      places = length-set states o t ∙ p.places;
+      stand = all-on h.objects i states o t p.places p.stand
+          (stands_on (get_or h.objects o no_object) i (get_or states o no_state) its-state light.op (has-its-op h r.parts is-event on) x t c);
+      same = p.same ∙ ap (wrong_from h who states) left ∙ rw (q, changed-at t c);
+    }
+
+    -- the way out, and the three ways on; the code names the event by the entry, and its places by x
+    abbrev number : ℕ
+    number = get_or view i 0
+
+    is-asked : not light.silent && sees_of who light.process.0 number ≡ true → sees_of who light.process.0 x ≡ true
+    is-asked q = and_right (not light.silent) (sees_of who light.process.0 x) (rw (sym is) at q)
+
+    pub asked-wrong : (g : Given) → not light.silent && sees_of who light.process.0 number ≡ true → Answered (get_or states o no_state) light.op number g
+        → false ≡ fits (recorded_in (get_or h.answers x unused_answer)) (given_of h.values g)
+        → math.some number ≡ first_wrong (history_in h) (is_visible (history_in h) who) (contents_in h.values starts) view
+    asked-wrong g q a f =
+        ap math.some (sym is) ∙ stops (asked g (is-asked q) (subst (λ (k : ℕ). Answered (get_or states o no_state) light.op k g) (sym is) a) f)
+
+    changed-as : {t : State} → Changed (get_or states o no_state) light.op number t → Changed (get_or states o no_state) light.op x t
+    changed-as {t} c = subst (λ (k : ℕ). Changed (get_or states o no_state) light.op k t) (sym is) c
+
+    pub asked-right : (g : Given) (t : State) → not light.silent && sees_of who light.process.0 number ≡ true → Answered (get_or states o no_state) light.op number g
+        → true ≡ fits (recorded_in (get_or h.answers x unused_answer)) (given_of h.values g)
+        → Changed (get_or states o no_state) light.op number t → Passed h starts view who (i + 1) (set states o t)
+    asked-right g t q a f c =
+        goes-on (asked g (is-asked q) (subst (λ (k : ℕ). Answered (get_or states o no_state) light.op k g) (sym is) a) f) t (changed-as c)
+
+    pub unasked-changes : (t : State) → not light.silent && sees_of who light.process.0 number ≡ false
+        → Changed (get_or states o no_state) light.op number t → Passed h starts view who (i + 1) (set states o t)
+    unasked-changes t q c = goes-on (unasked (rw (sym is) at q)) t (changed-as c)
+
+    pub unasked-still : not light.silent && sees_of who light.process.0 number ≡ false → is_update light.op ≡ false → Passed h starts view who (i + 1) states
+    unasked-still q still =
+        subst (Passed h starts view who (i + 1)) (set-get_or states o no_state)
+        (goes-on (unasked (rw (sym is) at q)) (get_or states o no_state) (unchanged (get_or states o no_state) light.op x still its-state.ends))

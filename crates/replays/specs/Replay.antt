@@ -6,7 +6,7 @@ use Rattle.history.specs.declared.record.Op.{Op}
 use Rattle.history.specs.declared.record.Op.TheVariants.{Write}
 use Rattle.history.specs.declared.record.Object.{Object}
 use Rattle.history.specs.declared.record.Answer.{Answer}
-use Rattle.history.specs.Record.{no_object, no_answer, recorded_in}
+use Rattle.history.specs.Record.{no_object, recorded_in}
 use Rattle.history.specs.Kinds.{is_shelf, has_op}
 use Rattle.criteria.specs.Tests.{table}
 use Rattle.criteria.specs.Object.{keeps, gives}
@@ -23,6 +23,9 @@ use Rattle.replays.specs.declared.replay.Visible.TheVariants.{All, Of, Only}
 abbrev pub no_light : Light
 no_light = record { process = record { 0 = 0 }; object = 0; op = Write; silent = false }
 
+abbrev pub unused_answer : Answer
+unused_answer = record { lost = false; count = 0; values = [] }
+
 -- Event e: the light record has its process, object and op; its value and its answer stand beside.
 abbrev pub event_in : LightHistory → ℕ → Event
 event_in h e =
@@ -31,7 +34,7 @@ event_in h e =
       object = (get_or h.events e no_light).object;
       op = (get_or h.events e no_light).op;
       value = get_or h.values e 0;
-      answer = recorded_in (get_or h.answers e no_answer);
+      answer = recorded_in (get_or h.answers e unused_answer);
     }
 
 -- The history that was taken apart: its first events, as many as it has, and its objects.
@@ -75,9 +78,9 @@ pub record SoundParts (h : LightHistory) : Type 0 where
   pub small : h.size ≤ 64
   pub object : (e : ℕ) → e < h.size → (get_or h.events e no_light).object < 16
   pub op : (e : ℕ) → e < h.size → has_op (get_or h.objects (get_or h.events e no_light).object no_object).kind (get_or h.events e no_light).op ≡ true
-  pub answer : (e : ℕ) → e < h.size → (get_or h.answers e no_answer).lost ≡ false → (get_or h.answers e no_answer).count ≤ 8
+  pub answer : (e : ℕ) → e < h.size → (get_or h.answers e unused_answer).lost ≡ false → (get_or h.answers e unused_answer).count ≤ 8
   pub silent : (e : ℕ) → e < h.size → (get_or h.events e no_light).silent ≡ true
-      → Silent (get_or h.objects (get_or h.events e no_light).object no_object) (get_or h.events e no_light).op (get_or h.answers e no_answer)
+      → Silent (get_or h.objects (get_or h.events e no_light).object no_object) (get_or h.events e no_light).op (get_or h.answers e unused_answer)
 
 -- What the replay of a view takes for granted: the parts are sound, the view has at most 64 entries, all of them events, and each
 -- object's state stands before any event.

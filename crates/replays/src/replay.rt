@@ -1,5 +1,5 @@
 // The replay of a view: the first event whose visible answer the objects do not give.
-ghost use Rattle.std.specs.Prelude.{◌≡◌, ◌≤◌, false, length, map};
+ghost use Rattle.std.specs.Prelude.{◌≡◌, ◌≤◌, false, not, ◌&&◌, length, map, Decides};
 ghost use Rattle.history.specs.Record.{recorded_in};
 ghost use Rattle.criteria.specs.Check.{fits, first_wrong};
 ghost use Rattle.criteria.specs.OneLine.{is_update};
@@ -51,13 +51,17 @@ fn value(values: &[Value; 65], number: u8) -> Value
 // Whether the values are those of the events with these numbers, one by one.
 fn same_values(values: &[Value; 65], answer: &[Value], numbers: &[u8]) -> bool
     requires { length values.now ≡ 65 }
-    ensures { result ≡ same_list answer.now (map (value_in values.now) numbers.now) }
+    ensures { Decides result (answer.now ≡ map (value_in values.now) numbers.now) }
 {
-    answer.len() == numbers.len()
-        && answer
-            .iter()
-            .zip(numbers)
-            .all(|(v, number)| *v == value(values, *number))
+    if answer.len() != numbers.len() {
+        return false;
+    }
+    for (i, number) in numbers.iter().enumerate() {
+        if answer[i] != value(values, *number) {
+            return false;
+        }
+    }
+    true
 }
 
 // Whether the recorded answer is what the state gives; one that was lost fits whatever it gives.
@@ -80,6 +84,13 @@ pub fn changes(op: Op) -> bool
     matches!(op, Op::Write | Op::Push | Op::Pop)
 }
 
+// Whether the state has to be asked for an event's answer: it is visible, and not right whatever the object holds.
+fn asks(who: Visible, e: Light, no: EventNo) -> bool
+    ensures { result ≡ not e.silent && sees_of who e.process.0 no.0 }
+{
+    !e.silent && sees(who, e.process, no)
+}
+
 // The first event of the view whose visible answer the replay does not give.
 pub fn replay(
     history: &LightHistory,
@@ -97,7 +108,7 @@ pub fn replay(
         let e = history.events[at];
         let o = usize::from(e.object);
         let event = EventOp { no, op: e.op };
-        if !e.silent && sees(who, e.process, no) {
+        if asks(who, e, no) {
             let step = states[o].step(event);
             if !fits_given(&history.values, &history.answers[at], &step.answer) {
                 return Some(no);

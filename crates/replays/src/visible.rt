@@ -3,6 +3,8 @@ ghost use Rattle.std.specs.Prelude.{◌≡◌, ℕ, ◌<◌, get_or};
 ghost use Rattle.replays.specs.Visible.{visible_in, visible_at};
 ghost use Rattle.replays.specs.Visible.{no_visible};
 
+use core::array;
+
 use crate::replay::{Light, Visible};
 use certificate::record::Criterion;
 use history::record::{EventNo, ProcessNo};
@@ -25,15 +27,5 @@ fn visible_in(c: Criterion, number: u8, process: ProcessNo, k: u8) -> Visible
 pub fn visible_views(c: Criterion, numbers: [u8; 64], events: [Light; 64]) -> [Visible; 64]
     ensures { (k : ℕ) → k < 64 → get_or result k no_visible ≡ visible_at c numbers events k }
 {
-    let b = Visible::All;
-    let mut views = [b; 64];
-    let mut k: usize = 0;
-    while k < 64 {
-        let e = events[k];
-        let process = e.process;
-        let v = visible_in(c, numbers[k], process, k as u8);
-        views[k] = v;
-        k += 1;
-    }
-    views
+    array::from_fn(|k| visible_in(c, numbers[k], events[k].process, k as u8))
 }
