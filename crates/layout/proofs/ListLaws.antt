@@ -138,6 +138,18 @@ module _ (bound max : ℕ) where
       → places_from bound max (Ok 0) ps xs ≡ fill (leading bound max ps) xs
   places-are ps xs h = places-listed 0 max ps xs (zero-add max) h ∙ fill_at-zero (leading bound max ps) xs
 
+-- ---- a turn of the loop that reads items: p is the next one, and its answer q and the places ys are taken up
+module _ (bound max : ℕ) (r : Result ℕ ListFault) (xs p : List ℕ) (fs : List (List ℕ)) (h : length xs ≡ max)
+    (q : Result ℕ ListFault) (read : q ≡ pushed bound (length xs) r p) (ys : List ℕ) (held : ys ≡ kept bound r p xs) where
+  pub turn-more : (ps : List (List ℕ)) → fs ≡ p ∷ ps
+      → (answer_from bound max r fs ≡ answer_from bound max q ps) × (places_from bound max r fs xs ≡ places_from bound max q ps ys)
+  unfolding answer_from places_from
+  turn-more ps e = rw (e, read, held, h) (refl, refl)
+
+  pub turn_last : fs ≡ p ∷ [] → (answer_from bound max r fs ≡ q) × (places_from bound max r fs xs ≡ ys)
+  unfolding answer_from places_from
+  turn_last e = rw (e, read, held, h) (refl, refl)
+
 leading-empty : (bound max : ℕ) → leading bound max [] ≡ []
 unfolding leading
 leading-empty bound zero = refl
