@@ -3,5 +3,6 @@
 #![tactic(auto)]
 
 pub mod line;
+mod order;
 pub mod record;
 pub mod updates;

@@ -5,78 +5,62 @@ ghost use Rattle.criteria.specs.OneLine.{tally, by_place};
 ghost use Rattle.orders.specs.Rows.{in_row};
 ghost use Rattle.one_line.specs.Steps.{place_in};
 
+use crate::order::Order;
 use certificate::list::no_list;
 use certificate::record::EventList;
 use orders::sets::{both, in_row};
-use orders::views::one_if;
 
 // How many events are in a row.
-fn count_of(row: u64) -> usize
+fn count_of(row: u64) -> u8
     ensures { (result ≡ tally 64 (in_row row)) × (result ≤ 64) }
 {
-    let mut count: usize = 0;
-    let mut e = 0;
-    while e < 64 {
-        count += one_if(in_row(row, e));
-        e += 1;
-    }
-    count
+    row.count_ones() as u8
 }
 
 // The place of event e: behind the updates of its past, one further if it is an update itself.
-fn place_of(rows: &[u64; 64], updates: u64, e: usize) -> u8
+fn place_of(order: &Order, e: usize) -> u8
     requires { e < 64 }
-    ensures { result ≡ place_in rows.now updates e }
+    ensures { result ≡ place_in order.now.pasts order.now.updates e }
 {
-    let past = rows[e];
-    let seen = both(past, updates);
-    let before = count_of(seen);
-    let own = one_if(in_row(updates, e));
-    (before + before + own) as u8
+    let before = count_of(both(order.pasts[e], order.updates));
+    let own = u8::from(in_row(order.updates, e));
+    2 * before + own
 }
 
-// The places of the first n events.
-pub(crate) fn places_of(rows: &[u64; 64], updates: u64, n: usize) -> [u8; 64]
-    requires { n ≤ 64 }
-    ensures { (length result ≡ 64) × ((e : ℕ) → e < n → get_or result e 0 ≡ place_in rows.now updates e) }
+// The places of the events.
+pub(crate) fn places_of(order: &Order) -> [u8; 64]
+    requires { order.now.size ≤ 64 }
+    ensures { (length result ≡ 64) × ((e : ℕ) → e < order.now.size → get_or result e 0 ≡ place_in order.now.pasts order.now.updates e) }
 {
-    let mut places = [0u8; 64];
-    let mut e = 0;
-    while e < n {
-        places[e] = place_of(rows, updates, e);
-        e += 1;
+    let mut places = [0; 64];
+    for e in 0..order.size {
+        places[e] = place_of(order, e);
     }
     places
 }
 
-// The line of the first n events with places below m, and behind it those at m, rising.
-fn with_place(line: EventList, places: [u8; 64], n: usize, m: u8) -> EventList
-    requires { (n ≤ 64) × (line ≡ event_list_of (by_place n (λ e. get_or places e 0) m)) }
-    ensures { result ≡ event_list_of (by_place n (λ e. get_or places e 0) (suc m)) }
+// The line of the events with places below m, and behind it those at m, rising.
+fn with_place(mut line: EventList, places: &[u8], m: u8) -> EventList
+    requires { (length places.now ≤ 64) × (line ≡ event_list_of (by_place (length places.now) (λ e. get_or places.now e 0) m)) }
+    ensures { result ≡ event_list_of (by_place (length places.now) (λ e. get_or places.now e 0) (suc m)) }
 {
-    let mut events = line.events;
-    let mut count = line.count;
-    let mut e = 0;
-    while e < n {
-        if places[e] == m {
-            events[count] = e as u8;
-            count += 1;
+    for (e, place) in places.iter().enumerate() {
+        if *place == m {
+            line.events[line.count] = e as u8;
+            line.count += 1;
         }
-        e += 1;
     }
-    EventList { count, events }
+    line
 }
 
-// The first n events by their places.
-pub(crate) fn by_place(places: [u8; 64], n: usize) -> EventList
-    requires { n ≤ 64 }
-    ensures { (result ≡ event_list_of (by_place n (λ e. get_or places e 0) (n + n + 2))) × (result.count ≤ 64) }
+// The events by their places.
+pub(crate) fn by_place(places: &[u8]) -> EventList
+    requires { length places.now ≤ 64 }
+    ensures { (result ≡ event_list_of (by_place (length places.now) (λ e. get_or places.now e 0) (length places.now + length places.now + 2))) × (result.count ≤ 64) }
 {
     let mut line = no_list();
-    let mut m = 0;
-    while m < n + n + 2 {
-        line = with_place(line, places, n, m as u8);
-        m += 1;
+    for m in 0..2 * places.len() + 2 {
+        line = with_place(line, places, m as u8);
     }
     line
 }

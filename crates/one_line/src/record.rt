@@ -7,19 +7,19 @@ ghost use Rattle.weakened_records.specs.Steps.{IsRecordOf};
 ghost use Rattle.one_line.specs.Steps.{OrderRead};
 
 use crate::line::{by_place, places_of};
-use crate::updates::{crossing, updates_of};
+use crate::order::order_of;
+use crate::updates::crossing;
 use certificate::record::{Certificate, Criterion};
 use history::record::History;
-use orders::listed::past_rows;
 use weakened::sequential::whole_views;
-use weakened_records::records::ViewedRecord;
+use weakened_records::records::{ViewedRecord, no_pasts};
 
 // 26: whether the causal order leaves two updates unordered.
 pub fn crosses(h: &History, c: &Certificate) -> bool
     requires { OrderRead h.now c.now }
     ensures { (views : List (List ℕ)) → result ≡ lists.crosses (history_of h.now) (order (history_of h.now) (certificate_of h.now c.now views)) }
 {
-    crosses(h, c)
+    crossing(&order_of(h, c))
 }
 
 // The sequential certificate of the line.
@@ -27,5 +27,15 @@ pub fn line_record(h: &History, c: &Certificate) -> ViewedRecord
     requires { OrderRead h.now c.now }
     ensures { (views : List (List ℕ)) → IsRecordOf (lists.in_one_line (history_of h.now) (certificate_of h.now c.now views)) result.certificate result.views }
 {
-    line_record(h, c)
+    let places = places_of(&order_of(h, c));
+    let line = by_place(&places[..h.count]);
+    let views = whole_views(&line.events[..line.count], 1);
+    ViewedRecord {
+        certificate: Certificate {
+            criterion: Criterion::Sequential,
+            pasts: no_pasts(),
+            lengths: views.lengths,
+        },
+        views: views.rows,
+    }
 }

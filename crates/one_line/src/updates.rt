@@ -1,79 +1,43 @@
 // The updates among the events, and whether an order leaves two of them unordered.
-ghost use Rattle.std.specs.Prelude.{◌≡◌, ◌&&◌, ◌||◌, ℕ, ◌≤◌, ◌<◌, eqb, ltb};
+ghost use Rattle.std.specs.Prelude.{◌≡◌, ◌&&◌, ℕ, ◌≤◌, ◌<◌, length, ltb};
 ghost use Rattle.criteria.specs.Tests.{any};
-ghost use Rattle.criteria.specs.OneLine.{is_update};
 ghost use Rattle.orders.specs.Rows.{in_row};
 ghost use Rattle.one_line.specs.Steps.{update_in, unordered_to, crosses_at};
 
-use history::record::{Event, Op};
+use crate::order::Order;
+use history::record::Event;
 use orders::sets::{in_row, with_event};
 use replays::replay::changes;
 
-// A row, and event e more if its operation is an update.
-fn with_update(row: u64, e: usize, op: Op) -> u64
-    requires { e < 64 }
-    ensures { (f : ℕ) → in_row result f ≡ (in_row row f || (eqb f e && is_update op)) }
+// The row of the updates among the events.
+pub(crate) fn updates_of(events: &[Event]) -> u64
+    requires { length events.now ≤ 64 }
+    ensures { (e : ℕ) → in_row result e ≡ (ltb e (length events.now) && update_in events.now e) }
 {
-    if changes(op) {
-        return with_event(row, e);
+    let mut row = 0;
+    for (i, event) in events.iter().enumerate() {
+        if changes(event.op) {
+            row = with_event(row, i);
+        }
     }
     row
 }
 
-// The row of the updates among the first n events.
-pub(crate) fn updates_of(events: [Event; 64], n: usize) -> u64
-    requires { n ≤ 64 }
-    ensures { (e : ℕ) → in_row result e ≡ (ltb e n && update_in events e) }
+// Whether the order leaves event a and some other update unordered.
+fn unordered_with(order: &Order, a: usize) -> bool
+    requires { (order.now.size ≤ 64) × (a < 64) }
+    ensures { result ≡ any order.now.size (unordered_to order.now.pasts order.now.updates a) }
 {
-    let mut row: u64 = 0;
-    let mut i = 0;
-    while i < n {
-        let e = events[i];
-        let op = e.op;
-        row = with_update(row, i, op);
-        i += 1;
-    }
-    row
+    (0..order.size).any(|b| {
+        let ordered = in_row(order.pasts[b], a) || in_row(order.pasts[a], b);
+        in_row(order.updates, b) && a != b && !ordered
+    })
 }
 
-// Whether the order leaves event a and some other update among the first n events unordered.
-fn unordered_with(rows: &[u64; 64], updates: u64, n: usize, a: usize) -> bool
-    requires { (n ≤ 64) × (a < 64) }
-    ensures { result ≡ any n (unordered_to rows.now updates a) }
+// Whether the order leaves two updates unordered.
+pub(crate) fn crossing(order: &Order) -> bool
+    requires { order.now.size ≤ 64 }
+    ensures { result ≡ any order.now.size (crosses_at order.now.pasts order.now.updates order.now.size) }
 {
-    let past = rows[a];
-    let mut found = false;
-    let mut b = 0;
-    while b < n {
-        let row = rows[b];
-        let ordered = in_row(row, a) | in_row(past, b);
-        found = found | (in_row(updates, b) & (a != b) & !ordered);
-        b += 1;
-    }
-    found
-}
-
-// The same of event a, if it is an update.
-fn crosses_at(rows: &[u64; 64], updates: u64, n: usize, a: usize) -> bool
-    requires { (n ≤ 64) × (a < 64) }
-    ensures { result ≡ crosses_at rows.now updates n a }
-{
-    if in_row(updates, a) {
-        return unordered_with(rows, updates, n, a);
-    }
-    false
-}
-
-// Whether the order leaves two updates among the first n events unordered.
-pub(crate) fn crossing(rows: &[u64; 64], updates: u64, n: usize) -> bool
-    requires { n ≤ 64 }
-    ensures { result ≡ any n (crosses_at rows.now updates n) }
-{
-    let mut found = false;
-    let mut a = 0;
-    while a < n {
-        found = found | crosses_at(rows, updates, n, a);
-        a += 1;
-    }
-    found
+    (0..order.size).any(|a| in_row(order.updates, a) && unordered_with(order, a))
 }
