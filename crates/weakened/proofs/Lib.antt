@@ -1,4 +1,4 @@
-pub mod ListLaws
 pub mod RowsLaws
+pub mod ListLaws
 pub mod SequentialLaws
 pub mod CausalLaws

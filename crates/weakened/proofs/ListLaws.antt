@@ -1,91 +1,112 @@
 -- Laws of lists of events in arrays. Assumes nothing.
-use Prim.Native.Nat.{ℕ, zero, suc, ◌+◌, ◌≤◌, ◌<◌}
-use native.Mathlib.Nat.{not-suc-le-zero, le_of_suc-le-suc}
-use native.Mathlib.Numerals.{add-one}
-use native.Mathlib.Omega.{arith}
-use mathlib.Core.Path.{◌≡◌, refl, sym, ap, ap₂, ◌∙◌}
-use mathlib.Core.Bool.{false}
-use mathlib.Core.List.{List, [], ◌∷◌}
-use lib.Dec.{eqb}
-use lib.ListN.{length, get_or, take, set, replicate}
-use lib.Seq.{length-take-le, take_all, take-append-le}
-use borrow.Author.Tests.{eq-eqb, ne_eqb}
+use Rattle.std.proofs.Common.{ℕ, zero, suc, ◌+◌, ◌-◌, ◌≤◌, ◌<◌, ◌≡◌, refl, sym, ap, ap₂, ◌∙◌, List, [], ◌∷◌, ◌++◌, length, take, drop, replicate, get_or, cond, not, eqb, true, false, arith, Bool, ltb, Option, Some, None, eq-eqb, ne_eqb, ltb-true, ltb-false, add-one, length-take, length-append, set, append-nil}
+use Rattle.std.proofs.lemmas.List.{drop-replicate}
+use Rattle.std.specs.List.{position, position_or_len}
+use Rattle.std.proofs.lemmas.List.{take_all}
+use native.Mathlib.Nat.{min-le_right}
 use Rattle.history.specs.Record.{pad}
-use Rattle.history.proofs.PadLaws.{pad-none, pad-set, take_more, pad-full}
 use Rattle.certificate.specs.declared.record.EventList.{EventList}
-use Rattle.certificate.specs.Record.{event_list_of, entries_in}
-use Rattle.criteria.specs.Tests.{table, up_to, keep, mem, place}
-use Rattle.criteria.proofs.Lists.{or-false, below_suc, length-table, get_or-table, place_out}
-use Rattle.criteria.proofs.Loops.{mem-take-suc}
-use Rattle.orders.specs.Rows.{in_row}
+use Rattle.certificate.specs.Record.{event_list_of}
+use Rattle.history.proofs.PadLaws.{pad-none, pad-set}
+use Rattle.criteria.specs.Tests.{place, keep, keep_if, up_to}
+use Rattle.criteria.proofs.Lists.{keep_append}
+use Rattle.criteria.specs.Weaken.{up_to_in}
+use Rattle.layout.proofs.Cases.{by-eq}
 
--- ---- a list in an array, entry by entry
+-- a list that was copied into a blank array
+pub list-copied : (v filled : List ℕ) → filled ≡ v
+    → ◌≡◌ {A = EventList} (record { count = length v; events = filled ++ drop (length v) (replicate 64 0) }) (event_list_of v)
+unfolding event_list_of pad
+list-copied v filled q =
+    ap₂ {C = EventList} (λ (l m : List ℕ). record { count = length v; events = l ++ m }) q (drop-replicate (length v) 64 0)
 
-pub list-none : (v : List ℕ) → replicate 64 0 ≡ pad 64 0 (take 0 v)
-list-none v = sym (pad-none 64 0)
+length-take-le_length : (k : ℕ) (v : List ℕ) → length (take k v) ≤ length v
+length-take-le_length k v = rw (length-take k v) (min-le_right k (length v))
 
-pub list-more : (v out : List ℕ) (i : ℕ) → i < length v → i < 64 → out ≡ pad 64 0 (take i v)
-    → set out i (get_or v i 0) ≡ pad 64 0 (take (i + 1) v)
-list-more v out i h k e =
-    ap (λ (l : List ℕ). set l i (get_or v i 0)) e
-    ∙ pad-set 64 0 (take i v) i (get_or v i 0) (sym (length-take-le i v (omega arith))) k
-    ∙ ap (pad 64 0) (sym (take_more v i 0 h))
+-- the place of an event is the library's position
+place-position : (e : ℕ) (v : List ℕ) → position_or_len (λ x. eqb x e) v ≡ place e v
+place-position e [] = refl
+place-position e (x ∷ v) =
+    by-eq x e (λ q. rw (eq-eqb x e q, eq-eqb e x (sym q)) refl)
+    (λ n. rw (ne_eqb x e n, ne_eqb e x (λ q. n (sym q)), place-position e v) grind arith)
 
-pub list_done : (v out : List ℕ) (n : ℕ) → n ≤ length v → out ≡ pad 64 0 (take n v)
-    → ◌≡◌ {A = EventList} (record { count = n; events = out }) (event_list_of (take n v))
-unfolding event_list_of
-list_done v out n h e = ap₂ {C = EventList} (λ (m : ℕ) (l : List ℕ). record { count = m; events = l }) (sym (length-take-le n v h)) e
+position-some : (b : Bool) (i k : ℕ) → Some k ≡ cond b (Some i) None → (b ≡ true) × (k ≡ i)
+position-some true i k q = (refl, cc)
+position-some false i k q = cc
 
-pub list_count : (v : List ℕ) (n : ℕ) (l : EventList) → n ≤ length v → l ≡ event_list_of (take n v) → l.count ≡ n
-unfolding event_list_of
-list_count v n l h e = ap (λ (x : EventList). x.count) e ∙ length-take-le n v h
+position-none : (b : Bool) (i : ℕ) → ◌≡◌ {A = Option ℕ} None (cond b (Some i) None) → b ≡ false
+position-none true i q = cc
+position-none false i q = refl
 
--- ---- the place of an event
+module _ (e : ℕ) (v : List ℕ) where
+  pub place-some : (k : ℕ) → Some k ≡ position (λ x. eqb x e) v → (k ≡ place e v) × (k < length v)
+  place-some k q =
+      let r = position-some (ltb (position_or_len (λ x. eqb x e) v) (length v)) (position_or_len (λ x. eqb x e) v) k q in
+      let l = ltb-true (position_or_len (λ x. eqb x e) v) (length v) r.0 in
+      (r.1 ∙ place-position e v, omega (arith, r.1, l))
 
--- it did not stand before place i
-pub place-on : (v : List ℕ) (e i : ℕ) → i < length v → mem e (take i v) ≡ false → (get_or v i 0 ≡ e → ⊥) → mem e (take (i + 1) v) ≡ false
-place-on v e i h m q = rw (add-one, mem-take-suc e v i h, m) (ne_eqb e (get_or v i 0) (λ z. q (sym z)))
+  pub place-none : ◌≡◌ {A = Option ℕ} None (position (λ x. eqb x e) v) → length v ≤ place e v
+  place-none q =
+      let r = position-none (ltb (position_or_len (λ x. eqb x e) v) (length v)) (position_or_len (λ x. eqb x e) v) q in
+      let l = ltb-false (position_or_len (λ x. eqb x e) v) (length v) r in
+      omega (arith, l, place-position e v)
 
-pub place_here : (v : List ℕ) (e i n : ℕ) → i < n → i < length v → mem e (take i v) ≡ false → get_or v i 0 ≡ e → place e (take n v) ≡ i
-place_here [] e i n k h m q = absurd (not-suc-le-zero h)
-place_here (x ∷ v) e i zero k h m q = absurd (not-suc-le-zero k)
-place_here (x ∷ v) e zero (suc n) k h m q = rw (eq-eqb e x (sym q)) refl
-place_here (x ∷ v) e (suc i) (suc n) k h m q =
-    let o = or-false (eqb e x) (mem e (take i v)) m in
-    rw o.0 (ap suc (place_here v e i n (le_of_suc-le-suc k) (le_of_suc-le-suc h) o.1 q))
+-- ---- the parts of a view
+module _ (e : ℕ) (v : List ℕ) where
+  pub before-some : (k : ℕ) → Some k ≡ position (λ x. eqb x e) v → (take k v ≡ take (place e v) v) × (length (take k v) ≤ length v)
+  before-some k q = (ap (λ (i : ℕ). take i v) (place-some e v k q).0, length-take-le_length k v)
 
-pub place-nowhere : (v : List ℕ) (e n : ℕ) → n ≤ length v → mem e (take n v) ≡ false → place e (take n v) ≡ n
-place-nowhere v e n h m = place_out e (take n v) m ∙ length-take-le n v h
+  pub before-none : ◌≡◌ {A = Option ℕ} None (position (λ x. eqb x e) v) → (v ≡ take (place e v) v) × (length v ≤ length v)
+  before-none q = (sym (take_all (place e v) v (place-none e v q)), omega arith)
 
--- ---- all events
+  pub up-to-some : (k : ℕ) → Some k ≡ position (λ x. eqb x e) v → (take (k + 1) v ≡ up_to_in v e) × (length (take (k + 1) v) ≤ length v)
+  unfolding up_to_in
+  up-to-some k q = (rw add-one (ap (λ (i : ℕ). take (suc i) v) (place-some e v k q).0), length-take-le_length (k + 1) v)
 
-pub all_more : (out : List ℕ) (i : ℕ) → i < 64 → out ≡ pad 64 0 (up_to i) → set out i i ≡ pad 64 0 (up_to (i + 1))
-all_more out i k e =
-    ap (λ (l : List ℕ). set l i i) e
-    ∙ pad-set 64 0 (up_to i) i i (sym (length-table i (λ (j : ℕ). j))) k
-    ∙ ap (pad 64 0) (rw add-one refl)
+  pub up-to-none : ◌≡◌ {A = Option ℕ} None (position (λ x. eqb x e) v) → (v ≡ up_to_in v e) × (length v ≤ length v)
+  unfolding up_to_in
+  up-to-none q = (sym (take_all (suc (place e v)) v (let l = place-none e v q in omega (arith, l))), omega arith)
 
-pub all_done : (out : List ℕ) → out ≡ pad 64 0 (up_to 64) → out ≡ up_to 64
-all_done out e = e ∙ pad-full 64 0 (up_to 64) (length-table 64 (λ (j : ℕ). j))
+-- ---- the numbers below e that pass, rising, in an array
+module _ (f : ℕ → Bool) where
+  -- as many as the count says, with zeros behind them
+  pub record Kept (count : ℕ) (events : List ℕ) (e : ℕ) : Type 0 where
+    pub few : count ≤ e
+    pub counted : count ≡ length (keep f (up_to e))
+    pub listed : events ≡ pad 64 0 (keep f (up_to e))
 
-pub take-table : {A : Type 0} (f : ℕ → A) (n m : ℕ) → n ≤ m → take n (table m f) ≡ table n f
-take-table f zero m h = refl
-take-table f (suc n) zero h = absurd (not-suc-le-zero h)
-take-table f (suc n) (suc m) h =
-    below_suc n m h
-    (λ l. take-append-le (suc n) (table m f) (f m ∷ []) (omega (arith, length-table m f)) ∙ take-table f (suc n) m l)
-    (λ q. take_all (suc n) (table (suc m) f) (omega (arith, length-table (suc m) f)) ∙ ap (λ (k : ℕ). table (suc k) f) (sym q))
+  keep-next : (e : ℕ) → keep f (up_to (e + 1)) ≡ keep f (up_to e) ++ keep_if (f e) e []
+  keep-next e = rw add-one (keep_append f (up_to e) (e ∷ []))
 
--- ---- the events of a row
+  pub kept-none : (events : List ℕ) → events ≡ replicate 64 0 → Kept 0 events 0
+  kept-none events q = record { few = omega arith; counted = refl; listed = q ∙ sym (pad-none 64 0) }
 
-pub all_small : (all : List ℕ) (n : ℕ) → n ≤ 64 → all ≡ up_to 64 → (k : ℕ) → k < n → get_or all k 0 < 64
-all_small all n h e k l =
-    let q : get_or all k 0 ≡ k = ap (λ (v : List ℕ). get_or v k 0) e ∙ get_or-table 64 (λ (j : ℕ). j) k 0 (omega arith) in omega arith
+  module _ (count : ℕ) (events : List ℕ) (e : ℕ) (k : Kept count events e) where
+    pub kept-more : e < 64 → f e ≡ true → Kept (count + 1) (set events count e) (e + 1)
+    kept-more h t =
+        let next : keep f (up_to (e + 1)) ≡ keep f (up_to e) ++ e ∷ [] = keep-next e ∙ rw t refl in
+        record {
+          few = omega (arith, k.few);
+          counted = ap (λ (n : ℕ). n + 1) k.counted ∙ sym (ap length next ∙ length-append (keep f (up_to e)) (e ∷ []));
+          listed =
+              ap (λ (l : List ℕ). set l count e) k.listed
+              ∙ pad-set 64 0 (keep f (up_to e)) count e k.counted (omega (arith, k.few))
+              ∙ ap (pad 64 0) (sym next);
+        }
 
-pub rising-done : (row : ℕ) (n : ℕ) (all : List ℕ) (cut result : EventList) → n ≤ 64 → all ≡ up_to 64 → length cut.events ≡ 64
-    → entries_in cut ≡ keep (in_row row) (take n all) → cut.count ≤ n → result ≡ event_list_of (entries_in cut)
-    → (result ≡ event_list_of (keep (in_row row) (up_to n))) × (result.count ≤ n)
-rising-done row n all cut result h a long k few r =
-    let t : take n all ≡ up_to n = ap (take n) a ∙ take-table (λ (j : ℕ). j) n 64 h in
-    let c = list_count cut.events cut.count result (omega arith) r in
-    (r ∙ ap event_list_of (k ∙ ap (keep (in_row row)) t), omega arith)
+    pub kept-less : f e ≡ false → Kept count events (e + 1)
+    kept-less t =
+        let next : keep f (up_to (e + 1)) ≡ keep f (up_to e) = keep-next e ∙ rw t (append-nil (keep f (up_to e))) in
+        record {
+          few = omega (arith, k.few);
+          counted = k.counted ∙ ap length (sym next);
+          listed = k.listed ∙ ap (pad 64 0) (sym next);
+        }
+
+    pub kept-done : (n : ℕ) → e ≡ n
+        → (◌≡◌ {A = EventList} (record { count = count; events = events }) (event_list_of (keep f (up_to n)))) × (count ≤ n)
+    unfolding event_list_of
+    kept-done n z = (
+      ap₂ {C = EventList} (λ (m : ℕ) (l : List ℕ). record { count = m; events = l }) k.counted k.listed ∙ ap (λ (m : ℕ). event_list_of (keep f (up_to m))) z,
+      omega (arith, k.few, z),
+    )

@@ -1,11 +1,65 @@
 // From causal to pram: the view of the process's last event, then all other events rising.
-ghost use Rattle.std.specs.Prelude.{◌≡◌, ℕ, ◌≤◌, ◌<◌, length, get_or};
+ghost use Rattle.std.specs.Prelude.{◌≡◌, ℕ, ◌+◌, ◌≤◌, ◌<◌, ◌++◌, length, get_or};
+ghost use Rattle.certificate.specs.Record.{event_list_of};
 ghost use Rattle.criteria.specs.Tests.{table, count};
 ghost use Rattle.criteria.specs.Weaken.{completed};
 ghost use Rattle.orders.specs.Rows.{view_at, EventViews};
 ghost use Rattle.weakened.specs.Steps.{view_rows_of, last_in};
 
-use crate::views::ViewRows;
+use crate::list::rising;
+use crate::views::{ViewRows, view_rows};
+use certificate::record::EventList;
+use orders::sets::others;
+use orders::views::marks;
+
+// The last of the events, by their processes, that is of the process, or 0.
+fn last_of(processes: &[u8], p: u8) -> usize
+    ensures { (result ≡ last_in (length processes.now) processes.now p) × (0 < length processes.now → result < length processes.now) }
+{
+    let mut last = 0;
+    for (e, q) in processes.iter().enumerate() {
+        if *q == p {
+            last = e;
+        }
+    }
+    last
+}
+
+// The list of the entries of one view and then those of another.
+fn joined(first: &[u8], second: &[u8]) -> EventList
+    requires { length first.now + length second.now ≤ 64 }
+    ensures { result ≡ event_list_of (first.now ++ second.now) }
+{
+    let count = first.len() + second.len();
+    let mut events = [0u8; 64];
+    events[..first.len()].copy_from_slice(first);
+    events[first.len()..count].copy_from_slice(second);
+    EventList { count, events }
+}
+
+// The events of a view, none twice, then all others of n events, rising.
+fn completed_view(view: &[u8], n: usize) -> EventList
+    requires { (n ≤ 64) × (length view.now ≤ 64) × ((i : ℕ) → i < length view.now → get_or view.now i 0 < n) × ((e : ℕ) → count e view.now ≤ 1) }
+    ensures { (result ≡ event_list_of (completed n view.now)) × (result.count ≤ 64) }
+{
+    let behind = rising(others(marks(view)), n);
+    joined(view, &behind.events[..behind.count])
+}
+
+// The view of the last event, by the processes of the events, that is of process p, completed.
+fn completed_last(
+    processes: &[u8],
+    views: &[[u8; 64]; 64],
+    sizes: &[u8; 64],
+    p: u8,
+) -> EventList
+    requires { (length processes.now ≤ 64) × (0 < length processes.now) × EventViews views.now sizes.now (length processes.now) (length processes.now) × ((k : ℕ) → k < length processes.now → (e : ℕ) → count e (view_at views.now sizes.now k) ≤ 1) }
+    ensures { (result ≡ event_list_of (completed (length processes.now) (view_at views.now sizes.now (last_in (length processes.now) processes.now p)))) × (result.count ≤ 64) }
+{
+    let last = last_of(processes, p);
+    let view = &views[last];
+    completed_view(&view[..usize::from(sizes[last])], processes.len())
+}
 
 // The views of the processes, whose numbers these are, of the events of these processes.
 pub fn completed_views(
@@ -17,5 +71,5 @@ pub fn completed_views(
     requires { (length processes.now ≤ 64) × (length numbers.now ≤ 64) × (length processes.now ≡ 0 → length numbers.now ≡ 0) × EventViews views.now sizes.now (length processes.now) (length processes.now) × ((k : ℕ) → k < length processes.now → (e : ℕ) → count e (view_at views.now sizes.now k) ≤ 1) }
     ensures { result ≡ view_rows_of (table (length numbers.now) (λ k. completed (length processes.now) (view_at views.now sizes.now (last_in (length processes.now) processes.now (get_or numbers.now k 0))))) }
 {
-    completed_views(processes, views, sizes, numbers)
+    view_rows(numbers.len(), |k| completed_last(processes, views, sizes, numbers[k]))
 }

@@ -4,6 +4,7 @@
 
 pub mod causal;
 pub mod converge;
+pub mod list;
 pub mod sequential;
 pub mod strict;
 pub mod views;

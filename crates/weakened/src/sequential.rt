@@ -2,19 +2,34 @@
 ghost use Rattle.std.specs.Prelude.{◌≡◌, ℕ, ◌≤◌, ◌<◌, true, map, length, get_or};
 ghost use Rattle.history.specs.Record.{pad};
 ghost use Rattle.certificate.specs.Record.{no_list, event_list_of};
-ghost use Rattle.criteria.specs.Tests.{table, mem};
+ghost use Rattle.criteria.specs.Tests.{keep, up_to, table, mem};
 ghost use Rattle.criteria.specs.Weaken.{precedes, pasts_of, up_to_in};
 ghost use Rattle.weakened.specs.Steps.{view_rows_of};
 
-use crate::views::ViewRows;
+use crate::list::{before_event, list_of, rising, up_to_event};
+use crate::views::{ViewRows, view_rows};
+use certificate::list::no_list;
 use certificate::record::EventList;
+use orders::views::marks;
+
+// The events that precede e, rising.
+fn preceding(view: &[u8], e: u8) -> EventList
+    requires { (length view.now ≤ 64) × ((k : ℕ) → k < length view.now → get_or view.now k 0 < 64) × (mem e view.now ≡ true) }
+    ensures { result ≡ event_list_of (keep (λ f. precedes view.now f e) (up_to (length view.now))) }
+{
+    rising(marks(before_event(view, e)), view.len())
+}
 
 // The pasts of the events of the view.
 pub fn preceding_pasts(view: &[u8]) -> [EventList; 64]
     requires { (length view.now ≤ 64) × ((k : ℕ) → k < length view.now → get_or view.now k 0 < 64) × ((e : ℕ) → e < length view.now → mem e view.now ≡ true) }
     ensures { result ≡ pad 64 no_list (map event_list_of (pasts_of (length view.now) (precedes view.now))) }
 {
-    preceding_pasts(view)
+    let mut pasts = [no_list(); 64];
+    for e in 0..view.len() {
+        pasts[e] = preceding(view, e as u8);
+    }
+    pasts
 }
 
 // The views of the events, each the part of the view up to and with its event.
@@ -22,7 +37,7 @@ pub fn up_to_views(view: &[u8]) -> ViewRows
     requires { length view.now ≤ 64 }
     ensures { result ≡ view_rows_of (table (length view.now) (up_to_in view.now)) }
 {
-    up_to_views(view)
+    view_rows(view.len(), |e| list_of(up_to_event(view, e as u8)))
 }
 
 // m views, each the whole view.
@@ -30,5 +45,5 @@ pub fn whole_views(view: &[u8], m: usize) -> ViewRows
     requires { (length view.now ≤ 64) × (m ≤ 64) }
     ensures { result ≡ view_rows_of (table m (λ _. view.now)) }
 {
-    whole_views(view, m)
+    view_rows(m, |_| list_of(view))
 }

@@ -1,11 +1,35 @@
 // From strict: each event's view is its process's view up to and with it.
 ghost use Rattle.std.specs.Prelude.{◌≡◌, ℕ, ◌≤◌, ◌<◌, length, get_or};
+ghost use Rattle.certificate.specs.Record.{event_list_of};
 ghost use Rattle.criteria.specs.Tests.{table, place};
 ghost use Rattle.criteria.specs.Weaken.{up_to_in};
 ghost use Rattle.orders.specs.Rows.{view_at};
 ghost use Rattle.weakened.specs.Steps.{view_rows_of};
 
-use crate::views::ViewRows;
+use crate::list::{list_of, place_of, up_to_event};
+use crate::views::{ViewRows, view_rows};
+use certificate::list::no_list;
+use certificate::record::EventList;
+
+// The part up to and with event e of the view whose number is p.
+fn own_part(
+    views: &[[u8; 64]; 64],
+    sizes: &[u8; 64],
+    numbers: &[u8],
+    p: u8,
+    e: u8,
+) -> EventList
+    requires { (length numbers.now ≤ 64) × ((k : ℕ) → k < length numbers.now → get_or sizes.now k 0 ≤ 64) × (place p numbers.now < length numbers.now) }
+    ensures { (result ≡ event_list_of (up_to_in (view_at views.now sizes.now (place p numbers.now)) e)) × (result.count ≤ 64) }
+{
+    match place_of(numbers, p) {
+        Some(at) => {
+            let view = &views[at];
+            list_of(up_to_event(&view[..usize::from(sizes[at])], e))
+        }
+        None => no_list(),
+    }
+}
 
 // The views of the events of these processes, of views whose numbers are those of the processes.
 pub fn own_parts(
@@ -17,5 +41,5 @@ pub fn own_parts(
     requires { (length processes.now ≤ 64) × (length numbers.now ≤ 64) × ((k : ℕ) → k < length numbers.now → get_or sizes.now k 0 ≤ 64) × ((e : ℕ) → e < length processes.now → place (get_or processes.now e 0) numbers.now < length numbers.now) }
     ensures { result ≡ view_rows_of (table (length processes.now) (λ e. up_to_in (view_at views.now sizes.now (place (get_or processes.now e 0) numbers.now)) e)) }
 {
-    own_parts(processes, views, sizes, numbers)
+    view_rows(processes.len(), |e| own_part(views, sizes, numbers, processes[e], e as u8))
 }

@@ -1,16 +1,22 @@
--- `rising` meets its contract: all events, cut to the row. Assumes nothing.
-use borrow.Author.Rules.{rules}
-use mathlib.Core.Path.{◌≡◌}
-use lib.ListN.{length}
-use Rattle.weakened.proofs.ListLaws.{all_small, rising-done}
+-- `rising` meets its contract. Assumes nothing.
+use Rattle.std.proofs.Common.{rules, arith, refl, sym, ◌∙◌, ◌≡◌, ◌<◌, true, false}
+use Rattle.orders.specs.Rows.{in_row}
+use Rattle.weakened.proofs.ListLaws.{kept-none, kept-more, kept-less, kept-done}
 use Rattle.weakened.proofs.list.rising.Goals as goal
+use Rattle.weakened.proofs.list.rising.Goals.{then-in_row, else-in_row}
 
-pub cut_to-cut-requires : goal.cut_to-cut-requires
-cut_to-cut-requires c =
-    (c.requires, all_small c.all_events-all.result c.args.n c.requires c.all_events-all.ensures)
+pub loop-e-init : goal.loop-e-init
+loop-e-init c = kept-none (in_row c.args.row) _ refl
+
+pub loop-e-preserved : goal.loop-e-preserved
+loop-e-preserved c =
+    let next : c.loop-e.e < c.args.n = search rules in
+    elim c.if-in_row.branch [
+      then-in_row w ↦ rw (w.count-is, w.events-is) (kept-more (in_row c.args.row) c.loop-e.count c.loop-e.events c.loop-e.e c.loop-e.invariant (omega (arith, next, c.requires)) (sym c.in_row.ensures ∙ w.if-in_row.true))
+    | else-in_row w ↦ rw (w.count-is, w.events-is) (kept-less (in_row c.args.row) c.loop-e.count c.loop-e.events c.loop-e.e c.loop-e.invariant (sym c.in_row.ensures ∙ w.if-in_row.false))
+    ]
 
 pub returns : goal.returns
 returns c =
-    let part-long : length c.cut_to-cut.result.events ≡ 64 = search rules in
-    rising-done c.args.row c.args.n c.all_events-all.result c.cut_to-cut.result c.list_of.result c.requires c.all_events-all.ensures part-long
-    c.cut_to-cut.ensures.0 c.cut_to-cut.ensures.1 c.list_of.ensures
+    let done : c.loop-e.e ≡ c.args.n = search rules in
+    kept-done (in_row c.args.row) c.loop-e.count c.loop-e.events c.loop-e.e c.loop-e.invariant c.args.n done
