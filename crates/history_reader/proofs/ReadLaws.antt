@@ -26,7 +26,7 @@ use Rattle.history.specs.Faults.{ObjectRead, EventRead, fault_number, object_rea
 use Rattle.history.proofs.FaultLaws.{fault-none}
 use Rattle.history.proofs.ObjectLaws.{three-order, object-three, object-count}
 use Rattle.history.proofs.EventLaws.{limited, event-six, event-count}
-use Rattle.event_reader.specs.Steps.Next.{NextEvent, next_read}
+use Rattle.event_reader.specs.Steps.Next.{NextEvent, ending_at, next_read}
 use Rattle.event_reader.proofs.NextLaws.{next-cut, next-line}
 use Rattle.history_reader.specs.ReadHistory.{refusal, read_as, events_from, objects_from, lines_from, read_history}
 
@@ -105,12 +105,15 @@ module _ (line : ℕ) (s : List ℕ) (a e : ℕ) (found : e ≡ a + find 10 (dro
           ∙ rw (many, q, next-line own os s a e found from k, next, long))
           (λ k. rw (q, next-cut own os s a e found from k, cut-last 10 s a e found from k, long, ne_eqb (e - a) 0 (λ z. omega arith)))
 
-      pub events-more : x.fault ≡ 0
-          → events_from os es line a (split 10 (drop a s)) ≡ events_from os (es ++ x.event ∷ []) (line + 1) (e + 1) (split 10 (drop (e + 1) s))
-      events-more z = events-turn ∙ rw (eq-eqb x.fault 0 z)
+    -- the line is that of an event
+    module _ (h : a < length s) (r : Result Event Fault) (own : ℕ) (q : ending_at e (event_read r) ≡ next_read own os a (drop a s))
+        (es : List Event) (many : length es ≡ own) where
+      pub events-more : (v : Event) (after : ℕ) → r ≡ Ok v → line + 1 ≡ after
+          → events_from os es line a (split 10 (drop a s)) ≡ events_from os (es ++ v ∷ []) after (e + 1) (split 10 (drop (e + 1) s))
+      events-more v after z k = events-turn h (ending_at e (event_read r)) own q es many ∙ rw (z, k)
 
-      pub events-bad : (x.fault ≡ 0 → ⊥) → events_from os es line a (split 10 (drop a s)) ≡ refusal x.fault line a (e - a)
-      events-bad z = events-turn ∙ rw (ne_eqb x.fault 0 z)
+      pub events-bad : (f : Fault) → r ≡ Err f → events_from os es line a (split 10 (drop a s)) ≡ refusal (fault_number f) line a (e - a)
+      events-bad f z = events-turn h (ending_at e (event_read r)) own q es many ∙ rw (z, ne_eqb (fault_number f) 0 (fault-some f))
 
     pub objects-end : length s ≤ e → objects_from os line a (split 10 (drop a s)) ≡ refusal 2 line a (e - a)
     unfolding objects_from
@@ -185,21 +188,26 @@ object-own own line e =
 pub object-few : (r : Result Object Fault) (o : Object) (own : ℕ) (line : List ℕ) → object_read r ≡ object_line own line → r ≡ Ok o → own < 16
 object-few r o own line q z = object-own own line (ap (λ (x : ObjectRead). x.fault) (sym q ∙ ap object_read z))
 
--- ---- the next line is x, of an event
+-- ---- the next line is that of the event v
 module _ (own : ℕ) (os : List Object) (s : List ℕ) (a e : ℕ) (found : e ≡ a + find 10 (drop a s)) (from : a ≤ length s)
-    (x : NextEvent) (q : x ≡ next_read own os a (drop a s)) where
-  -- a line without a fault has its line feed
-  pub event-short : x.fault ≡ 0 → e < length s
-  event-short z =
+    (r : Result Event Fault) (q : ending_at e (event_read r) ≡ next_read own os a (drop a s)) (v : Event) (z : r ≡ Ok v) where
+  no-fault : (event_read r).fault ≡ 0
+  no-fault = ap (λ (r : Result Event Fault). (event_read r).fault) z
+
+  -- it has its line feed
+  pub event-short : e < length s
+  event-short =
       by-lt e (length s)
       (λ h. h)
-      (λ h. let k : x.fault ≡ 2 = ap (λ (y : NextEvent). y.fault) (q ∙ next-cut own os s a e found from h) in absurd (omega arith))
+      (λ h.
+      let k : (event_read r).fault ≡ 2 = ap (λ (y : NextEvent). y.fault) (q ∙ next-cut own os s a e found from h) in
+      absurd (omega (arith, no-fault)))
 
-  -- an event that is read has a place
-  pub event-few : x.fault ≡ 0 → own < 64
-  event-few z =
+  -- it has a place
+  pub event-few : own < 64
+  event-few =
       event-own own os (take (e - a) (drop a s))
-      (ap (λ (y : NextEvent). y.fault) (sym (q ∙ next-line own os s a e found from (event-short z))) ∙ z)
+      (ap (λ (y : NextEvent). y.fault) (sym (q ∙ next-line own os s a e found from event-short)) ∙ no-fault)
 
 -- ---- the record that was read
 pub history-made : (objects : List Object) (declared : ℕ) (events : List Event) (count : ℕ)
@@ -224,18 +232,18 @@ module _ (s : List ℕ) (e : ℕ) (found : e ≡ 0 + find 10 (drop 0 s)) (to : e
 
   module _ (h : e < length s) where
     lines-turn : lines_from (split 10 s)
-        ≡ cond (same (take (e - 0) s) object_heading) (objects_from [] 2 (length (take (e - 0) s) + 1) (split 10 (drop (e + 1) s)))
-        (refusal 2 1 0 (length (take (e - 0) s)))
+        ≡ cond (same (take e s) object_heading) (objects_from [] 2 (e + 1) (split 10 (drop (e + 1) s))) (refusal 2 1 0 (e - 0))
     lines-turn =
+        let z : e - 0 ≡ e = omega arith in
         ap lines_from (cut-more 10 s 0 e found (omega arith) h)
         ∙ lines_step (take (e - 0) s) (split 10 (drop (e + 1) s)) (split-some 10 (drop (e + 1) s))
+        ∙ rw (first-long, z)
 
-    pub lines-heading : same (take (e - 0) s) object_heading ≡ true
-        → lines_from (split 10 s) ≡ objects_from [] 2 (e + 1) (split 10 (drop (e + 1) s))
-    lines-heading w = let k : length (take (e - 0) s) + 1 ≡ e + 1 = omega (arith, first-long) in lines-turn ∙ rw (w, k)
+    pub lines-heading : same (take e s) object_heading ≡ true → lines_from (split 10 s) ≡ objects_from [] 2 (e + 1) (split 10 (drop (e + 1) s))
+    lines-heading w = lines-turn ∙ rw w
 
-    pub lines-bad : same (take (e - 0) s) object_heading ≡ false → lines_from (split 10 s) ≡ refusal 2 1 0 (e - 0)
-    lines-bad w = lines-turn ∙ rw (w, first-long)
+    pub lines-bad : same (take e s) object_heading ≡ false → lines_from (split 10 s) ≡ refusal 2 1 0 (e - 0)
+    lines-bad w = lines-turn ∙ rw w
 
 -- ---- a text that is too long
 module _ (text : List ℕ) where

@@ -1,11 +1,69 @@
-use Rattle.std.proofs.Common.{◌≡◌, ◌-◌, ◌≤◌, ℕ, ◌+◌, ◌*◌, ◌<◌, length, List, [], take, drop}
+-- `read_events` meets its contract: the answer for all lines is the answer for the lines that are left. Assumes nothing.
+use native.Mathlib.Omega.{arith}
+use borrow.Author.Rules.{rules}
+use Prim.Native.Nat.{ℕ, ◌<◌, ◌≤◌, ◌-◌, ◌+◌}
+use mathlib.Core.Path.{◌≡◌, refl, sym, ap, ◌∙◌}
+use mathlib.Core.List.{List, []}
+use lib.ListN.{length, take, drop}
+use lib.Seq.{length-take-le}
+use Rattle.std.specs.Prelude.{Ok, Err}
+use Rattle.std.proofs.lemmas.Result.{err_from_is_err_and}
+use Rattle.layout.specs.Split.{split}
+use Rattle.history.specs.declared.record.Event.{Event}
+use Rattle.history.specs.declared.record.History.{History}
+use Rattle.history.specs.Faults.{fault_number}
+use Rattle.history.specs.Record.{no_event}
+use Rattle.history_reader.specs.Place.{nowhere}
+use Rattle.history_reader.specs.ReadHistory.{HistoryRead, refusal, history_read, events_from}
+use Rattle.history.proofs.PadLaws.{filled_none, filled-count, filled-take, filled_more}
+use Rattle.history_reader.proofs.ReadLaws.{kept, failed, events-done, events-more, events-bad, event-short, event-few, history-made}
 use Rattle.history_reader.proofs.read.read_events.Goals as goal
 
-pub map_err-requires : goal.map_err-requires
-map_err-requires c = λ e h κs w. ?
+pub loop-start-init : goal.loop-start-init
+loop-start-init c =
+    let k : c.args.read.declared + 3 ≡ c.args.read.declared + 0 + 3 = omega arith in record {
+      to = c.requires.0;
+      filled = filled_none 64 no_event _ (rw c.no_event-events.ensures);
+      says = ap (λ (n : ℕ). events_from (take c.args.read.declared c.args.read.objects) [] n c.args.read.end (split 10 (drop c.args.read.end c.args.text.now))) k;
+    }
 
 pub returns-in_err-events : goal.returns-in_err-events
-returns-in_err-events c = let a = c.in_err-events.ensures in let b = c.map_err.ensures in let d = c.from_residual.ensures in let w = c.in_err-events.was in let n = c.next_event-next.ensures in ?
+returns-in_err-events c =
+    let p = err_from_is_err_and c.from_residual.result c.from_residual.ensures.1 in
+    let f = failed c.next_event-next.result.event c.map_err.result _ c.in_err-events.field-0.0 c.map_err.ensures.cases c.in_err-events.was in
+    let l = f.1.1 in
+    let refused : history_read (Err c.in_err-events.field-0.0) ≡ refusal (fault_number f.0) (c.args.read.declared + c.loop-start.count + 3) c.loop-start.start (c.next_event-next.result.end - c.loop-start.start) = search rules in
+    rw (p.1, p.2)
+    (refused
+    ∙ sym (c.loop-start.invariant.says
+    ∙ events-bad (c.args.read.declared + c.loop-start.count + 3) c.args.text.now c.loop-start.start c.next_event-next.result.end c.next_event-next.ensures.1 c.loop-start.invariant.to c.next_event-next.ensures.3 _ c.loop-start-test.true
+    c.next_event-next.result.event c.loop-start.count c.next_event-next.ensures.0 _ (filled-count c.loop-start.invariant.filled) f.0 f.1.0))
 
 pub bounds-events-count : goal.bounds-events-count
-bounds-events-count c = let a = c.in_ok-events.ensures in let w = c.in_ok-events.was in ?
+bounds-events-count c =
+    event-few c.loop-start.count _ c.args.text.now c.loop-start.start c.next_event-next.result.end c.next_event-next.ensures.1 c.loop-start.invariant.to c.next_event-next.result.event c.next_event-next.ensures.0 c.in_ok-events.field-0
+    (kept c.next_event-next.result.event c.map_err.result _ c.in_ok-events.field-0 c.map_err.ensures.cases c.in_ok-events.was)
+
+pub loop-start-preserved : goal.loop-start-preserved
+loop-start-preserved c =
+    let v = kept c.next_event-next.result.event c.map_err.result _ c.in_ok-events.field-0 c.map_err.ensures.cases c.in_ok-events.was in
+    let few : c.loop-start.count < 64 = event-few c.loop-start.count _ c.args.text.now c.loop-start.start c.next_event-next.result.end c.next_event-next.ensures.1 c.loop-start.invariant.to c.next_event-next.result.event c.next_event-next.ensures.0 c.in_ok-events.field-0 v in
+    let short : c.next_event-next.result.end < length c.args.text.now = event-short c.loop-start.count _ c.args.text.now c.loop-start.start c.next_event-next.result.end c.next_event-next.ensures.1 c.loop-start.invariant.to c.next_event-next.result.event c.next_event-next.ensures.0 c.in_ok-events.field-0 v in
+    record {
+      to = omega arith;
+      filled = filled_more c.loop-start.invariant.filled c.in_ok-events.field-0 few;
+      says =
+          c.loop-start.invariant.says
+          ∙ events-more (c.args.read.declared + c.loop-start.count + 3) c.args.text.now c.loop-start.start c.next_event-next.result.end c.next_event-next.ensures.1 c.loop-start.invariant.to c.next_event-next.ensures.3 _ c.loop-start-test.true
+          c.next_event-next.result.event c.loop-start.count c.next_event-next.ensures.0 _ (filled-count c.loop-start.invariant.filled) c.in_ok-events.field-0 (c.args.read.declared + (c.loop-start.count + 1) + 3) v (omega arith)
+          ∙ ap (λ (es : List Event). events_from (take c.args.read.declared c.args.read.objects) es (c.args.read.declared + (c.loop-start.count + 1) + 3) (c.next_event-next.result.end + 1) (split 10 (drop (c.next_event-next.result.end + 1) c.args.text.now)))
+          (sym (filled-take c.loop-start.invariant.filled c.in_ok-events.field-0 few));
+    }
+
+pub returns : goal.returns
+returns c =
+    let declared-long : length (take c.args.read.declared c.args.read.objects) ≡ c.args.read.declared = let l : length c.args.read.objects ≡ 16 = search rules in
+    length-take-le c.args.read.declared c.args.read.objects (omega (arith, c.requires.1)) in
+    ap {B = HistoryRead} (λ (h : History). record { fault = 0; place = nowhere; history = h })
+    (history-made c.args.read.objects c.args.read.declared c.loop-start.events c.loop-start.count c.requires.2 declared-long c.loop-start.invariant.filled)
+    ∙ sym (c.loop-start.invariant.says ∙ events-done _ _ (c.args.read.declared + c.loop-start.count + 3) c.args.text.now c.loop-start.start c.loop-start-test.false)
