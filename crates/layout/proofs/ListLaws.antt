@@ -1,16 +1,15 @@
 -- Laws of lists as they are read. Assumes nothing.
-use Prim.Native.Nat.{ℕ, zero, suc, ◌+◌, ◌-◌, ◌≤◌, ◌<◌, zero-le}
+use Prim.Native.Nat.{ℕ, zero, suc, ◌+◌, ◌≤◌, ◌<◌, zero-le}
 use native.Mathlib.Nat.{add-zero, zero-add, not-suc-le-zero, le_of_suc-le-suc}
 use native.Mathlib.Omega.{arith}
 use mathlib.Core.Path.{◌≡◌, refl, sym, ap, ◌∙◌}
-use mathlib.Core.Bool.{true, false, cond, ◌&&◌, false≢true}
+use mathlib.Core.Bool.{true, false, cond}
 use mathlib.Core.List.{List, [], ◌∷◌, ◌++◌, map}
-use lib.ListN.{length, get_or, take, drop, set, length-set, length-drop, length-map}
-use lib.Seq.{get_or-drop, length-take-le, take_at}
-use lib.Dec.{eqb, leb, ltb}
-use borrow.Author.Tests.{le-leb, lt-leb, lt-ltb, le-ltb, leb-true, ltb-true, eq-eqb, ne_eqb, eqb-true}
+use lib.ListN.{length, get_or, take, drop, set, length-set, length-map}
+use lib.Seq.{take_at}
+use lib.Dec.{leb, ltb}
+use borrow.Author.Tests.{le-leb, lt-leb, lt-ltb, le-ltb, leb-true, ltb-true}
 use Rattle.std.specs.Prelude.{Result, Ok, Err}
-use Rattle.layout.specs.declared.number.NumberFault.{NumberFault}
 use Rattle.layout.specs.declared.number.NumberFault.TheVariants as number
 use Rattle.layout.specs.declared.list.ListFault.{ListFault}
 use Rattle.layout.specs.declared.list.ListFault.TheVariants.{NotList, Over, Many}
@@ -24,13 +23,6 @@ use Rattle.layout.specs.Steps.Fill.{fill_at}
 use Rattle.layout.proofs.Cases.{by_bool, by-lt, and_left, and_right}
 use Rattle.layout.proofs.NumberLaws.{number-not, number-over, number-value}
 use Rattle.layout.proofs.FillLaws.{fill_at-set, fill_at-none, fill_at-zero}
-
--- the places keep their count
-held-length : (r : Result ℕ ListFault) (q : Result ℕ NumberFault) (xs : List ℕ) → length (held r q xs) ≡ length xs
-unfolding held
-held-length (Err f) q xs = refl
-held-length (Ok n) (Err f) xs = refl
-held-length (Ok n) (Ok v) xs = by_bool (ltb n (length xs)) (λ e. rw e (length-set xs n v)) (λ e. rw e)
 
 -- ---- one item more
 -- what an item is as a number below the bound
@@ -55,10 +47,6 @@ module _ (bound : ℕ) (p : List ℕ) where
         by_number (λ e q. (NotList, rw q)) (λ e l q. (Over, rw q)) (λ e l q. (Over, rw q))
     stays Many =
         by_number (λ e q. (NotList, rw q)) (λ e l q. (Over, rw q)) (λ e l q. (Many, rw q))
-
-  pub kept-length : (r : Result ℕ ListFault) (xs : List ℕ) → length (kept bound r p xs) ≡ length xs
-  unfolding kept
-  kept-length r xs = held-length r (number_of bound p) xs
 
 -- ---- the answer, an item at a time, is the answer for the items
 module _ (bound max : ℕ) where

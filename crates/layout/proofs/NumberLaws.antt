@@ -1,16 +1,16 @@
 -- Laws of numbers as they are read. Assumes nothing.
 use Prim.Native.Nat.{ℕ, suc, ◌+◌, ◌-◌, ◌*◌, ◌≤◌, ◌<◌}
 use Rattle.std.proofs.Common.{one-add}
-use native.Mathlib.Nat.{le_trans, le_refl, not-suc-le-zero, le_of_suc-le-suc, suc-ne-zero, suc_inj, add-zero}
+use native.Mathlib.Nat.{le_trans, le_refl, not-suc-le-zero, le_of_suc-le-suc, suc-ne-zero, suc_inj}
 use native.Mathlib.Numerals.{add-one}
 use native.Mathlib.Omega.{arith}
 use mathlib.Core.Path.{◌≡◌, refl, sym, ap, ◌∙◌}
-use mathlib.Core.Bool.{true, false, not, ◌&&◌, false≢true}
+use mathlib.Core.Bool.{true, false, not}
 use mathlib.Core.List.{List, [], ◌∷◌}
 use lib.ListN.{length, get_or, take, drop, drop_of_length-le, length-take, length-drop}
-use lib.Seq.{drop-cons, get_or-take, get_or-drop, take_all}
+use lib.Seq.{drop-cons}
 use lib.Dec.{eqb, leb}
-use borrow.Author.Tests.{le-leb, lt-leb, lt-ltb, le-ltb, leb-true, eqb-true}
+use borrow.Author.Tests.{le-leb, lt-leb, lt-ltb, le-ltb, leb-true}
 use Rattle.std.specs.Prelude.{Ok, Err}
 use Rattle.layout.specs.declared.number.NumberFault.TheVariants.{NotNumber, Over}
 use Rattle.std.specs.List.{position_or_len}
@@ -28,10 +28,6 @@ module _ (b : ℕ) where
   pub digit_low : b < 48 → is_digit b ≡ false
   unfolding is_digit
   digit_low p = rw (lt-leb 48 b p)
-
-  pub digit-high : 57 < b → is_digit b ≡ false
-  unfolding is_digit
-  digit-high q = rw (lt-leb b 57 q) (and-false (leb 48 b))
 
   pub digit-from : is_digit b ≡ true → 48 ≤ b
   unfolding is_digit

@@ -6,9 +6,9 @@ use native.Mathlib.Numerals.{add-one, sub-one}
 use native.Mathlib.Omega.{arith}
 use mathlib.Core.Path.{◌≡◌, refl, sym, ap, ◌∙◌}
 use mathlib.Core.Bool.{Bool, true, false, cond, not, ◌&&◌}
-use mathlib.Core.List.{List, [], ◌∷◌, ◌++◌, append_assoc}
+use mathlib.Core.List.{List, [], ◌∷◌, ◌++◌}
 use lib.ListN.{length, get_or, take, drop, length-drop, drop_of_length-le}
-use lib.Seq.{drop-cons, drop-drop, take_all, length-take-le}
+use lib.Seq.{drop-drop, take_all, length-take-le}
 use lib.Dec.{eqb}
 use borrow.Author.Tests.{eq-eqb, ne_eqb, not-true, lt-ltb, le-ltb}
 use Rattle.std.specs.List.{position_or_len}
@@ -87,25 +87,6 @@ module _ (b : ℕ) (s : List ℕ) (a e : ℕ) (found : e ≡ a + find b (drop a 
   cut-last h =
       split-last b (drop a s) (omega (arith, length-drop a s))
       ∙ ap (λ (l : List ℕ). l ∷ []) (sym (take_all (e - a) (drop a s) (omega (arith, length-drop a s))))
-
--- ---- parts cut one after the other: the parts fs, and the rest from a on
-pub record Cut (b : ℕ) (s : List ℕ) (fs : List (List ℕ)) (a : ℕ) : Type 0 where
-  pub is : split b s ≡ fs ++ split b (drop a s)
-
-pub cut-begins : (b : ℕ) (s : List ℕ) → Cut b s [] 0
-cut-begins b s = record { is = refl }
-
-module _ {b : ℕ} {s : List ℕ} {fs : List (List ℕ)} {a : ℕ} (c : Cut b s fs a) (e : ℕ) (found : e ≡ a + find b (drop a s)) (ha : a ≤ length s) where
-  pub cut-next : e < length s → Cut b s (fs ++ take (e - a) (drop a s) ∷ []) (e + 1)
-  cut-next h = record {
-    is =
-        c.is
-        ∙ ap (λ (l : List (List ℕ)). fs ++ l) (cut-more b s a e found ha h)
-        ∙ sym (append_assoc fs (take (e - a) (drop a s) ∷ []) (split b (drop (e + 1) s)));
-  }
-
-  pub cut-ends : length s ≤ e → split b s ≡ fs ++ take (e - a) (drop a s) ∷ []
-  cut-ends h = c.is ∙ ap (λ (l : List (List ℕ)). fs ++ l) (cut-last b s a e found ha h)
 
 -- ---- the part with a number
 get_or-pred : (p : List ℕ) (l : List (List ℕ)) (j : ℕ) → 0 < j → get_or (p ∷ l) j [] ≡ get_or l (j - 1) []

@@ -111,9 +111,6 @@ module _ (s : List ℕ) (from bound : ℕ) where
         let n = value-number bound (digits (drop from s)) t.0 t.1 in
         (n.0, n.1 ∙ sym t.2, omega (arith, n.2, t.2), t.3)
 
-    pub number-low : r.value < bound
-    number-low = told.2
-
     pub number-stands : Stands (spell r.value) from r.end s
     number-stands = rw (← told.1, told.3) (digits-stand told.0)
 

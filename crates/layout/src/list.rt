@@ -24,7 +24,12 @@ pub enum ListFault {
 
 // The count of items so far, after one item more: a number is kept in the next place, and of two faults the graver stands.
 #[tactic(auto, unfolding(crate::specs::Steps::List::pushed, crate::specs::Steps::List::kept, crate::specs::Steps::List::joined, crate::specs::Steps::List::held))]
-fn push_item(items: &mut [u32], so_far: Result<usize, ListFault>, item: &[u8], bound: u64) -> Result<usize, ListFault>
+fn push_item(
+    items: &mut [u32],
+    so_far: Result<usize, ListFault>,
+    item: &[u8],
+    bound: u64,
+) -> Result<usize, ListFault>
     requires { bound ≤ 4294967296 }
     ensures { (result ≡ pushed bound (length items.old) so_far item.now) × (items.new ≡ kept bound so_far item.now items.old) }
 {
@@ -98,8 +103,8 @@ fn put_tail(part: &mut [u8], items: &[u32]) -> usize
     ensures { (result ≡ length (tail_text items.now)) × (part.new ≡ fill (tail_text items.now) part.old) }
 {
     let mut at = 0;
-    for x in items {
-        at += put_item(&mut part[at..], *x);
+    for item in items {
+        at += put_item(&mut part[at..], *item);
     }
     at
 }

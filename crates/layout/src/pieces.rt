@@ -7,6 +7,7 @@ ghost use Rattle.layout.specs.Pieces.{pieces_from};
 pub trait Pieces {
     // The bytes of the piece in a place, and what has to hold of the place.
     ghost piece: { Self → ℕ → List ℕ };
+
     ghost stands: { Self → ℕ → Type 0 };
 
     // Writes the piece i into a part that has room.

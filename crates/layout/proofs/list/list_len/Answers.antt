@@ -1,6 +1,6 @@
 -- `list_len` meets its contract: the bytes counted and those of the items left are all bytes of the items, each with a comma.
 -- Assumes nothing.
-use Rattle.std.proofs.Common.{◌≡◌, ◌<◌, arith, sym, ap, length, ◌∙◌}
+use Rattle.std.proofs.Common.{◌≡◌, ◌<◌, arith, sym, ap, length}
 use Rattle.std.proofs.lemmas.Grind.{common_steps}
 use Rattle.layout.proofs.ListTextLaws.{list-empty, tail-long, tail-end, tail-list}
 use Rattle.layout.proofs.list.list_len.Goals as goal

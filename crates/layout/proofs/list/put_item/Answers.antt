@@ -1,5 +1,5 @@
 -- `put_item` meets its contract: the comma, and the number behind it. Assumes nothing.
-use Rattle.std.proofs.Common.{◌∙◌, ◌∷◌, set, arith, length-set}
+use Rattle.std.proofs.Common.{◌∙◌, ◌∷◌, set, arith}
 use Rattle.layout.specs.Number.{spell}
 use Rattle.layout.proofs.FillLaws.{part_filled, fill_at-set, fill_at-zero}
 use Rattle.layout.proofs.list.put_item.Goals as goal

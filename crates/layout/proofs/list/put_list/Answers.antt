@@ -1,11 +1,10 @@
 -- `put_list` meets its contract: `-` for the empty list, and else the first number, and the others behind it. Assumes nothing.
-use Rattle.std.proofs.Common.{◌≡◌, ◌<◌, ℕ, List, arith, refl, sym, ap, ◌∙◌, length, get_or, drop}
+use Rattle.std.proofs.Common.{ℕ, List, arith, sym, ap, ◌∙◌, length, get_or}
 use Rattle.layout.specs.Fill.{fill}
 use Rattle.layout.specs.Number.{spell}
 use Rattle.layout.specs.List.{list_text}
-use Rattle.layout.specs.Steps.List.{tail_text}
 use Rattle.layout.proofs.ListTextLaws.{list-empty, list_at, list_begun}
-use Rattle.layout.proofs.FillLaws.{Writing, tail-part, first-room, writing-from, last-room, last_sum, last-length, last-part}
+use Rattle.layout.proofs.FillLaws.{tail-part, first-room, writing-from, last-room, last_sum, last-length, last-part}
 use Rattle.layout.proofs.list.put_list.Goals as goal
 
 pub put_bytes-requires : goal.put_bytes-requires

@@ -5,30 +5,30 @@ use Rattle.layout.proofs.ListTextLaws.{tail_at, tail-end}
 use Rattle.layout.proofs.FillLaws.{writing_begins, writing-from, writing-room, writing-sum, writing-part, writing-ends}
 use Rattle.layout.proofs.list.put_tail.Goals as goal
 
-pub loop-x-init : goal.loop-x-init
-loop-x-init c = writing_begins _ _ c.requires
+pub loop-item-init : goal.loop-item-init
+loop-item-init c = writing_begins _ _ c.requires
 
 pub slice_bounds-put_item-count : goal.slice_bounds-put_item-count
-slice_bounds-put_item-count c = writing-from c.loop-x.invariant
+slice_bounds-put_item-count c = writing-from c.loop-item.invariant
 
 pub slice_bounds-put_item-start : goal.slice_bounds-put_item-start
-slice_bounds-put_item-start c = writing-from c.loop-x.invariant
+slice_bounds-put_item-start c = writing-from c.loop-item.invariant
 
 pub put_item-at-requires : goal.put_item-at-requires
 put_item-at-requires c =
-    writing-room c.loop-x.invariant (44 ∷ spell (get_or c.args.items.now c.loop-x.x-index 0)) _ (tail_at c.args.items.now c.loop-x.x-index c.loop-x-test.true)
+    writing-room c.loop-item.invariant (44 ∷ spell (get_or c.args.items.now c.loop-item.item-index 0)) _ (tail_at c.args.items.now c.loop-item.item-index c.loop-item-test.true)
 
 pub overflow_add-at : goal.overflow_add-at
 overflow_add-at c =
-    omega (arith, c.put_item-at.ensures.0, writing-sum c.loop-x.invariant (44 ∷ spell (get_or c.args.items.now c.loop-x.x-index 0)) _ (tail_at c.args.items.now c.loop-x.x-index c.loop-x-test.true))
+    omega (arith, c.put_item-at.ensures.0, writing-sum c.loop-item.invariant (44 ∷ spell (get_or c.args.items.now c.loop-item.item-index 0)) _ (tail_at c.args.items.now c.loop-item.item-index c.loop-item-test.true))
 
-pub loop-x-preserved : goal.loop-x-preserved
-loop-x-preserved c =
-    writing-part c.loop-x.invariant (44 ∷ spell (get_or c.args.items.now c.loop-x.x-index 0)) _ (tail_at c.args.items.now c.loop-x.x-index c.loop-x-test.true) c.put_item-at.result c.put_item-at.new.part
+pub loop-item-preserved : goal.loop-item-preserved
+loop-item-preserved c =
+    writing-part c.loop-item.invariant (44 ∷ spell (get_or c.args.items.now c.loop-item.item-index 0)) _ (tail_at c.args.items.now c.loop-item.item-index c.loop-item-test.true) c.put_item-at.result c.put_item-at.new.part
     c.put_item-at.ensures.0 c.put_item-at.ensures.1
 
 pub shape_of-part : goal.shape_of-part
-shape_of-part c = c.loop-x.invariant.long
+shape_of-part c = c.loop-item.invariant.long
 
 pub returns : goal.returns
-returns c = writing-ends c.loop-x.invariant (tail-end c.args.items.now c.loop-x.x-index c.loop-x-test.false)
+returns c = writing-ends c.loop-item.invariant (tail-end c.args.items.now c.loop-item.item-index c.loop-item-test.false)

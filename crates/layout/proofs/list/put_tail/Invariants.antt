@@ -4,5 +4,5 @@ use Rattle.layout.specs.Steps.List.{tail_text}
 use Rattle.layout.proofs.FillLaws.{Writing}
 use Rattle.layout.proofs.list.put_tail.Given as goal
 
-abbrev pub invariant-loop-x : goal.invariant-loop-x
-invariant-loop-x l = Writing (tail_text l.items) l.initial.part (tail_text (drop l.x-index l.items)) l.part l.at
+abbrev pub invariant-loop-item : goal.invariant-loop-item
+invariant-loop-item l = Writing (tail_text l.items) l.initial.part (tail_text (drop l.item-index l.items)) l.part l.at

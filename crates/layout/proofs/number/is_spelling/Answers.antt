@@ -1,5 +1,5 @@
 -- `is_spelling` meets its contract, by what the field is as a number below n + 1. Assumes nothing.
-use Rattle.std.proofs.Common.{arith, sym, ◌∙◌}
+use Rattle.std.proofs.Common.{◌∙◌}
 use Rattle.layout.proofs.SpellLaws.{own-is}
 use Rattle.layout.proofs.number.is_spelling.Goals as goal
 

@@ -1,5 +1,5 @@
 -- `number_at` meets its contract. Assumes nothing.
-use Rattle.std.proofs.Common.{◌≡◌, ◌≤◌, ◌+◌, arith, refl, sym, ◌∙◌, length}
+use Rattle.std.proofs.Common.{◌≤◌, ◌+◌, arith, refl, sym, ◌∙◌, length}
 use Rattle.std.proofs.lemmas.Grind.{common_steps}
 use Rattle.layout.proofs.FillLaws.{tail-part}
 use Rattle.layout.proofs.StandsLaws.{at-none, at-some}
@@ -8,8 +8,11 @@ use Rattle.layout.proofs.number.number_at.Goals as goal
 pub returns-in_err-value : goal.returns-in_err-value
 returns-in_err-value c =
     let t = tail-part c.args.s.now c.args.from in
-    rw c.from_residual.ensures (at-none c.args.s.now c.args.from c.args.bound c.digits_len.result _ (rw t at c.digits_len.ensures.0) refl c.read_number.result c.read_number.ensures
-    (sym c.in_err-value.was ∙ c.ok.ensures.value), tt)
+    rw c.from_residual.ensures (
+      at-none c.args.s.now c.args.from c.args.bound c.digits_len.result _ (rw t at c.digits_len.ensures.0) refl c.read_number.result c.read_number.ensures
+          (sym c.in_err-value.was ∙ c.ok.ensures.value),
+      tt,
+    )
 
 pub returns : goal.returns
 returns c =

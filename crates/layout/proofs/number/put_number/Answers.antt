@@ -1,5 +1,5 @@
 -- `put_number` meets its contract: it writes the digits from the last one on. Assumes nothing.
-use Rattle.std.proofs.Common.{◌≡◌, ◌<◌, ◌-◌, ◌∙◌, sym, arith, length, length-set}
+use Rattle.std.proofs.Common.{◌≡◌, ◌∙◌, sym, arith, length-set}
 use Rattle.layout.specs.Fill.{fill}
 use Rattle.layout.proofs.SpellLaws.{last-spell, last_turn, last_none, spell-rest}
 use Rattle.layout.proofs.number.put_number.Goals as goal

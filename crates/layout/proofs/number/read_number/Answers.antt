@@ -1,7 +1,7 @@
 -- `read_number` meets its contract. Assumes nothing.
-use Rattle.std.proofs.Common.{◌≡◌, ◌<◌, ℕ, length, get_or, arith, sym, ap, ◌∙◌}
-use Rattle.layout.specs.Number.{is_number, all_digits, is_digit, starts_well}
-use Rattle.layout.proofs.NumberLaws.{starts-not, number-not, digits-not, digits-next, digits-end, number-read, below-next, below-value, below-not, all-not}
+use Rattle.std.proofs.Common.{◌≡◌, length, arith, sym, ◌∙◌}
+use Rattle.layout.specs.Number.{is_digit}
+use Rattle.layout.proofs.NumberLaws.{starts-not, number-not, digits-not, digits-next, number-read, below-next, below-value, below-not, all-not}
 use Rattle.layout.proofs.number.read_number.Goals as goal
 
 pub returns-then-not-starts_well : goal.returns-then-not-starts_well

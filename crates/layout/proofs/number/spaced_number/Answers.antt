@@ -1,5 +1,5 @@
 -- `spaced_number` meets its contract. Assumes nothing.
-use Rattle.std.proofs.Common.{◌≡◌, ◌≤◌, ◌+◌, ◌∷◌, [], arith, refl, sym, length}
+use Rattle.std.proofs.Common.{◌∷◌, [], arith, sym}
 use Rattle.layout.specs.Steps.Stands.{spaced_number, spaced}
 use Rattle.layout.proofs.StandsLaws.{word_fits}
 use Rattle.layout.proofs.number.spaced_number.Goals as goal

@@ -1,5 +1,5 @@
 -- `put_pieces` meets its contract: the pieces left, written behind what is there, complete the text. Assumes nothing.
-use Rattle.std.proofs.Common.{◌≡◌, ◌-◌, ℕ, arith, rules}
+use Rattle.std.proofs.Common.{◌≡◌, ◌-◌, arith, rules}
 use Rattle.layout.proofs.FillLaws.{writing_begins, writing-room, writing-sum, writing-part, writing-ends}
 use Rattle.layout.proofs.PiecesLaws.{pieces_next, pieces_end}
 use Rattle.layout.proofs.pieces.put_pieces.Goals as goal

@@ -1,5 +1,5 @@
 -- `stands_at` meets its contract. Assumes nothing.
-use Rattle.std.proofs.Common.{sym, ◌∙◌, length, take, drop, arith, List, ℕ}
+use Rattle.std.proofs.Common.{sym, ◌∙◌, length, take, drop, List, ℕ}
 use Rattle.layout.specs.Steps.Stands.{stands_at}
 use Rattle.layout.proofs.FillLaws.{tail-part}
 use Rattle.layout.proofs.WordLaws.{same_is_pointwise, same_sym}
