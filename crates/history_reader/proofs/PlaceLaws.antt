@@ -1,20 +1,22 @@
 -- The line that a place names lies within its text, and the faulty line of a refusal within the history text. Assumes nothing.
 use Prim.Native.Nat.{ℕ, ◌+◌, ◌≤◌}
 use native.Mathlib.Omega.{arith}
-use mathlib.Core.Path.{◌≡◌, refl, ap}
+use mathlib.Core.Path.{◌≡◌, refl, sym, ap, subst}
 use mathlib.Core.Bool.{Bool, true, false, cond}
 use mathlib.Core.List.{List, [], ◌∷◌, ◌++◌}
 use lib.ListN.{length, length-append}
 use lib.Dec.{eqb, leb}
 use borrow.Author.Tests.{eq-eqb, ne_eqb}
+use Rattle.std.specs.Prelude.{Err}
 use Rattle.layout.specs.Split.{split, join}
 use Rattle.layout.specs.Word.{same, object_heading, event_heading}
 use Rattle.layout.proofs.Cases.{by-eq}
 use Rattle.layout.proofs.SplitLaws.{join-split}
 use Rattle.history.specs.declared.record.Object.{Object}
 use Rattle.history.specs.declared.record.Event.{Event}
-use Rattle.history_reader.specs.Place.{Text, HistoryText, Place, nowhere, faulty_place, text_named}
-use Rattle.history_reader.specs.ReadHistory.{HistoryRead, refusal, read_as, events_from, objects_from, lines_from, read_history}
+use Rattle.history_reader.specs.Place.{Text, line_place, HistoryText, Place, nowhere, faulty_place, text_named}
+use Rattle.history_reader.specs.declared.read.Refusal.{Refusal}
+use Rattle.history_reader.specs.ReadHistory.{HistoryRead, history_read, refusal, read_as, events_from, objects_from, lines_from, read_history}
 use Rattle.history.specs.Faults.{object_line, event_line}
 
 -- The numbers of a place fit the text t, which has n bytes; and the text that it names, whatever that is.
@@ -103,3 +105,7 @@ placed-history text =
     placed-cond (length text) (leb (length text) 16384) (lines_from (split 10 text)) (refusal 1 0 0 0)
     (placed-lines (length text) (split 10 text) (omega (arith, ap length (join-split 10 text))))
     (placed-refusal (length text) 1 0 0 0 (omega arith) (omega arith))
+
+-- the same of a refusal by the code
+pub placed-refused : (text : List ℕ) (r : Refusal) → history_read (Err r) ≡ read_history text → PartOf HistoryText (length text) (line_place r.place)
+placed-refused text r e = subst (λ (h : HistoryRead). Placed (length text) h) (sym e) (placed-history text)

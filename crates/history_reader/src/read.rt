@@ -55,18 +55,16 @@ fn read_objects(text: &[u8], from: usize) -> Result<Declared, Refusal>
         let Some(end) = find_from(text, start, b'\n') else {
             return Err(refuse(Fault::Layout, line, start, text.len()));
         };
-        if is_word(
-            &text[start..end],
-            b"event process object op value answer",
-        ) {
+        if is_word(&text[start..end], b"event process object op value answer") {
             return Ok(Declared {
                 objects,
                 declared,
                 end: end + 1,
             });
         }
-        objects[declared] = read_object(&text[start..end], declared as u32)
-            .map_err(|fault| refuse(fault, line, start, end))?;
+        objects[declared] = read_object(&text[start..end], declared as u32).map_err(|fault| refuse(
+            fault, line, start, end,
+        ))?;
         declared += 1;
         start = end + 1;
     }
