@@ -1,21 +1,24 @@
 -- Laws of the line of an event. Assumes nothing.
-use Prim.Native.Nat.{ℕ}
+use Prim.Native.Nat.{ℕ, ◌<◌}
 use mathlib.Core.Path.{◌≡◌}
-use mathlib.Core.Bool.{Bool, true, ◌&&◌, ◌||◌}
+use mathlib.Core.Bool.{Bool, true, false, ◌&&◌, ◌||◌}
 use mathlib.Core.List.{List, []}
 use lib.ListN.{length, get_or}
-use lib.Dec.{ltb}
-use borrow.Author.Tests.{eq-eqb, ne_eqb}
+use lib.Dec.{leb, ltb}
+use borrow.Author.Tests.{eq-eqb, ne_eqb, ltb-true}
+use Rattle.std.specs.Prelude.{Ok}
 use Rattle.layout.specs.Split.{split}
 use Rattle.layout.specs.Word.{same, dash}
 use Rattle.layout.specs.Number.{is_number, value, spell}
 use Rattle.layout.specs.List.{all_numbers, all_below}
-use Rattle.layout.proofs.Cases.{and_left, and_right}
+use Rattle.layout.proofs.Cases.{by_bool, and_left, and_right}
 use Rattle.history.specs.declared.record.Object.{Object}
 use Rattle.history.specs.declared.record.Event.{Event}
 use Rattle.history.specs.Record.{value_bound}
-use Rattle.history.specs.Kinds.{is_op}
-use Rattle.history.specs.Faults.{is_optional, answer_items, event_layout, event_limits, faulty_event, event_with, event_six, event_fields, event_line}
+use Rattle.history.specs.Kinds.{is_op, op_of, has_op, takes_value, may_answer}
+use Rattle.history.specs.Faults.{first_fault, is_optional, optional, answer_items, answer_said, event_layout, event_limits, event_fits, event_long, object_named, event_fault, faulty_event, event_with, event_said, event_six, event_fields, event_line}
+use Rattle.history.specs.Steps.Fields.{value_said, answer_short, fields_said, answered, six_said}
+use Rattle.history.specs.declared.event.Said.{Said}
 
 -- ---- an event, or its fault
 module _ (fault : ℕ) (e : Event) where
@@ -78,6 +81,45 @@ limited own declared p o v s e =
       given = and_right b₃ (same v dash || ltb (value v) value_bound) e₄;
       answer = and_right b₄ (all_below value_bound (answer_items s)) e;
     }
+
+-- ---- what fields say that are laid out as they should be and within their limits
+record Says (own : ℕ) (os : List Object) (a p o w v s : List ℕ) (said : Said) : Type 0 where
+  layout : event_layout own a p o w v s ≡ true
+  limits : event_limits own (length os) p o v s ≡ true
+  is : said ≡ record { process = record { 0 = value p }; object = value o; op = op_of w; value = value_said v; answer = answer_short s }
+
+module _ (own : ℕ) (os : List Object) (a p o w v s : List ℕ) (said : Said) (q : Ok said ≡ fields_said own (length os) a p o w v s) where
+  says : Says own os a p o w v s said
+  unfolding fields_said
+  says =
+      by_bool (event_layout own a p o w v s)
+      (λ l. by_bool (event_limits own (length os) p o v s)
+      (λ m. let e = rw (l, m) at q in record { layout = l; limits = m; is = cc })
+      (λ m. let e = rw (l, m) at q in absurd (cc)))
+      (λ l. let e = rw l at q in absurd (cc))
+
+  pub said_object : said.object < length os
+  unfolding event_limits
+  said_object = let h = says in rw h.is (ltb-true (value o) (length os) (limited own (length os) p o v s h.limits).object)
+
+  pub said_six : event_six own os a p o w v s ≡ six_said os said
+  unfolding event_six event_fault first_fault event_fits event_long event_said optional value_said answer_short six_said answered
+  said_six =
+      let h = says in
+      rw (h.is, h.layout, h.limits)
+      (by_bool (has_op (object_named os o).kind (op_of w))
+      (λ k. by_bool (same v dash)
+      (λ d. by_bool (takes_value (op_of w))
+      (λ t. rw (k, d, t))
+      (λ t. by_bool (leb (length (answer_items s)) 8)
+      (λ l. by_bool (may_answer (object_named os o) (op_of w) (answer_said s)) (λ m. rw (k, d, t, l, m)) (λ m. rw (k, d, t, l, m)))
+      (λ l. rw (k, d, t, l))))
+      (λ d. by_bool (takes_value (op_of w))
+      (λ t. by_bool (leb (length (answer_items s)) 8)
+      (λ l. by_bool (may_answer (object_named os o) (op_of w) (answer_said s)) (λ m. rw (k, d, t, l, m)) (λ m. rw (k, d, t, l, m)))
+      (λ l. rw (k, d, t, l)))
+      (λ t. rw (k, d, t))))
+      (λ k. rw k))
 
 -- ---- the line, by its fields
 module _ (own : ℕ) (os : List Object) (line : List ℕ) (fs : List (List ℕ)) (cut : split 32 line ≡ fs) where

@@ -45,6 +45,7 @@ fn narrow(items: &[u32]) -> Answer
 }
 
 // What a field is as an answer: `?`, or a list. One of more than eight values, which no op can give, is none.
+#[tactic(auto, unfolding(crate::specs::Steps::Fields::answer_field, crate::specs::Steps::Fields::answer_short, crate::specs::Faults::is_lost, crate::specs::Faults::answer_items, crate::specs::Faults::answer_said, layout::specs::List::list_of, layout::specs::List::judged, layout::specs::List::all_numbers, layout::specs::List::all_below))]
 pub fn answer_field(field: &[u8]) -> Result<Result<Option<Answer>, Fault>, Fault>
     ensures { result ≡ answer_field field.now }
 {

@@ -1,11 +1,13 @@
 // The line of an event.
-ghost use Rattle.std.specs.Prelude.{◌≡◌, ◌≤◌, length};
-ghost use Rattle.history.specs.Faults.{event_read, event_six, event_line};
+ghost use Rattle.std.specs.Prelude.{◌≡◌, ◌≢◌, ◌≤◌, ◌<◌, [], ◌∷◌, length, MatchOption};
+ghost use Rattle.layout.specs.Split.{split};
+ghost use Rattle.history.specs.Faults.{event_read, event_line};
+ghost use Rattle.history.specs.Steps.Fields.{fields_said, six_said};
 
 use crate::answer::answer_field;
 use crate::fault::Fault;
 use crate::field::{number_field, optional_field};
-use crate::record::{Event, Object, ProcessNo, VALUES, Value};
+use crate::record::{Answer, Event, Object, Op, ProcessNo, VALUES, Value};
 use crate::word::{fits_dash, has_op, may_answer, read_op, takes_value};
 use layout::number::is_spelling;
 use layout::split::split_once;
@@ -21,41 +23,91 @@ struct Fields<'a> {
     answer: &'a [u8],
 }
 
-// Reads the fields of the event whose number is `own`, in a history with these objects.
-#[tactic(auto, unfolding(crate::specs::Faults::event_six, crate::specs::Faults::event_fault, crate::specs::Faults::first_fault, crate::specs::Faults::event_layout, crate::specs::Faults::event_limits, crate::specs::Faults::event_fits, crate::specs::Faults::event_long, crate::specs::Faults::event_said, crate::specs::Faults::is_optional, crate::specs::Faults::optional, crate::specs::Steps::Fields::number_field, crate::specs::Steps::Fields::optional_field, crate::specs::Steps::Fields::answer_field))]
-fn read_six(fields: Fields, own: u32, objects: &[Object]) -> Result<Event, Fault>
-    requires { length objects.now ≤ 16 }
-    ensures { event_read result ≡ event_six own objects.now fields.entry.number.now fields.entry.process.now fields.entry.object.now fields.entry.op.now fields.entry.value.now fields.entry.answer.now }
+// Cuts a line into six fields; none where it has fewer or more.
+#[tactic(auto, using(crate::proofs::FaultLaws::some_part))]
+fn cut(line: &[u8]) -> Option<Fields>
+    ensures { MatchOption result (length (split 32 line.now) ≢ 6) (λ f. split 32 line.now ≡ f.number.now ∷ f.process.now ∷ f.object.now ∷ f.op.now ∷ f.value.now ∷ f.answer.now ∷ []) }
+{
+    let (number, rest) = split_once(line, b' ')?;
+    let (process, rest) = split_once(rest, b' ')?;
+    let (object, rest) = split_once(rest, b' ')?;
+    let (op, rest) = split_once(rest, b' ')?;
+    let (value, answer) = split_once(rest, b' ')?;
+    if split_once(answer, b' ').is_some() {
+        return None;
+    }
+    Some(Fields {
+        number,
+        process,
+        object,
+        op,
+        value,
+        answer,
+    })
+}
+
+// What six fields say that are laid out as they should be and within their limits. A value that is `-` is none, and so is an
+// answer of more than eight values, which no op can give.
+#[derive(Clone, Copy)]
+pub struct Said {
+    pub process: ProcessNo,
+    pub object: u8,
+    pub op: Op,
+    pub value: Option<Value>,
+    pub answer: Option<Answer>,
+}
+
+// Reads the fields of the event whose number is `own`, in a history with so many objects.
+#[tactic(auto, unfolding(crate::specs::Steps::Fields::fields_said, crate::specs::Steps::Fields::value_said, crate::specs::Steps::Fields::answer_short, crate::specs::Faults::event_layout, crate::specs::Faults::event_limits, crate::specs::Faults::is_optional, crate::specs::Steps::Fields::number_field, crate::specs::Steps::Fields::optional_field, crate::specs::Steps::Fields::answer_field))]
+fn fields_said(fields: Fields, own: u32, declared: usize) -> Result<Said, Fault>
+    requires { declared ≤ 16 }
+    ensures { result ≡ fields_said own declared fields.entry.number.now fields.entry.process.now fields.entry.object.now fields.entry.op.now fields.entry.value.now fields.entry.answer.now }
 {
     if !is_spelling(fields.number, own) {
         return Err(Fault::Layout);
     }
     let process = number_field(fields.process, 8)?;
-    let number = number_field(fields.object, objects.len() as u64)?;
+    let object = number_field(fields.object, declared as u64)?;
     let Some(op) = read_op(fields.op) else {
         return Err(Fault::Layout);
     };
     let value = optional_field(fields.value, VALUES)?;
     let answer = answer_field(fields.answer)?;
-    // The line is laid out as it should be.
     if own >= 64 {
         return Err(Fault::Limits);
     }
     let process = process?;
-    let number = number?;
+    let object = object?;
     let value = value?;
     let answer = answer?;
-    // It is within its limits.
-    let object = objects[number as usize];
-    if !has_op(object.kind, op) || !fits_dash(takes_value(op), value.is_none()) {
+    Ok(Said {
+        process: ProcessNo(process as u8),
+        object: object as u8,
+        op,
+        value: value.map(|v| v as Value),
+        answer,
+    })
+}
+
+// The event that they say, or what does not fit the object.
+#[tactic(auto, unfolding(crate::specs::Steps::Fields::six_said, crate::specs::Steps::Fields::answered))]
+fn said_event(said: Said, objects: &[Object]) -> Result<Event, Fault>
+    requires { said.object < length objects.now }
+    ensures { event_read result ≡ six_said objects.now said }
+{
+    let object = objects[usize::from(said.object)];
+    if !has_op(object.kind, said.op) {
         return Err(Fault::Misfit);
     }
-    match answer {
-        Some(answer) if may_answer(object, op, answer) => Ok(Event {
-            process: ProcessNo(process as u8),
-            object: number as u8,
-            op,
-            value: value.unwrap_or(0) as Value,
+    if !fits_dash(takes_value(said.op), said.value.is_none()) {
+        return Err(Fault::Misfit);
+    }
+    match said.answer {
+        Some(answer) if may_answer(object, said.op, answer) => Ok(Event {
+            process: said.process,
+            object: said.object,
+            op: said.op,
+            value: said.value.unwrap_or(0),
             answer,
         }),
         _ => Err(Fault::BadAnswer),
@@ -64,36 +116,14 @@ fn read_six(fields: Fields, own: u32, objects: &[Object]) -> Result<Event, Fault
 
 // Reads the line of the event whose number is `own`, in a history with these objects, without its line feed: its event, or
 // its first fault.
-#[tactic(auto, using(crate::proofs::FaultLaws::some_part), unfolding(crate::specs::Faults::event_line, crate::specs::Faults::event_fields))]
+#[tactic(auto, using(crate::proofs::EventLaws::said_object, crate::proofs::EventLaws::said_six), unfolding(crate::specs::Faults::event_line, crate::specs::Faults::event_fields))]
 pub fn read_event(line: &[u8], own: u32, objects: &[Object]) -> Result<Event, Fault>
     requires { length objects.now ≤ 16 }
     ensures { event_read result ≡ event_line own objects.now line.now }
 {
-    let Some((number, rest)) = split_once(line, b' ') else {
+    let Some(fields) = cut(line) else {
         return Err(Fault::Layout);
     };
-    let Some((process, rest)) = split_once(rest, b' ') else {
-        return Err(Fault::Layout);
-    };
-    let Some((object, rest)) = split_once(rest, b' ') else {
-        return Err(Fault::Layout);
-    };
-    let Some((op, rest)) = split_once(rest, b' ') else {
-        return Err(Fault::Layout);
-    };
-    let Some((value, answer)) = split_once(rest, b' ') else {
-        return Err(Fault::Layout);
-    };
-    if split_once(answer, b' ').is_some() {
-        return Err(Fault::Layout);
-    }
-    let fields = Fields {
-        number,
-        process,
-        object,
-        op,
-        value,
-        answer,
-    };
-    read_six(fields, own, objects)
+    let said = fields_said(fields, own, objects.len())?;
+    said_event(said, objects)
 }
