@@ -6,7 +6,7 @@ use mathlib.Core.List.{List, []}
 use lib.ListN.{length, get_or}
 use lib.Dec.{leb, ltb}
 use borrow.Author.Tests.{eq-eqb, ne_eqb, ltb-true}
-use Rattle.std.specs.Prelude.{Ok}
+use Rattle.std.specs.Prelude.{Ok, Err}
 use Rattle.layout.specs.Split.{split}
 use Rattle.layout.specs.Word.{same, dash}
 use Rattle.layout.specs.Number.{is_number, value, spell}
@@ -16,7 +16,9 @@ use Rattle.history.specs.declared.record.Object.{Object}
 use Rattle.history.specs.declared.record.Event.{Event}
 use Rattle.history.specs.Record.{value_bound}
 use Rattle.history.specs.Kinds.{is_op, op_of, has_op, takes_value, may_answer}
-use Rattle.history.specs.Faults.{first_fault, is_optional, optional, answer_items, answer_said, event_layout, event_limits, event_fits, event_long, object_named, event_fault, faulty_event, event_with, event_said, event_six, event_fields, event_line}
+use Rattle.history.specs.declared.fault.Fault.{Fault}
+use Rattle.history.specs.declared.fault.Fault.TheVariants.{Layout, Limits}
+use Rattle.history.specs.Faults.{fault_number, first_fault, is_optional, optional, answer_items, answer_said, event_layout, event_limits, event_fits, event_long, object_named, event_fault, faulty_event, event_with, event_said, event_six, event_fields, event_line}
 use Rattle.history.specs.Steps.Fields.{value_said, answer_short, fields_said, answered, six_said}
 use Rattle.history.specs.declared.event.Said.{Said}
 
@@ -120,6 +122,16 @@ module _ (own : ℕ) (os : List Object) (a p o w v s : List ℕ) (said : Said) (
       (λ l. rw (k, d, t, l)))
       (λ t. rw (k, d, t))))
       (λ k. rw k))
+
+pub fault_six : (own : ℕ) (os : List Object) (a p o w v s : List ℕ) (f : Fault) → Err f ≡ fields_said own (length os) a p o w v s
+    → event_six own os a p o w v s ≡ faulty_event (fault_number f)
+unfolding event_six event_fault first_fault fields_said
+fault_six own os a p o w v s f q =
+    by_bool (event_layout own a p o w v s)
+    (λ l. by_bool (event_limits own (length os) p o v s)
+    (λ m. let e = rw (l, m) at q in absurd (cc))
+    (λ m. let e : f ≡ Limits = let e = rw (l, m) at q in cc in rw (e, l, m)))
+    (λ l. let e : f ≡ Layout = let e = rw l at q in cc in rw (e, l))
 
 -- ---- the line, by its fields
 module _ (own : ℕ) (os : List Object) (line : List ℕ) (fs : List (List ℕ)) (cut : split 32 line ≡ fs) where

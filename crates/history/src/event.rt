@@ -96,10 +96,7 @@ fn said_event(said: Said, objects: &[Object]) -> Result<Event, Fault>
     ensures { event_read result ≡ six_said objects.now said }
 {
     let object = objects[usize::from(said.object)];
-    if !has_op(object.kind, said.op) {
-        return Err(Fault::Misfit);
-    }
-    if !fits_dash(takes_value(said.op), said.value.is_none()) {
+    if !has_op(object.kind, said.op) || !fits_dash(takes_value(said.op), said.value.is_none()) {
         return Err(Fault::Misfit);
     }
     match said.answer {
@@ -116,7 +113,7 @@ fn said_event(said: Said, objects: &[Object]) -> Result<Event, Fault>
 
 // Reads the line of the event whose number is `own`, in a history with these objects, without its line feed: its event, or
 // its first fault.
-#[tactic(auto, using(crate::proofs::EventLaws::said_object, crate::proofs::EventLaws::said_six), unfolding(crate::specs::Faults::event_line, crate::specs::Faults::event_fields))]
+#[tactic(auto, using(crate::proofs::EventLaws::fault_six, crate::proofs::EventLaws::said_object, crate::proofs::EventLaws::said_six), unfolding(crate::specs::Faults::event_line, crate::specs::Faults::event_fields))]
 pub fn read_event(line: &[u8], own: u32, objects: &[Object]) -> Result<Event, Fault>
     requires { length objects.now ≤ 16 }
     ensures { event_read result ≡ event_line own objects.now line.now }
