@@ -7,3 +7,4 @@ pub mod list;
 pub mod next;
 pub mod numbers;
 pub mod record;
+pub mod word;
