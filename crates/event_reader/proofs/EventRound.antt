@@ -8,7 +8,7 @@ use lib.ListN.{length, get_or, drop, replicate, length-drop, length-map, take-ap
 use lib.Seq.{length-take-le}
 use lib.Dec.{eqb, leb, ltb}
 use borrow.Author.Tests.{ne_eqb, lt-ltb, ltb-true, le-leb, leb-true, eq-eqb, eqb-true, not-true}
-use Rattle.layout.specs.declared.list.ListRead.TheVariants.{Listed}
+use Rattle.core.specs.declared.result.Result.TheVariants.{Ok}
 use Rattle.layout.specs.Split.{split, join}
 use Rattle.layout.specs.Word.{same, dash, question, write_word, read_word, push_word, pop_word, peek_word}
 use Rattle.layout.specs.Number.{is_digit, value, spell}
@@ -425,7 +425,7 @@ module _ (own : ℕ) (os : List Object) (a p o w v s : List ℕ)
     unfolding numbers_of
     read_small = values-less value_bound (items_of s) read_below
 
-    read-listed : list_of value_bound 8 s ≡ Listed (length (items_of s))
+    read-listed : list_of value_bound 8 s ≡ Ok (length (items_of s))
     unfolding list_of judged
     read-listed = rw (read-numbers, read_below, read-few)
 

@@ -8,6 +8,7 @@ use lib.ListN.{length, get_or, take, drop, set, length-append}
 use lib.Seq.{take_at, get_or-take, length-take-le}
 use lib.Dec.{eqb, ltb}
 use borrow.Author.Tests.{lt-ltb}
+use Rattle.layout.specs.declared.at.At.{At}
 use Rattle.layout.specs.Word.{dash}
 use Rattle.layout.specs.Number.{spell}
 use Rattle.layout.specs.List.{list_text}
@@ -25,9 +26,7 @@ use Rattle.history.specs.Kinds.{op_word, has_op, takes_value, can_answer, may_an
 use Rattle.history.specs.HistoryText.{answer_text, event_text}
 use Rattle.history.specs.Readable.{all_less, all_zero, good_answer, good_value, good_event}
 use Rattle.history.proofs.ListingLaws.{Listing, more-small, listing-filled, listing-count, listing-ends}
-use Rattle.event_reader.specs.declared.next.AnswerAt.{AnswerAt}
-use Rattle.event_reader.specs.declared.next.NextEvent.{NextEvent}
-use Rattle.event_reader.specs.Steps.Next.{next_read, AnswerFrom}
+use Rattle.event_reader.specs.Steps.Next.{NextEvent, next_read, AnswerFrom}
 use Rattle.event_reader.proofs.EventRound.{event-written, event-clean, made-good, made-lost}
 
 -- a field and its space before other fields of a line
@@ -45,7 +44,7 @@ last-stands f p = p
 -- the last of some values, with a line feed behind it
 pub values-end : {from k a : ℕ} {s xs : List ℕ} → Listing 8 value_bound from s xs k a → k < 8 → (v e : ℕ) → Stands (spell v) a e s → v < value_bound
     → e < length s → get_or s e 0 ≡ 10
-    → AnswerFrom from s (record { known = true; answer = record { lost = false; count = k + 1; values = set xs k v }; end = e })
+    → AnswerFrom from s (record { value = record { lost = false; count = k + 1; values = set xs k v }; end = e })
 unfolding answer_of answer_text
 values-end {from} {k} {a} {s} {xs} r room v e number below to c =
     let ys : List ℕ = take (k + 1) (set xs k v) in
@@ -61,7 +60,7 @@ values-end {from} {k} {a} {s} {xs} r room v e number below to c =
 
 -- `-` and a line feed
 pub none_end : (from : ℕ) (s : List ℕ) (a : Answer) → a ≡ no_answer → Stands (45 ∷ 10 ∷ []) from (from + 2) s
-    → AnswerFrom from s (record { known = true; answer = a; end = from + 1 })
+    → AnswerFrom from s (record { value = a; end = from + 1 })
 unfolding answer_text list_text good_answer all_less all_zero
 none_end from s a q p =
     let k : from + 2 ≡ from + 1 + 1 = omega arith in
@@ -73,7 +72,7 @@ none_end from s a q p =
 
 -- `?` and a line feed
 pub lost-end : (from : ℕ) (s : List ℕ) (a : Answer) → a ≡ lost_answer → Stands (63 ∷ 10 ∷ []) from (from + 2) s
-    → AnswerFrom from s (record { known = true; answer = a; end = from + 1 })
+    → AnswerFrom from s (record { value = a; end = from + 1 })
 unfolding answer_text
 lost-end from s a q p =
     let k : from + 2 ≡ from + 1 + 1 = omega arith in
@@ -111,35 +110,26 @@ line-quick own os e from end s numbered good start line =
     )
 
 -- six fields that are in order, each at its place
-pub fields-quick : (own : ℕ) (objects : List Object) (declared process object : ℕ) (op : Op) (value : ℕ) (r : AnswerAt) (s : List ℕ)
-    {from second third fourth fifth last : ℕ} → from ≤ length s → declared ≤ length objects → own < 64
+pub fields-quick : (own : ℕ) (os : List Object) (process object : ℕ) (op : Op) (value : ℕ) (r : At Answer) (s : List ℕ)
+    {from second third fourth fifth last : ℕ} → from ≤ length s → own < 64
     → Stands (spell own ++ 32 ∷ []) from second s → process < 8 → Stands (spell process ++ 32 ∷ []) second third s
-    → object < declared → Stands (spell object ++ 32 ∷ []) third fourth s
-    → has_op (get_or objects object no_object).kind op ≡ true → Stands (op_word op ++ 32 ∷ []) fourth fifth s
+    → object < length os → Stands (spell object ++ 32 ∷ []) third fourth s
+    → has_op (get_or os object no_object).kind op ≡ true → Stands (op_word op ++ 32 ∷ []) fourth fifth s
     → cond (takes_value op) (ltb value value_bound) (eqb value 0) ≡ true → Stands (cond (takes_value op) (spell value) dash ++ 32 ∷ []) fifth last s
-    → AnswerFrom last s r → may_answer (get_or objects object no_object) op r.answer ≡ true
+    → AnswerFrom last s r → may_answer (get_or os object no_object) op r.value ≡ true
     → ◌≡◌ {A = NextEvent}
-    (record { fault = 0; end = r.end; event = record { process = record { 0 = process }; object = object; op = op; value = value; answer = r.answer } })
-    (next_read own (take declared objects) from (drop from s))
+    (record { fault = 0; end = r.end; event = record { process = record { 0 = process }; object = object; op = op; value = value; answer = r.value } })
+    (next_read own os from (drop from s))
 unfolding event_text
-fields-quick own objects declared process object op value r s {from} start few n₁ f₁ n₂ f₂ n₃ f₃ has f₄ given f₅ a can =
-    let os : List Object = take declared objects in
+fields-quick own os process object op value r s {from} start n₁ f₁ n₂ f₂ n₃ f₃ has f₄ given f₅ a can =
     let v : List ℕ = cond (takes_value op) (spell value) dash in
-    let fs : List (List ℕ) = spell process ∷ spell object ∷ op_word op ∷ v ∷ answer_text r.answer ∷ [] in
-    let e : Event = record { process = record { 0 = process }; object = object; op = op; value = value; answer = r.answer } in
-    let same : get_or os object no_object ≡ get_or objects object no_object = get_or-take declared objects object no_object n₃ in
+    let fs : List (List ℕ) = spell process ∷ spell object ∷ op_word op ∷ v ∷ answer_text r.value ∷ [] in
+    let e : Event = record { process = record { 0 = process }; object = object; op = op; value = value; answer = r.value } in
     let line : Stands (pieces_text (spell own ∷ fs)) from (r.end + 1) s =
     field-stands (spell own) _ _ f₁
     (field-stands (spell process) _ _ f₂
-    (field-stands (spell object) _ _ f₃ (field-stands (op_word op) _ _ f₄ (field-stands v _ _ f₅ (last-stands (answer_text r.answer) a.spelt))))) in
+    (field-stands (spell object) _ _ f₃ (field-stands (op_word op) _ _ f₄ (field-stands v _ _ f₅ (last-stands (answer_text r.value) a.spelt))))) in
     let t : pieces_text (spell own ∷ fs) ≡ event_text own e ++ 10 ∷ [] =
     pieces-join (spell own) fs in
-    let g : good_event os e ≡ true =
-    made-event os process object op value r.answer n₂ (omega (arith, length-take-le declared objects few))
-    (ap (λ (o : Object). has_op o.kind op) same ∙ has) given
-    (a.good (get_or os object no_object) op (ap (λ (o : Object). may_answer o op r.answer) same ∙ can)) in
+    let g : good_event os e ≡ true = made-event os process object op value r.value n₂ n₃ has given (a.good (get_or os object no_object) op can) in
     line-quick own os e from r.end s n₁ g start (subst (λ (l : List ℕ). Stands l from (r.end + 1) s) t line)
-
--- no event is read, and so none is told
-pub none_told : (end : ℕ) (r : NextEvent) → r ≡ record { fault = 2; end = end; event = no_event } → r.fault ≡ 0 → ⊥
-none_told end r q h = let t : ◌≡◌ {A = ℕ} 2 0 = sym (ap (λ (x : NextEvent). x.fault) q) ∙ h in absurd (omega arith)

@@ -34,36 +34,33 @@ fn op_at(text: &[u8], from: usize) -> Option<At<Op>>
     ensures { IfSome result (λ r. Stands (op_word r.value ++ 32 ∷ []) from r.end text.now) }
 {
     if stands_at(text, from, b"write ") {
-        return Some(At {
+        Some(At {
             value: Op::Write,
             end: from + 6,
-        });
-    }
-    if stands_at(text, from, b"read ") {
-        return Some(At {
+        })
+    } else if stands_at(text, from, b"read ") {
+        Some(At {
             value: Op::Read,
             end: from + 5,
-        });
-    }
-    if stands_at(text, from, b"push ") {
-        return Some(At {
+        })
+    } else if stands_at(text, from, b"push ") {
+        Some(At {
             value: Op::Push,
             end: from + 5,
-        });
-    }
-    if stands_at(text, from, b"pop ") {
-        return Some(At {
+        })
+    } else if stands_at(text, from, b"pop ") {
+        Some(At {
             value: Op::Pop,
             end: from + 4,
-        });
-    }
-    if stands_at(text, from, b"peek ") {
-        return Some(At {
+        })
+    } else if stands_at(text, from, b"peek ") {
+        Some(At {
             value: Op::Peek,
             end: from + 5,
-        });
+        })
+    } else {
+        None
     }
-    None
 }
 
 // The value that stands at a place with a space behind it: a number where one is wanted, and else `-`; and the place behind the space.
@@ -113,11 +110,8 @@ fn values_or_lost_at(text: &[u8], from: usize) -> Option<At<Answer>>
         let Some(number) = number_at(text, at, VALUES) else {
             return lost_at(text, from);
         };
-        if number.end >= text.len() {
-            return None;
-        }
         values[k] = number.value as Value;
-        match text[number.end] {
+        match *text.get(number.end)? {
             b'\n' => {
                 return Some(At {
                     value: Answer {
