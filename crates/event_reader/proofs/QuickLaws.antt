@@ -2,7 +2,7 @@
 use Prim.Native.Nat.{ℕ, ◌+◌, ◌≤◌, ◌<◌}
 use native.Mathlib.Omega.{arith}
 use mathlib.Core.Path.{◌≡◌, refl, sym, ap, ap₂, ◌∙◌, subst}
-use mathlib.Core.Bool.{true, false, cond}
+use mathlib.Core.Bool.{Bool, true, false, cond}
 use mathlib.Core.List.{List, [], ◌∷◌, ◌++◌, append_assoc}
 use lib.ListN.{length, get_or, take, drop, set, length-append}
 use lib.Seq.{take_at, get_or-take, length-take-le}
@@ -110,26 +110,28 @@ line-quick own os e from end s numbered good start line =
     )
 
 -- six fields that are in order, each at its place
-pub fields-quick : (own : ℕ) (os : List Object) (process object : ℕ) (op : Op) (value : ℕ) (r : At Answer) (s : List ℕ)
-    {from second third fourth fifth last : ℕ} → from ≤ length s → own < 64
-    → Stands (spell own ++ 32 ∷ []) from second s → process < 8 → Stands (spell process ++ 32 ∷ []) second third s
+pub fields-quick : (own : ℕ) (os : List Object) (number process object : ℕ) (op : Op) (wanted : Bool) (value : ℕ) (r : At Answer) (s : List ℕ)
+    {from second third fourth fifth last : ℕ} → from ≤ length s → number ≡ own → number < 64
+    → Stands (spell number ++ 32 ∷ []) from second s → process < 8 → Stands (spell process ++ 32 ∷ []) second third s
     → object < length os → Stands (spell object ++ 32 ∷ []) third fourth s
-    → has_op (get_or os object no_object).kind op ≡ true → Stands (op_word op ++ 32 ∷ []) fourth fifth s
-    → cond (takes_value op) (ltb value value_bound) (eqb value 0) ≡ true → Stands (cond (takes_value op) (spell value) dash ++ 32 ∷ []) fifth last s
+    → has_op (get_or os object no_object).kind op ≡ true → Stands (op_word op ++ 32 ∷ []) fourth fifth s → wanted ≡ takes_value op
+    → (cond wanted (ltb value value_bound) (eqb value 0) ≡ true) × Stands (cond wanted (spell value) dash ++ 32 ∷ []) fifth last s
     → AnswerFrom last s r → may_answer (get_or os object no_object) op r.value ≡ true
     → ◌≡◌ {A = NextEvent}
     (record { fault = 0; end = r.end; event = record { process = record { 0 = process }; object = object; op = op; value = value; answer = r.value } })
     (next_read own os from (drop from s))
 unfolding event_text
-fields-quick own os process object op value r s {from} start n₁ f₁ n₂ f₂ n₃ f₃ has f₄ given f₅ a can =
+fields-quick own os number process object op wanted value r s {from} {second} {third} {fourth} {fifth} {last} start same n₁ f₁ n₂ f₂ n₃ f₃ has f₄ takes given a can =
     let v : List ℕ = cond (takes_value op) (spell value) dash in
     let fs : List (List ℕ) = spell process ∷ spell object ∷ op_word op ∷ v ∷ answer_text r.value ∷ [] in
     let e : Event = record { process = record { 0 = process }; object = object; op = op; value = value; answer = r.value } in
+    let told : (cond (takes_value op) (ltb value value_bound) (eqb value 0) ≡ true) × Stands (v ++ 32 ∷ []) fifth last s =
+    subst (λ (t : Bool). (cond t (ltb value value_bound) (eqb value 0) ≡ true) × Stands (cond t (spell value) dash ++ 32 ∷ []) fifth last s) takes given in
     let line : Stands (pieces_text (spell own ∷ fs)) from (r.end + 1) s =
-    field-stands (spell own) _ _ f₁
+    field-stands (spell own) _ _ (subst (λ (n : ℕ). Stands (spell n ++ 32 ∷ []) from second s) same f₁)
     (field-stands (spell process) _ _ f₂
-    (field-stands (spell object) _ _ f₃ (field-stands (op_word op) _ _ f₄ (field-stands v _ _ f₅ (last-stands (answer_text r.value) a.spelt))))) in
+    (field-stands (spell object) _ _ f₃ (field-stands (op_word op) _ _ f₄ (field-stands v _ _ told.1 (last-stands (answer_text r.value) a.spelt))))) in
     let t : pieces_text (spell own ∷ fs) ≡ event_text own e ++ 10 ∷ [] =
     pieces-join (spell own) fs in
-    let g : good_event os e ≡ true = made-event os process object op value r.value n₂ n₃ has given (a.good (get_or os object no_object) op can) in
-    line-quick own os e from r.end s n₁ g start (subst (λ (l : List ℕ). Stands l from (r.end + 1) s) t line)
+    let g : good_event os e ≡ true = made-event os process object op value r.value n₂ n₃ has told.0 (a.good (get_or os object no_object) op can) in
+    line-quick own os e from r.end s (omega arith) g start (subst (λ (l : List ℕ). Stands l from (r.end + 1) s) t line)

@@ -11,7 +11,11 @@ pub loop-k-init : goal.loop-k-init
 loop-k-init c = (search rules, listing_begins 8 value_bound c.args.from c.args.text.now _ refl)
 
 pub returns-in-10 : goal.returns-in-10
-returns-in-10 c = let h = c.in-Some.ensures in ?
+returns-in-10 c =
+    let n = c.in-Some.ensures in
+    values-end c.loop-k.invariant.1 (search rules) _ _ (number-stands _ _ _ _ n.0) (search rules) (search rules) (search rules)
 
 pub loop-k-preserved : goal.loop-k-preserved
-loop-k-preserved c = ?
+loop-k-preserved c =
+    let n = c.in-Some.ensures in
+    (search rules, listing-more c.loop-k.invariant.1 (search rules) _ _ (number-stands _ _ _ _ n.0) (search rules) (search rules) (search rules))
