@@ -1,4 +1,6 @@
 -- What the check answers of two texts is the verdict of the definitions. Assumes nothing.
+use Rattle.std.specs.Prelude as code
+use Rattle.std.specs.Prelude.{Err}
 use Prim.Native.Nat.{ℕ, ◌-◌, ◌≤◌}
 use native.Mathlib.Omega.{arith}
 use mathlib.Core.Path.{◌≡◌, refl, sym, ap, ap₂, ◌∙◌, subst}
@@ -7,13 +9,17 @@ use mathlib.Core.List.{List, []}
 use mathlib.Core.Option.{Option, none, some}
 use lib.ListN.{length, take, replicate}
 use lib.Seq.{take-nil, drop-nil}
-use borrow.Author.Tests.{eq-eqb, ne_eqb}
 use Rattle.layout.proofs.Cases.{by-eq}
 use Rattle.history.specs.declared.record.History.{History}
+use Rattle.history.specs.declared.fault.Fault as Faulty
+use Rattle.history.specs.declared.fault.Fault.TheVariants.{TooLong, Layout, Limits, Misfit, BadAnswer, NotRising}
 use Rattle.history.specs.Record.{events_in}
 use Rattle.history.specs.Readable.{within}
+use Rattle.history.specs.Faults.{fault_number}
 use Rattle.history.proofs.WithinLaws.{within-limits}
-use Rattle.history_reader.specs.Place.{Text, Neither, Place, nowhere, event_place, line_in, line_of, bytes_at, text_named, part_at}
+use Rattle.history_reader.specs.declared.place.Place as code-place
+use Rattle.history_reader.specs.declared.read.Refusal.{Refusal}
+use Rattle.history_reader.specs.Place.{Place, nowhere, event_place, place_in, part_at}
 use Rattle.history_reader.specs.ReadHistory.{read_history}
 use Rattle.history_reader.proofs.EventPlaceLaws.{few-declared, few-counted, event-within}
 use Rattle.history_theorems.proofs.Theorems.{no-fault-readable, read-within}
@@ -21,7 +27,7 @@ use Rattle.certificate.specs.declared.record.Criterion.{Criterion}
 use Rattle.certificate.specs.declared.record.Certificate.{Certificate}
 use Rattle.certificate.specs.Record.{no_row}
 use Rattle.certificate.specs.Readable.{fits}
-use Rattle.certificate_reader.specs.ReadCertificate.{CertificateRead, read_certificate, rows_read}
+use Rattle.certificate_reader.specs.ReadCertificate.{CertificateRead, texts_read, read_certificate, rows_read}
 use Rattle.certificate_reader.proofs.TwoTextLaws.{PlacedIn, placed-two}
 use Rattle.certificate_theorems.proofs.Theorems.{no-fault-history, read_as, read_fits}
 use Rattle.certificate_theorems.proofs.Places.{Small, small-two}
@@ -30,59 +36,34 @@ use Rattle.criteria.specs.History.{size}
 use Rattle.criteria.specs.Records.{history_of, certificate_of}
 use Rattle.criteria.proofs.RecordLaws.{size_is}
 use Rattle.faults.specs.declared.finding.Finding.{Finding}
-use Rattle.faults.specs.Finding.{finding_of, number_in}
-use Rattle.faults.proofs.FindingLaws.{finding-back, fault-back, number_small}
 use Rattle.checker.specs.CheckText.{Verdict, refused, checked, place_of, found_in, history_read, rows_of, certificate_read, check_text, carried_line}
-use Rattle.checker.specs.declared.check.Checked.{Checked}
-use Rattle.checker.specs.Verdict.{verdict_of, checked_by, checked_of}
+use Rattle.checker.specs.Verdict.{found_of, checked_as, verdict_of}
 use Rattle.checker.proofs.TextTheorems.{checked-as, refused_as, lists-readable}
 use Rattle.checker.proofs.EventLaws.{Below, event-below}
 
 -- ---- the answers of the code
-module _ (history : List ℕ) (declared : ℕ) (c : Criterion) where
-  -- the verdict of a finding tells it back
-  pub found_back : (p : Place) (f : Finding) → p ≡ place_of history declared (answer_of (finding_of f)).event
-      → ◌≡◌ {A = Checked} (record { fault = 0; place = p; criterion = c; finding = f }) (checked_of (found_in history declared c (finding_of f)))
-  found_back p f q =
-      ap₂ {C = Checked} (λ (x : Place) (g : Finding). record { fault = 0; place = x; criterion = c; finding = g }) q (finding-back f)
+-- what was found of texts that were read, with the line of its event
+pub found-is : (history : List ℕ) (declared : ℕ) (c : Criterion) (p : code.Option code-place.Place) (f : code.Option Finding)
+    → place_in p ≡ place_of history declared (answer_of (found_of f)).event
+    → checked_as record { criterion = c; finding = f; place = p } ≡ found_in history declared c (found_of f)
+found-is history declared c p f q = ap (λ (x : Place). checked x c (answer_of (found_of f))) q
 
-  -- a whole answer stands for its verdict
-  pub checked-back : (x : Option Fault) → verdict_of (checked_of (found_in history declared c x)) ≡ found_in history declared c x
-  checked-back x =
-      ap (λ (y : Option Fault). checked (place_of history declared (answer_of x).event) c (answer_of y)) (fault-back x)
+-- no fault has the number 0
+pub fault-some : (f : Faulty.Fault) → fault_number f ≡ 0 → ⊥
+fault-some TooLong z = omega (arith, z)
+fault-some Layout z = omega (arith, z)
+fault-some Limits z = omega (arith, z)
+fault-some Misfit z = omega (arith, z)
+fault-some BadAnswer z = omega (arith, z)
+fault-some NotRising z = omega (arith, z)
 
--- ---- the line of an event, by its number or by none
-module _ (history : List ℕ) (declared n : ℕ) (x : Option ℕ) (q : number_in n ≡ x) where
-  pub at_none : n ≡ 4294967295 → nowhere ≡ place_of history declared x
-  at_none e = let z : number_in n ≡ none = rw (eq-eqb n 4294967295 e) in ap (place_of history declared) (sym z ∙ q)
-
-  pub at_some : (n ≡ 4294967295 → ⊥) → event_place history declared n ≡ place_of history declared x
-  at_some e = let z : number_in n ≡ some n = rw (ne_eqb n 4294967295 e) in ap (place_of history declared) (sym z ∙ q)
-
--- the number of the line of a place that names a text
-pub line_at : (p : Place) (which : Text) → p.text ≡ which → line_in which p.line ≡ some p.line → p.line ≤ 4294967294
-    → number_in p.line ≡ line_of p
-line_at p which q e h = number_small p.line h ∙ sym (ap (λ (w : Text). line_in w p.line) q ∙ e)
-
-pub refused-back : (r : CertificateRead) → (r.fault ≡ 0 → ⊥) → verdict_of (checked_of (refused r)) ≡ refused r
-refused-back r n = rw (ne_eqb r.fault 0 n) refl
-
-pub verdict-is : (history text : List ℕ) (k : Checked) → k ≡ checked_of (check_text history text) → verdict_of k ≡ check_text history text
-verdict-is history text k q =
-    ap verdict_of q
-    ∙ by-eq (read_certificate history text).fault 0
-    (λ z. subst (λ (v : Verdict). verdict_of (checked_of v) ≡ v) (sym (checked-as history text z))
-    (checked-back history (read_history history).history.declared (certificate_read history text).criterion
-    (check (history_read history) (certificate_read history text))))
-    (λ n. subst (λ (v : Verdict). verdict_of (checked_of v) ≡ v) (sym (refused_as history text n)) (refused-back (read_certificate history text) n))
+-- a reading refusal
+pub refused-answer : (history text : List ℕ) (r : Refusal) → texts_read history (Err r) ≡ read_certificate history text
+    → verdict_of (Err r) ≡ check_text history text
+refused-answer history text r read =
+    ap refused read ∙ sym (refused_as history text (λ z. fault-some r.fault (ap (λ (x : CertificateRead). x.fault) read ∙ z)))
 
 module _ (history text : List ℕ) (r : CertificateRead) (read : r ≡ read_certificate history text) where
-  -- a reading refusal
-  pub refused-answer : (r.fault ≡ 0 → ⊥) → checked_of (refused r) ≡ checked_of (check_text history text)
-  refused-answer n =
-      ap (λ (x : CertificateRead). checked_of (refused x)) read
-      ∙ ap checked_of (sym (refused_as history text (λ z. n (ap (λ (x : CertificateRead). x.fault) read ∙ z))))
-
   module _ (z : r.fault ≡ 0) (rows : List (List ℕ)) (rows-read : rows ≡ rows_read history text (replicate 64 no_row)) where
     pub no-fault : (read_certificate history text).fault ≡ 0
     no-fault = sym (ap (λ (x : CertificateRead). x.fault) read) ∙ z
@@ -118,9 +99,9 @@ module _ (history text : List ℕ) (r : CertificateRead) (read : r ≡ read_cert
         ∙ sym (checked-as history text no-fault)
 
     -- both texts are read
-    pub found-answer : (f : Finding) → finding_of f ≡ check (history_of r.history) (certificate_of r.history r.certificate rows)
-        → checked_of (found_in history r.history.declared r.certificate.criterion (finding_of f)) ≡ checked_of (check_text history text)
-    found-answer f q = ap checked_of (ap (found_in history r.history.declared r.certificate.criterion) q ∙ checked-read)
+    pub found-answer : (x : Option Fault) → x ≡ check (history_of r.history) (certificate_of r.history r.certificate rows)
+        → found_in history r.history.declared r.certificate.criterion x ≡ check_text history text
+    found-answer x q = ap (found_in history r.history.declared r.certificate.criterion) q ∙ checked-read
 
     -- few objects were read
     pub few-objects : r.history.declared ≤ 16
@@ -180,27 +161,18 @@ module _ (history text : List ℕ) where
       (below_more (read_history history).history.count 64 (answer_of (check (history_read history) (certificate_read history text))).event
       (few-counted history) (event-read z)))
 
--- ---- of a whole answer
-place-by : (o : Option Criterion) (v : Verdict) → (checked_by o v).place ≡ v.place
-place-by none v = refl
-place-by (some c) v = refl
+-- ---- of a place that an answer carries
+module _ (history text : List ℕ) (p : Place) (q : p ≡ (check_text history text).place) where
+  pub answer-placed : PlacedIn history text p
+  answer-placed = subst (PlacedIn history text) (sym q) (verdict-placed history text)
 
-module _ (history text : List ℕ) (k : Checked) (q : k ≡ checked_of (check_text history text)) where
-  place_is : (check_text history text).place ≡ k.place
-  place_is = sym (ap (λ (x : Checked). x.place) q ∙ place-by (check_text history text).criterion (check_text history text))
+  pub answer-small : Small p
+  answer-small = subst Small (sym q) (verdict-small history text)
 
-  pub answer-placed : PlacedIn history text k.place
-  answer-placed = subst (PlacedIn history text) place_is (verdict-placed history text)
-
-  pub answer-small : Small k.place
-  answer-small = subst Small place_is (verdict-small history text)
-
-  pub carried-part : (which : Text) → k.place.text ≡ which → bytes_at k.place (text_named which history text) ≡ carried_line history text
+  pub carried-part : part_at p history text ≡ carried_line history text
   unfolding carried_line
-  carried-part which e =
-      ap (λ (w : Text). bytes_at k.place (text_named w history text)) (sym e) ∙ ap (λ (p : Place). part_at p history text) (sym place_is)
+  carried-part = ap (λ (x : Place). part_at x history text) q
 
-  pub carried_none : k.place.text ≡ Neither → [] ≡ carried_line history text
-  carried_none e =
-      sym (ap (take (k.place.end - k.place.start)) (drop-nil k.place.start) ∙ take-nil (k.place.end - k.place.start))
-      ∙ carried-part Neither e
+-- where no line is carried
+pub carried_none : (history text : List ℕ) → nowhere ≡ (check_text history text).place → [] ≡ carried_line history text
+carried_none history text q = sym (ap (take 0) (drop-nil 0) ∙ take-nil 0) ∙ carried-part history text nowhere q

@@ -11,12 +11,10 @@ use Rattle.history.specs.HistoryText.{history_text}
 use Rattle.history.specs.Record.{events_in}
 use Rattle.history.specs.Readable.{within}
 use Rattle.history_reader.specs.ReadHistory.{HistoryRead, read_history}
-use Rattle.history_writer.specs.declared.write.HistoryWritten.{HistoryWritten}
-use Rattle.history_writer.specs.WriteHistory.{history_written, history_after}
+use Rattle.history_writer.specs.WriteHistory.{Written, history_written, history_after}
 use Rattle.history_theorems.proofs.Theorems as HistoryTheorems
 use Rattle.certificate.specs.CertificateText.{certificate_text}
 use Rattle.certificate_reader.specs.ReadCertificate.{CertificateRead, read_certificate, rows_read}
-use Rattle.certificate_writer.specs.declared.write.CertificateWritten.{CertificateWritten}
 use Rattle.certificate_writer.specs.WriteCertificate.{writable, certificate_written, certificate_after}
 use Rattle.certificate_theorems.proofs.Theorems.{no-fault-history, read_as, read-written, read_fits}
 use Rattle.interface.specs.Rewrite.{rewritten, rewritten_bytes, rewritten_length}
@@ -64,7 +62,7 @@ module _ (text buffer : List ℕ) (x : HistoryRead) (q : x ≡ read_history text
   history-bytes = rw (history-inside, history-says)
 
   -- the record is written back as the text that was read
-  pub history-back : (w : HistoryWritten) (bytes : List ℕ) → w ≡ history_written x.history buffer → bytes ≡ history_after x.history buffer
+  pub history-back : (w : Written) (bytes : List ℕ) → w ≡ history_written x.history buffer → bytes ≡ history_after x.history buffer
       → Rewritten (read_history text).fault text buffer w.number bytes w.length
   history-back w bytes e b =
       rw (e, b, HistoryReadable, history-answer (leb (length text) (length buffer)) refl, history-bytes)
@@ -105,7 +103,7 @@ module _ (history text buffer : List ℕ) (old rows : List (List ℕ)) (x : Cert
   certificate-bytes = rw (certificate-inside, certificate-says)
 
   -- the record is written back as the text that was read
-  pub certificate-back : (w : CertificateWritten) (bytes : List ℕ) → w ≡ certificate_written x.history x.certificate rows buffer
+  pub certificate-back : (w : Written) (bytes : List ℕ) → w ≡ certificate_written x.history x.certificate rows buffer
       → bytes ≡ certificate_after x.history x.certificate rows buffer
       → Rewritten (read_certificate history text).fault text buffer w.number bytes w.length
   certificate-back w bytes e b =

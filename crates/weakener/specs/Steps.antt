@@ -1,6 +1,7 @@
 -- What is wanted of a certificate, and an answer and a buffer that are those of a verdict.
-use Rattle.std.specs.Prelude.{ℕ, ◌≡◌, Bool, false, List}
-use Rattle.std.proofs.Math.Option.{Option, none, some}
+use Rattle.std.specs.Prelude as code
+use Rattle.std.specs.Prelude.{ℕ, ◌≡◌, Bool, false, List, Result}
+use Rattle.std.proofs.Math.Option.{Option, none}
 use Rattle.history.specs.declared.record.History as WrittenHistory
 use Rattle.history.specs.Record.{events_in}
 use Rattle.history_reader.specs.ReadHistory.{read_history}
@@ -16,46 +17,43 @@ use Rattle.checker.specs.MadeText.{text_if_some, length_made, bytes_made}
 use Rattle.one_line.specs.Steps.{OrderRead}
 use Rattle.weakener.specs.declared.made.Made.{Made}
 use Rattle.weakener.specs.declared.made.Wanted.{Wanted}
-use Rattle.weakener.specs.declared.made.Wanted.TheVariants.{Nothing, Named, OneLine}
-use Rattle.weakener.specs.Made.{made_of}
-
--- A weakening wants the criterion of its number, if there is one.
-abbrev pub wanted_in : Option Criterion → Wanted
-wanted_in none = Nothing
-wanted_in (some w) = Named w
+use Rattle.weakener.specs.declared.made.Unmade.{Unmade}
+use Rattle.weakener.specs.declared.made.Wanted.TheVariants.{Named, OneLine}
+use Rattle.weakener.specs.Made.{verdict_made, length_of}
 
 -- It can be made of a certificate that names the criterion.
-abbrev pub may_be_made : Criterion → Wanted → Bool
-may_be_made c Nothing = false
-may_be_made c (Named w) = is_pair c w
-may_be_made c OneLine = has_pasts c
+abbrev pub may_be_made : Criterion → code.Option Wanted → Bool
+may_be_made c code.None = false
+may_be_made c (code.Some (Named w)) = is_pair c w
+may_be_made c (code.Some OneLine) = has_pasts c
 
 -- The lists that are wanted, and whether updates cross where one line is wanted.
-abbrev pub lists_wanted : Wanted → History → Certificate → Option Certificate
-lists_wanted Nothing h c = none
-lists_wanted (Named w) h c = weakened w h c
-lists_wanted OneLine h c = in_one_line h c
+abbrev pub lists_wanted : code.Option Wanted → History → Certificate → Option Certificate
+lists_wanted code.None h c = none
+lists_wanted (code.Some (Named w)) h c = weakened w h c
+lists_wanted (code.Some OneLine) h c = in_one_line h c
 
-abbrev pub crosses_wanted : Wanted → History → Certificate → Bool
-crosses_wanted Nothing h c = false
-crosses_wanted (Named w) h c = false
-crosses_wanted OneLine h c = crosses h (order h c)
+abbrev pub crosses_wanted : code.Option Wanted → History → Certificate → Bool
+crosses_wanted code.None h c = false
+crosses_wanted (code.Some (Named w)) h c = false
+crosses_wanted (code.Some OneLine) h c = crosses h (order h c)
 
 -- The same on texts.
-abbrev pub text_wanted : Wanted → List ℕ → List ℕ → Option (List ℕ)
+abbrev pub text_wanted : code.Option Wanted → List ℕ → List ℕ → Option (List ℕ)
 text_wanted wanted history text =
     text_if_some (events_in (read_history history).history) (lists_wanted wanted (history_read history) (certificate_read history text))
 
-abbrev pub crossing_wanted : Wanted → List ℕ → List ℕ → Bool
+abbrev pub crossing_wanted : code.Option Wanted → List ℕ → List ℕ → Bool
 crossing_wanted wanted history text = crosses_wanted wanted (history_read history) (certificate_read history text)
 
 -- Where one line is wanted, the order of the certificate was read.
-abbrev pub OrderWanted : Wanted → WrittenHistory.History → WrittenCertificate.Certificate → Type 0
-OrderWanted Nothing h c = Unit {0}
-OrderWanted (Named w) h c = Unit {0}
-OrderWanted OneLine h c = OrderRead h c
+abbrev pub OrderWanted : code.Option Wanted → WrittenHistory.History → WrittenCertificate.Certificate → Type 0
+OrderWanted code.None h c = Unit {0}
+OrderWanted (code.Some (Named w)) h c = Unit {0}
+OrderWanted (code.Some OneLine) h c = OrderRead h c
 
 -- An answer and a buffer are those of a verdict and the text made.
-pub record IsMade (v : Verdict) (t : Option (List ℕ)) (buffer : List ℕ) (r : Made) (after : List ℕ) : Type 0 where
-  pub whole : r ≡ made_of v (length_made v t)
+pub record IsMade (v : Verdict) (t : Option (List ℕ)) (buffer : List ℕ) (r : Result Made Unmade) (after : List ℕ) : Type 0 where
+  pub answer : verdict_made r ≡ v
+  pub long : length_of r ≡ length_made v t
   pub bytes : after ≡ bytes_made v t buffer

@@ -9,6 +9,7 @@ ghost use Rattle.criteria.specs.Records.{history_of, certificate_of};
 ghost use Rattle.checker.specs.CheckText.{found_in};
 ghost use Rattle.checker.specs.MadeText.{text_if_some, made_answer, made_verdict};
 ghost use Rattle.weakened_records.specs.Steps.{Passed, IsRecordOf};
+ghost use Rattle.weakener.specs.declared.made.Unmade.TheVariants.{Refused};
 ghost use Rattle.weakener.specs.Steps.{may_be_made, lists_wanted, crosses_wanted, text_wanted, crossing_wanted, OrderWanted, IsMade};
 
 use crate::pairs::is_pair;
@@ -21,7 +22,7 @@ use faults::check::check_records;
 use history::record::History;
 use history_reader::read::Refusal;
 use one_line::record::{crosses, line_record};
-use weakened_records::records::weakened_record;
+use weakened_records::records::{ViewedRecord, weakened_record};
 
 // A text was made: the criterion of the certificate that it was made of, and how many bytes it has.
 #[derive(Clone, Copy)]
@@ -46,6 +47,8 @@ pub enum Unmade {
 }
 
 impl From<Refusal> for Unmade {
+    ghost from_gives = { λ r u. u ≡ Refused r };
+
     fn from(refusal: Refusal) -> Unmade {
         Unmade::Refused(refusal)
     }
@@ -56,4 +59,86 @@ impl From<Refusal> for Unmade {
 pub enum Wanted {
     Named(Criterion),
     OneLine,
+}
+
+// Whether what is wanted can be made of a certificate that names the criterion.
+fn may_be_made(named: Criterion, wanted: Option<Wanted>) -> bool
+    ensures { result ≡ may_be_made named wanted }
+{
+    match wanted {
+        None => false,
+        Some(Wanted::Named(w)) => is_pair(named, w),
+        Some(Wanted::OneLine) => has_pasts(named),
+    }
+}
+
+// Whether one line is wanted and two updates are unordered.
+fn crosses_wanted(h: &History, c: &Certificate, wanted: Option<Wanted>) -> bool
+    requires { OrderWanted wanted h.now c.now }
+    ensures { (views : List (List ℕ)) → result ≡ crosses_wanted wanted (history_of h.now) (certificate_of h.now c.now views) }
+{
+    match wanted {
+        None | Some(Wanted::Named(_)) => false,
+        Some(Wanted::OneLine) => crosses(h, c),
+    }
+}
+
+// The record of what is wanted, of a certificate that passed the check.
+fn record_wanted(h: &History, of: &ViewedRecord, wanted: Option<Wanted>) -> ViewedRecord
+    requires { Passed h.now of.now.certificate of.now.views × OrderWanted wanted h.now of.now.certificate }
+    ensures { IsRecordOf (lists_wanted wanted (history_of h.now) (certificate_of h.now of.now.certificate of.now.views)) result.certificate result.views }
+{
+    match wanted {
+        None => *of,
+        Some(Wanted::Named(w)) => weakened_record(h, of, w),
+        Some(Wanted::OneLine) => line_record(h, &of.certificate),
+    }
+}
+
+// What is wanted of a certificate that was read; h is the record of the history text.
+fn make_record(
+    h: &History,
+    of: &ViewedRecord,
+    wanted: Option<Wanted>,
+    buffer: &mut [u8],
+    history: &[u8],
+) -> Result<Made, Unmade>
+    requires { (within h.now ≡ true) × (fits (events_in h.now) of.now.certificate of.now.views ≡ true) }
+    ensures { IsMade (made_answer (found_in history.now h.now.declared of.now.certificate.criterion (check (history_of h.now) (certificate_of h.now of.now.certificate of.now.views))) of.now.certificate.criterion (crosses_wanted wanted (history_of h.now) (certificate_of h.now of.now.certificate of.now.views)) (text_if_some (events_in h.now) (lists_wanted wanted (history_of h.now) (certificate_of h.now of.now.certificate of.now.views))) buffer.old) (text_if_some (events_in h.now) (lists_wanted wanted (history_of h.now) (certificate_of h.now of.now.certificate of.now.views))) buffer.old result buffer.new }
+{
+    let criterion = of.certificate.criterion;
+    if !may_be_made(criterion, wanted) {
+        return Err(Unmade::NotPair(criterion));
+    }
+    if let Err(finding) = check_records(*h, of.certificate, &of.views) {
+        let checked = found(history, h.declared, criterion, Some(finding));
+        return Err(Unmade::Faulty(checked));
+    }
+    if crosses_wanted(h, &of.certificate, wanted) {
+        return Err(Unmade::Crossing(criterion));
+    }
+    let made = record_wanted(h, of, wanted);
+    // A record that is made of an accepted one is within its limits: it is refused only where the buffer is too short.
+    match write_certificate(buffer, *h, made.certificate, &made.views) {
+        Ok(length) => Ok(Made { criterion, length }),
+        Err(_) => Err(Unmade::TooShort(criterion)),
+    }
+}
+
+// What is wanted of a certificate text for a history text, into a lent buffer.
+pub(crate) fn make(
+    history: &[u8],
+    text: &[u8],
+    wanted: Option<Wanted>,
+    buffer: &mut [u8],
+) -> Result<Made, Unmade>
+    ensures { IsMade (made_verdict history.now text.now (crossing_wanted wanted history.now text.now) (text_wanted wanted history.now text.now) buffer.old) (text_wanted wanted history.now text.now) buffer.old result buffer.new }
+{
+    let mut views = [[0u8; 64]; 64];
+    let read = read_certificate(history, text, &mut views)?;
+    let of = ViewedRecord {
+        certificate: read.certificate,
+        views,
+    };
+    make_record(&read.history, &of, wanted, buffer, history)
 }

@@ -2,14 +2,15 @@
 // text in the buffer's first bytes.
 ghost use Rattle.std.specs.Prelude.{◌≡◌};
 ghost use Rattle.checker.specs.OneLine.{line_answer, line_length, line_bytes};
-ghost use Rattle.weakener.specs.Made.{made_of};
+ghost use Rattle.weakener.specs.Made.{verdict_made, length_of};
 
-use crate::made::{Made, Wanted, make};
+use crate::made::{Made, Unmade, Wanted, make};
 
 // The sequential certificate text of a certificate text for a history text whose causal order orders every two updates, into a lent buffer.
-pub fn sequential(history: &[u8], text: &[u8], buffer: &mut [u8]) -> Made
-    ensures { (result ≡ made_of (line_answer history.now text.now buffer.old) (line_length history.now text.now buffer.old)) × (buffer.new ≡ line_bytes history.now text.now buffer.old) }
+pub fn sequential(history: &[u8], text: &[u8], buffer: &mut [u8]) -> Result<Made, Unmade>
+    ensures answer { verdict_made result ≡ line_answer history.now text.now buffer.old }
+    ensures length { length_of result ≡ line_length history.now text.now buffer.old }
+    ensures bytes { buffer.new ≡ line_bytes history.now text.now buffer.old }
 {
-    let wanted = Wanted::OneLine;
-    make(history, text, wanted, buffer)
+    make(history, text, Some(Wanted::OneLine), buffer)
 }

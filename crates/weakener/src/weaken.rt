@@ -1,41 +1,37 @@
-// Weakening a certificate text: reading refusals as in the check, 17, its other faults, 18, or the weakened text in the buffer's first bytes.
+// Weakening on texts.
 ghost use Rattle.std.specs.Prelude.{◌≡◌};
+ghost use Rattle.layout.specs.Options.{option_in};
 ghost use Rattle.checker.specs.WeakenText.{wanted_of, weaken_answer, weaken_length, weaken_bytes};
-ghost use Rattle.weakener.specs.Made.{made_of};
-ghost use Rattle.weakener.specs.Steps.{wanted_in};
+ghost use Rattle.weakener.specs.Made.{verdict_made, length_of};
 
-use crate::made::{Made, Wanted, make};
+use crate::made::{Made, Unmade, Wanted, make};
 use certificate::record::Criterion;
 
 // The criterion wanted, if the number is that of one.
-fn wanted_of(number: u32) -> Wanted
-    ensures { result ≡ wanted_in (wanted_of number) }
+fn wanted_of(number: u32) -> Option<Criterion>
+    ensures { option_in result ≡ wanted_of number }
 {
-    if number == 0 {
-        return Wanted::Named(Criterion::Pram);
+    match number {
+        0 => Some(Criterion::Pram),
+        1 => Some(Criterion::Weak),
+        2 => Some(Criterion::Causal),
+        3 => Some(Criterion::Converge),
+        4 => Some(Criterion::Sequential),
+        5 => Some(Criterion::Strict),
+        _ => None,
     }
-    if number == 1 {
-        return Wanted::Named(Criterion::Weak);
-    }
-    if number == 2 {
-        return Wanted::Named(Criterion::Causal);
-    }
-    if number == 3 {
-        return Wanted::Named(Criterion::Converge);
-    }
-    if number == 4 {
-        return Wanted::Named(Criterion::Sequential);
-    }
-    if number == 5 {
-        return Wanted::Named(Criterion::Strict);
-    }
-    Wanted::Nothing
 }
 
 // Weakens a certificate text for a history text to the criterion wanted, into a lent buffer.
-pub fn weaken(history: &[u8], text: &[u8], wanted: u32, buffer: &mut [u8]) -> Made
-    ensures { (result ≡ made_of (weaken_answer history.now text.now wanted buffer.old) (weaken_length history.now text.now wanted buffer.old)) × (buffer.new ≡ weaken_bytes history.now text.now wanted buffer.old) }
+pub fn weaken(
+    history: &[u8],
+    text: &[u8],
+    wanted: u32,
+    buffer: &mut [u8],
+) -> Result<Made, Unmade>
+    ensures answer { verdict_made result ≡ weaken_answer history.now text.now wanted buffer.old }
+    ensures length { length_of result ≡ weaken_length history.now text.now wanted buffer.old }
+    ensures bytes { buffer.new ≡ weaken_bytes history.now text.now wanted buffer.old }
 {
-    let target = wanted_of(wanted);
-    make(history, text, target, buffer)
+    make(history, text, wanted_of(wanted).map(Wanted::Named), buffer)
 }
