@@ -192,7 +192,7 @@ pub(crate) fn fits_history(h: History, c: Certificate, rows: &[[u8; 64]; 64]) ->
     let criterion = c.criterion;
     let events = h.events;
     let count = h.count;
-    let views = view_numbers(criterion, &events[..count]);
+    let views = view_numbers(criterion, events, count);
     let m = views.count;
     if has_pasts(criterion) {
         return parts_fit(c, rows, count, m, count);

@@ -243,7 +243,7 @@ fn certificate_len(h: History, c: Certificate, rows: &[[u8; 64]; 64]) -> usize
     let lengths = c.lengths;
     let events = h.events;
     let count = h.count;
-    let views = view_numbers(criterion, &events[..count]);
+    let views = view_numbers(criterion, events, count);
     let m = views.count;
     let numbers = views.numbers;
     let first = criterion_len(criterion);
@@ -265,7 +265,7 @@ fn put_certificate(part: &mut [u8], h: History, c: Certificate, rows: &[[u8; 64]
     let lengths = c.lengths;
     let events = h.events;
     let count = h.count;
-    let views = view_numbers(criterion, &events[..count]);
+    let views = view_numbers(criterion, events, count);
     let m = views.count;
     let numbers = views.numbers;
     let a = put_criterion(part, criterion);

@@ -161,6 +161,11 @@ module _ (h : WrittenHistory.History) (c : WrittenCertificate.Certificate) (rows
   after_text = rw (w, f, says) refl
 
 -- ---- a record that was read
+-- within its limits, and nothing is found of it
+pub passed : (h : WrittenHistory.History) (c : WrittenCertificate.Certificate) (rows : List (List ℕ))
+    → (within h ≡ true) × (fits (events_in h) c rows ≡ true) → none ≡ check (history_of h) (certificate_of h c rows) → Passed h c rows
+passed h c rows p e = record { history = p.0; certificate = p.1; passes = sym e }
+
 module _ (history : List ℕ) (h : WrittenHistory.History) (c : WrittenCertificate.Certificate) (rows : List (List ℕ)) (w : code.Option Wanted) (buffer : List ℕ) where
   -- the lists, the text, whether updates cross, and the verdict of the check
   abbrev lists : Option Certificate

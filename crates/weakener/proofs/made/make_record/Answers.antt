@@ -1,15 +1,8 @@
 -- `make_record` meets its contract: 17, what the check finds, 26, 18, or the text. Assumes nothing.
-use Rattle.std.proofs.Common.{◌≡◌, ℕ, ◌≤◌, List, sym, ◌∙◌}
-use Rattle.history.specs.declared.record.History.{History}
-use Rattle.history.specs.Readable.{within}
+use Rattle.std.proofs.Common.{sym}
 use Rattle.history.proofs.WithinLaws.{within-limits}
-use Rattle.weakened_records.specs.Steps.{Passed}
-use Rattle.weakener.proofs.MadeLaws.{refused-record, faulty-record, order-read, crossed-record, made-record, short-record}
+use Rattle.weakener.proofs.MadeLaws.{passed, refused-record, faulty-record, order-read, crossed-record, made-record, short-record}
 use Rattle.weakener.proofs.made.make_record.Goals as goal
-
--- the record passed the check
-passed : (c : goal.In_default) → Passed c.args.h.now c.args.of.now.certificate c.args.of.now.views
-passed c = record { history = c.requires.0; certificate = c.requires.1; passes = sym c.in_default.ensures }
 
 pub returns-then-not-may_be_made : goal.returns-then-not-may_be_made
 returns-then-not-may_be_made c =
@@ -27,30 +20,30 @@ returns-in-Err c =
 pub crosses_wanted-requires : goal.crosses_wanted-requires
 crosses_wanted-requires c =
     order-read c.args.history.now c.args.h.now c.args.of.now.certificate c.args.of.now.views c.args.wanted c.args.buffer.now
-    (sym c.if-not-may_be_made.ensures) (passed c)
+    (sym c.if-not-may_be_made.ensures) (passed _ _ _ c.requires c.in_default.ensures)
 
 pub returns-then-crosses_wanted : goal.returns-then-crosses_wanted
 returns-then-crosses_wanted c =
     crossed-record c.args.history.now c.args.h.now c.args.of.now.certificate c.args.of.now.views c.args.wanted c.args.buffer.now
-    (sym c.if-not-may_be_made.ensures) (passed c) (sym (c.if-crosses_wanted.ensures c.args.of.now.views))
+    (sym c.if-not-may_be_made.ensures) (passed _ _ _ c.requires c.in_default.ensures) (sym (c.if-crosses_wanted.ensures c.args.of.now.views))
 
 pub record_wanted-made-requires : goal.record_wanted-made-requires
 record_wanted-made-requires c = (
-  passed c,
+  passed _ _ _ c.requires c.in_default.ensures,
   order-read c.args.history.now c.args.h.now c.args.of.now.certificate c.args.of.now.views c.args.wanted c.args.buffer.now
-      (sym c.if-not-may_be_made.ensures) (passed c),
+      (sym c.if-not-may_be_made.ensures) (passed _ _ _ c.requires c.in_default.ensures),
 )
 
 pub returns-in-Ok : goal.returns-in-Ok
 returns-in-Ok c =
     made-record c.args.history.now c.args.h.now c.args.of.now.certificate c.args.of.now.views c.args.wanted c.args.buffer.now
-    (sym c.if-not-may_be_made.ensures) (passed c) (sym (c.if-crosses_wanted.ensures c.args.of.now.views))
+    (sym c.if-not-may_be_made.ensures) (passed _ _ _ c.requires c.in_default.ensures) (sym (c.if-crosses_wanted.ensures c.args.of.now.views))
     c.record_wanted-made.result.certificate c.record_wanted-made.result.views c.record_wanted-made.ensures _ c.write_certificate.ensures.1
     c.in-Ok.length c.in-Ok.ensures.0
 
 pub returns-in-Err-write_certificate : goal.returns-in-Err-write_certificate
 returns-in-Err-write_certificate c =
     short-record c.args.history.now c.args.h.now c.args.of.now.certificate c.args.of.now.views c.args.wanted c.args.buffer.now
-    (sym c.if-not-may_be_made.ensures) (passed c) (sym (c.if-crosses_wanted.ensures c.args.of.now.views))
+    (sym c.if-not-may_be_made.ensures) (passed _ _ _ c.requires c.in_default.ensures) (sym (c.if-crosses_wanted.ensures c.args.of.now.views))
     c.record_wanted-made.result.certificate c.record_wanted-made.result.views c.record_wanted-made.ensures _ c.write_certificate.ensures.1
-    _ c.in-Err.ensures.0
+    _ c.in-Err-write_certificate.ensures.0
