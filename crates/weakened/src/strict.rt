@@ -19,7 +19,7 @@ fn own_part(
     p: u8,
     e: u8,
 ) -> EventList
-    requires { (length numbers.now ≤ 64) × ((k : ℕ) → k < length numbers.now → get_or sizes.now k 0 ≤ 64) × (place p numbers.now < length numbers.now) }
+    requires { (length numbers.now ≤ 64) × ((k : ℕ) → k < length numbers.now → get_or sizes.now k 0 ≤ 64) × (place p numbers.now < length numbers.now) × (e < 64) }
     ensures { (result ≡ event_list_of (up_to_in (view_at views.now sizes.now (place p numbers.now)) e)) × (result.count ≤ 64) }
 {
     match place_of(numbers, p) {

@@ -1,11 +1,13 @@
 -- `completed_view` meets its contract. Assumes nothing.
+use Rattle.std.proofs.Common.{arith}
 use Rattle.weakened.proofs.CausalLaws.{behind-few, completed-is}
 use Rattle.weakened.proofs.causal.completed_view.Goals as goal
 
 pub joined-requires : goal.joined-requires
 joined-requires c =
-    behind-few c.args.n c.args.view.now c.requires.2 c.requires.3 c.marks.result c.others.result c.requires.0 c.marks.ensures c.others.ensures
-    c.rising-behind.result c.rising-behind.ensures.0
+    let few = behind-few c.args.n c.args.view.now c.requires.2 c.requires.3 c.marks.result c.others.result c.requires.0 c.marks.ensures c.others.ensures
+    c.rising-behind.result c.rising-behind.ensures.0 in
+    omega (arith, few)
 
 pub returns : goal.returns
 returns c =
