@@ -102,13 +102,7 @@ fn quick_list(text: &[u8], from: usize, count: usize, past: bool) -> Option<At<E
 }
 
 // Reads a line that has no fault and entries of at most two digits; of any other line it tells nothing.
-fn quick_line(
-    text: &[u8],
-    from: usize,
-    own: u32,
-    count: usize,
-    past: bool,
-) -> Option<At<EventList>>
+fn quick_line(text: &[u8], from: usize, own: u32, count: usize, past: bool) -> Option<At<EventList>>
     requires { (from ≤ length text.now) × (count ≤ 64) }
     ensures { IfSome result (λ r. record { fault = 0; end = r.end; list = r.value } ≡ next_read past count own from (drop from text.now)) }
 {
