@@ -25,31 +25,11 @@ use Rattle.certificate.specs.Record.{no_list, event_list_of}
 use Rattle.certificate.specs.Faults.{rising, list_layout, list_limits, pair_fault, list_fault, list_said}
 use Rattle.certificate.specs.Steps.Lists.{list_with, pair_read, list_read}
 
--- ---- each two neighbours are in order, or some two are not
 pub rising-one : (xs : List ℕ) → length xs ≤ 1 → rising xs ≡ true
 unfolding rising
 rising-one [] h = refl
 rising-one (x ∷ []) h = refl
 rising-one (x ∷ y ∷ xs) h = absurd (omega arith)
-
-rising_all : (xs : List ℕ) → ((k : ℕ) → suc k < length xs → get_or xs k 0 < get_or xs (suc k) 0) → rising xs ≡ true
-unfolding rising
-rising_all [] h = refl
-rising_all (x ∷ []) h = refl
-rising_all (x ∷ y ∷ xs) h =
-    rw (lt-ltb x y (h 0 (omega arith))) (rising_all (y ∷ xs) (λ k l. h (suc k) (omega arith)))
-
-rising_fails : (xs : List ℕ) (k : ℕ) → suc k < length xs → get_or xs (suc k) 0 ≤ get_or xs k 0 → rising xs ≡ false
-unfolding rising
-rising_fails [] k l h = absurd (omega arith)
-rising_fails (x ∷ []) k l h = absurd (omega arith)
-rising_fails (x ∷ y ∷ xs) zero l h = rw (le-ltb x y h)
-rising_fails (x ∷ y ∷ xs) (suc k) l h = rw (rising_fails (y ∷ xs) k (omega arith) h, and-false)
-
--- what the library's `is_sorted_by` answers
-pub rising-told : (xs : List ℕ) (r : Bool) → IsAllAdjacentAnswer (λ x y b. b ≡ ltb x y) xs r → r ≡ rising xs
-rising-told xs true h = sym (rising_all xs (λ k l. rw add-one at (ltb-true _ _ (sym (h k 0 (omega arith))))))
-rising-told xs false h = sym (rising_fails xs h.0 (omega (arith, h.1)) (rw add-one at (ltb-false _ _ (sym (h.2 0)))))
 
 -- ---- the two fields of a line
 module _ (past : Bool) (count own : ℕ) (a s : List ℕ) where

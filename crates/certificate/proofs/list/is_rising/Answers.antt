@@ -2,10 +2,10 @@
 use lib.Dec.{ltb}
 use Rattle.std.proofs.Common.{rules, tests}
 use Rattle.std.proofs.lemmas.List.Sorted.{answers_always}
-use Rattle.certificate.proofs.ListLineLaws.{rising-told}
+use Rattle.certificate.proofs.RisingLaws.{rising_is}
 use Rattle.certificate.proofs.list.is_rising.Goals as goal
 
 pub returns : goal.returns
 returns c =
-    rising-told c.args.items.now c.is_sorted_by.result
+    rising_is c.args.items.now c.is_sorted_by.result
     (c.is_sorted_by.ensures.cases ltb (answers_always _ _ _ (λ f a r g h. search (rules, tests))))
