@@ -1,14 +1,20 @@
 // Checking a certificate text for a history text.
 ghost use Rattle.std.specs.Prelude.{◌≡◌, ◌≤◌, length};
+ghost use Rattle.layout.specs.Options.{option_in};
+ghost use Rattle.history_reader.specs.Place.{text_in};
+ghost use Rattle.replays.specs.Replay.{found_event};
+ghost use Rattle.faults.specs.Finding.{or_none};
 ghost use Rattle.checker.specs.CheckText.{check_text};
 ghost use Rattle.checker.specs.Verdict.{verdict_of};
-ghost use Rattle.interface.specs.Places.{criterion_number, text_number, places_of, placed};
+ghost use Rattle.interface.specs.Places.{criterion_number, criterion_place, text_number, places_of, placed};
+ghost use Rattle.interface.specs.Steps.{SmallPlace};
 
 use certificate::record::Criterion;
+use checker::answer::{criterion_in, event_in, number_in, place_in, view_in};
 use checker::check::{Checked, check};
-use checker::place::line_of;
-use faults::finding::{event_of, number_of, view_of};
+use history::record::EventNo;
 use history_reader::place::Text;
+use history_reader::read::Refusal;
 
 // The number of a criterion, as in the criterion wanted of a weakening.
 fn criterion_number(c: Criterion) -> u32
@@ -24,52 +30,64 @@ fn criterion_number(c: Criterion) -> u32
     }
 }
 
-// The number of a text: 0 for none, 1 for the history, 2 for the certificate.
+// The number of a text: 1 for the history, 2 for the certificate. 0 stands for none.
 fn text_number(t: Text) -> u32
-    ensures { result ≡ text_number t }
+    ensures { result ≡ text_number (text_in t) }
 {
     match t {
-        Text::Neither => 0,
-        Text::HistoryText => 1,
-        Text::CertificateText => 2,
+        Text::History => 1,
+        Text::Certificate => 2,
     }
 }
 
-// Document 01's number of the answer.
-pub(crate) fn answer_number(v: Checked) -> u32
-    ensures { result ≡ (verdict_of v).number }
+// What stands for none.
+const NONE: u32 = 4294967295;
+
+fn criterion_or_none(c: Option<Criterion>) -> u32
+    ensures { result ≡ or_none (criterion_place (option_in c)) }
 {
-    let fault = v.fault;
-    if fault != 0 {
-        return fault as u32;
+    match c {
+        Some(c) => criterion_number(c),
+        None => NONE,
     }
-    let finding = v.finding;
-    number_of(finding)
+}
+
+fn view_or_none(view: Option<u8>) -> u32
+    ensures { result ≡ or_none (option_in view) }
+{
+    match view {
+        Some(view) => u32::from(view),
+        None => NONE,
+    }
+}
+
+fn event_or_none(event: Option<EventNo>) -> u32
+    ensures { result ≡ or_none (found_event event) }
+{
+    match event {
+        Some(event) => u32::from(event.0),
+        None => NONE,
+    }
 }
 
 // The places of the answer: criterion, text, line, view, event, and the start and the length of the line.
-fn places_of(v: Checked) -> [u32; 7]
-    requires { (v.place.line ≤ 4294967294) × (v.place.start ≤ v.place.end) × (v.place.end ≤ 32768) }
-    ensures { result ≡ places_of (verdict_of v) }
+fn places_of(answer: Result<Checked, Refusal>) -> [u32; 7]
+    requires { SmallPlace (verdict_of answer).place }
+    ensures { result ≡ places_of (verdict_of answer) }
 {
-    let place = v.place;
-    let which = place.text;
-    let text = text_number(which);
-    let line = line_of(place);
-    let start = place.start as u32;
-    let length = (place.end - place.start) as u32;
-    let fault = v.fault;
-    if fault != 0 {
-        return [
-            4294967295, text, line, 4294967295, 4294967295, start, length,
-        ];
+    let criterion = criterion_or_none(criterion_in(answer));
+    let view = view_or_none(view_in(answer));
+    let event = event_or_none(event_in(answer));
+    match place_in(answer) {
+        Some(place) => {
+            let text = text_number(place.text);
+            let line = place.line as u32;
+            let start = place.start as u32;
+            let length = (place.end - place.start) as u32;
+            [criterion, text, line, view, event, start, length]
+        }
+        None => [criterion, 0, NONE, view, event, 0, 0],
     }
-    let c = v.criterion;
-    let criterion = criterion_number(c);
-    let finding = v.finding;
-    let view = view_of(finding);
-    let event = event_of(finding);
-    [criterion, text, line, view, event, start, length]
 }
 
 // Puts the places into a lent slice as far as it goes, and leaves alone what is past them.
@@ -77,28 +95,22 @@ fn put_places(places: &mut [u32], all: [u32; 7])
     requires { length all ≡ 7 }
     ensures { places.new ≡ placed all places.old }
 {
-    let n = places.len();
-    let mut i = 0;
-    while i < 7 && i < n {
-        places[i] = all[i];
-        i += 1;
-    }
+    let n = places.len().min(7);
+    places[..n].copy_from_slice(&all[..n]);
 }
 
 // The answer of the check of two texts.
 pub fn walnutgleam_check(history: &[u8], certificate: &[u8]) -> u32
     ensures { result ≡ (check_text history.now certificate.now).number }
 {
-    let checked = check(history, certificate);
-    answer_number(checked)
+    number_in(check(history, certificate))
 }
 
 // The same answer; its places go into a lent slice.
 pub fn walnutgleam_verdict(history: &[u8], certificate: &[u8], places: &mut [u32]) -> u32
     ensures { (result ≡ (check_text history.now certificate.now).number) × (places.new ≡ placed (places_of (check_text history.now certificate.now)) places.old) }
 {
-    let v = check(history, certificate);
-    let all = places_of(v);
-    put_places(places, all);
-    answer_number(v)
+    let answer = check(history, certificate);
+    put_places(places, places_of(answer));
+    number_in(answer)
 }
