@@ -1,13 +1,12 @@
 -- Laws of the word of a criterion and of the first line of a certificate. Assumes nothing.
-use Prim.Native.Nat.{ℕ, suc, ◌+◌, ◌<◌}
+use Prim.Native.Nat.{ℕ, suc, ◌<◌}
 use native.Mathlib.Omega.{arith}
-use mathlib.Core.Path.{◌≡◌, refl, sym, ap, ◌∙◌, subst}
-use mathlib.Core.Bool.{Bool, true, false, cond, ◌&&◌, and-false}
+use mathlib.Core.Path.{◌≡◌, refl, sym, ap, subst}
+use mathlib.Core.Bool.{true, false, cond, and-false}
 use mathlib.Core.List.{List, [], ◌∷◌}
-use lib.ListN.{length, get_or, take, drop}
+use lib.ListN.{length, get_or, drop}
 use borrow.Author.Tests.{ne_eqb}
-use Rattle.core.specs.declared.option.Option.{Option}
-use Rattle.core.specs.declared.option.Option.TheVariants.{Some, None}
+use Rattle.std.proofs.Common.{Option, Some, None}
 use Rattle.layout.specs.Split.{find, on_first, split}
 use Rattle.layout.specs.Word.{same, criterion_word, pram_word, weak_word, causal_word, converge_word, sequential_word, strict_word}
 use Rattle.layout.proofs.Cases.{by_bool, by-lt}

@@ -1,18 +1,14 @@
 -- Laws of a line of a number and a list of events. Assumes nothing.
-use Prim.Native.Nat.{ℕ, zero, suc, ◌+◌, ◌≤◌, ◌<◌}
-use native.Mathlib.Numerals.{add-one}
+use Prim.Native.Nat.{ℕ, suc, ◌≤◌, ◌<◌}
 use native.Mathlib.Omega.{arith}
 use mathlib.Core.Path.{◌≡◌, refl, sym, ap, ◌∙◌}
-use mathlib.Core.Bool.{Bool, true, false, cond, not, ◌||◌, and-false, false≢true}
+use mathlib.Core.Bool.{Bool, true, false, cond, not, ◌||◌, false≢true}
 use mathlib.Core.List.{List, [], ◌∷◌}
 use lib.ListN.{length, get_or, take}
-use lib.Dec.{ltb}
-use borrow.Author.Tests.{ne_eqb, lt-ltb, le-ltb, le-leb, ltb-true, ltb-false}
-use Rattle.core.specs.declared.result.Result.TheVariants.{Ok, Err}
-use Rattle.core.specs.Option.{MatchOption, is_some}
-use Rattle.core.specs.List.{IsAllAdjacentAnswer}
-use Rattle.core.specs.declared.option.Option.{Option}
-use Rattle.core.specs.declared.option.Option.TheVariants.{Some, None}
+use borrow.Author.Tests.{ne_eqb, le-leb}
+use Rattle.std.proofs.Common.{Ok, Err}
+use Rattle.std.specs.Option.{MatchOption, is_some}
+use Rattle.std.proofs.Common.{Option, Some, None}
 use Rattle.layout.specs.declared.list.ListFault.TheVariants.{NotList, Over, Many}
 use Rattle.layout.specs.Split.{split}
 use Rattle.layout.specs.Word.{same}

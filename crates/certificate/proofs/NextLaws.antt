@@ -20,10 +20,9 @@ use Rattle.layout.proofs.StandsLaws.{byte-stands, stands-then, stands-end}
 use Rattle.history.specs.Record.{pad}
 use Rattle.history.specs.Readable.{all_less}
 use Rattle.history.proofs.ListingLaws.{Listing, listing_begins, more_numbers, more-small, listing-more, listing-filled, listing-count, listing-ends}
-use Rattle.core.specs.Option.{IfSome}
-use Rattle.core.specs.declared.option.Option.{Option}
-use Rattle.core.specs.declared.option.Option.TheVariants.{Some, None}
-use Rattle.core.specs.declared.result.Result.{Result}
+use Rattle.std.specs.Option.{IfSome}
+use Rattle.std.proofs.Common.{Option, Some, None}
+use Rattle.std.proofs.Common.{Result}
 use Rattle.layout.specs.declared.at.At.{At}
 use Rattle.history.specs.declared.fault.Fault.{Fault}
 use Rattle.certificate.specs.declared.record.EventList.{EventList}

@@ -9,7 +9,7 @@ use mathlib.Core.Bool.{Bool, true, false, ◌||◌}
 use mathlib.Core.List.{List, [], ◌∷◌, ◌++◌, append_assoc, append-nil}
 use lib.ListN.{length, take, set, replicate}
 use lib.Dec.{eqb}
-use Rattle.core.specs.List.{list_any}
+use Rattle.std.specs.List.{list_any}
 use Rattle.layout.proofs.Cases.{by_bool}
 use Rattle.history.specs.declared.record.Event.{Event}
 use Rattle.history.specs.Record.{pad}

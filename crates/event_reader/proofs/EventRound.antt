@@ -8,7 +8,7 @@ use lib.ListN.{length, get_or, drop, replicate, length-drop, length-map, take-ap
 use lib.Seq.{length-take-le}
 use lib.Dec.{eqb, leb, ltb}
 use borrow.Author.Tests.{ne_eqb, lt-ltb, ltb-true, le-leb, leb-true, eq-eqb, eqb-true, not-true}
-use Rattle.core.specs.declared.result.Result.TheVariants.{Ok}
+use Rattle.std.proofs.Common.{Ok}
 use Rattle.layout.specs.Split.{split, join}
 use Rattle.layout.specs.Word.{same, dash, question, write_word, read_word, push_word, pop_word, peek_word}
 use Rattle.layout.specs.Number.{is_digit, value, spell}

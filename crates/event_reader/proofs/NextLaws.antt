@@ -5,7 +5,7 @@ use mathlib.Core.Path.{◌≡◌, refl, sym, ap, ◌∙◌}
 use mathlib.Core.List.{List}
 use lib.ListN.{length, take, drop, length-drop}
 use borrow.Author.Tests.{lt-ltb, le-ltb}
-use Rattle.core.specs.declared.result.Result.{Result}
+use Rattle.std.proofs.Common.{Result}
 use Rattle.layout.specs.Split.{find}
 use Rattle.layout.proofs.Cases.{by-lt}
 use Rattle.layout.proofs.SplitLaws.{find-le}

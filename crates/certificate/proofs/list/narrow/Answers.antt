@@ -6,7 +6,6 @@ use lib.Seq.{length-take-le, take_all}
 use Rattle.history.specs.Record.{pad}
 use Rattle.history.proofs.PadLaws.{pad-none, pad-set, take_more}
 use Rattle.certificate.specs.Record.{event_list_of}
-use borrow.Author.Rules.{rules}
 use Rattle.certificate.proofs.list.narrow.Goals as goal
 
 pub loop-i-init : goal.loop-i-init

@@ -1,5 +1,5 @@
 -- `read_list_line` meets its contract: the fields are cut one after the other. Assumes nothing.
-use mathlib.Core.Path.{sym, ◌∙◌}
+use mathlib.Core.Path.{◌∙◌}
 use Rattle.certificate.proofs.ListLineLaws.{list-whole, list_more, list-pair, some-tells, none-tells}
 use Rattle.certificate.proofs.list.read_list_line.Goals as goal
 

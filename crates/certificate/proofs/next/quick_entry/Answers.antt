@@ -1,6 +1,5 @@
 -- `quick_entry` meets its contract: the digits are the spelling of the value. Assumes nothing.
 use native.Mathlib.Omega.{arith}
-use borrow.Author.Rules.{rules}
 use Rattle.certificate.proofs.NextLaws.{entry-one, entry-two}
 use Rattle.certificate.proofs.next.quick_entry.Goals as goal
 
