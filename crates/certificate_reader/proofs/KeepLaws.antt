@@ -1,12 +1,16 @@
 -- Laws of the lists that are kept while the lines of pasts and of views are read. Assumes nothing.
-use Prim.Native.Nat.{ℕ, suc, ◌+◌, ◌-◌, ◌≤◌, ◌<◌}
+use Prim.Native.Nat.{ℕ, zero, suc, ◌+◌, ◌-◌, ◌≤◌, ◌<◌}
 use native.Mathlib.Omega.{arith}
-use mathlib.Core.Path.{◌≡◌, refl, sym, ap, ◌∙◌}
+use mathlib.Core.Path.{◌≡◌, refl, sym, ap, subst, ◌∙◌}
 use mathlib.Core.Bool.{Bool, true, false, ◌&&◌}
 use mathlib.Core.List.{List, [], ◌∷◌, ◌++◌, map, map-append}
-use lib.ListN.{length, get_or, take, drop, set, replicate, length-map, length-append, drop_of_length-le}
+use lib.ListN.{length, get_or, take, drop, set, replicate, length-map, length-append, length-drop, drop_of_length-le}
+use Rattle.std.proofs.Common.{get_or-set_other, get_or-set_same}
+use Rattle.std.proofs.lemmas.List.{take_more_set}
+use lib.Seq.{take-length}
 use lib.Dec.{eqb, leb}
 use borrow.Author.Tests.{eq-eqb, ne_eqb, leb-true}
+use Rattle.std.specs.Prelude.{Result, Ok, Err}
 use Rattle.layout.specs.Split.{find, split}
 use Rattle.layout.specs.Word.{past_heading, view_heading}
 use Rattle.layout.specs.Number.{value}
@@ -14,24 +18,28 @@ use Rattle.layout.specs.List.{items_of, all_below, numbers_of}
 use Rattle.layout.proofs.Cases.{by_bool, by-lt, by-eq, and_right}
 use Rattle.layout.proofs.StandsLaws.{at-cons}
 use Rattle.history.specs.Record.{pad}
-use Rattle.history.proofs.PadLaws.{pad-set, take-pad}
+use Rattle.history.specs.declared.fault.Fault.{Fault}
+use Rattle.history.specs.Faults.{fault_number}
+use Rattle.history.proofs.PadLaws.{pad-set, pad-length, take-pad, take_more}
 use Rattle.history.specs.declared.record.Event.{Event}
-use Rattle.history_reader.specs.Place.{Place, nowhere}
+use Rattle.history_reader.specs.declared.read.Refusal.{Refusal}
+use Rattle.history_reader.proofs.ReadLaws.{fault-some}
 use Rattle.certificate.specs.declared.record.Criterion.{Criterion}
+use Rattle.certificate.specs.declared.record.Criterion.TheVariants.{Weak}
 use Rattle.certificate.specs.declared.record.EventList.{EventList}
-use Rattle.certificate.specs.Steps.Next.{NextList, next_read}
-use Rattle.certificate.specs.Record.{no_list, no_row, event_list_of, row_of, certificate_of, rows_of, entries_in}
-use Rattle.certificate.proofs.FitsLaws.{entries-made}
-use Rattle.certificate.specs.Criteria.{has_pasts, count_from, view_numbers, criterion_of}
-use Rattle.certificate.specs.Faults.{criterion_line, list_layout, list_limits, pair_fault, list_fault, list_said}
+use Rattle.certificate.specs.declared.record.Certificate.{Certificate}
+use Rattle.certificate.specs.Record.{no_list, no_row, event_list_of, row_of, certificate_of, rows_of}
+use Rattle.certificate.specs.Criteria.{has_pasts, count_from, view_numbers}
+use Rattle.certificate.specs.Faults.{list_layout, list_limits, pair_fault, list_fault, list_said}
 use Rattle.certificate.specs.declared.numbers.ViewNumbers.{ViewNumbers}
 use Rattle.certificate.specs.Steps.Numbers.{view_numbers_of}
-use Rattle.certificate.specs.declared.criterion.CriterionRead.{CriterionRead}
-use Rattle.certificate.specs.Steps.Lists.{list_with, list_read, criterion_read}
+use Rattle.certificate.specs.Steps.Lists.{list_line_of, list_with, list_read}
+use Rattle.certificate.specs.Steps.Next.{NextList, ending_at, next_read}
 use Rattle.certificate.proofs.NextLaws.{next-cut, next-line}
-use Rattle.certificate_reader.specs.declared.read.LinesRead.{LinesRead}
-use Rattle.certificate_reader.specs.ReadCertificate.{Lines, refusal, accepted, heading_from, lists_from, views_from, pasts_from, body_from, rows_after}
-use Rattle.certificate_reader.specs.Steps.Lines.{lines_read, after_views, view_lines, past_lines}
+use Rattle.certificate_reader.specs.declared.read.Line.{Line}
+use Rattle.certificate_reader.specs.declared.read.Lists.{Lists}
+use Rattle.certificate_reader.specs.ReadCertificate.{Lines, refusal, accepted, end_from, heading_from, lists_from, views_from, pasts_from, body_from}
+use Rattle.certificate_reader.specs.Steps.Lines.{refused, LinesSay, lines_at, Stands, LineDone, Kept, ListsDone, ListsRead, PastsDone, PastsRead, ViewsDone, AllDone}
 use Rattle.certificate_reader.proofs.ReadLaws.{lists-cut, lists-more, lists-bad, lists-done}
 
 -- ---- a line that was read
@@ -110,191 +118,232 @@ count-end : (i n : ℕ) → n ≤ i → count_from i (n - i) ≡ []
 unfolding count_from
 count-end i n h = let k : n - i ≡ 0 = omega arith in rw k
 
--- ---- the views that are kept: their rows and lengths, and what the rest of the text will say
-pub record ReadingViews (whole : Lines) (c : Criterion) (count : ℕ) (numbers : List ℕ) (pasts : List (List ℕ)) (s : List ℕ)
-    (rows : List (List ℕ)) (lengths : List ℕ) (i line a : ℕ) : Type 0 where
-  pub views : List (List ℕ)
-  pub long : length views ≡ i
-  pub rows_are : rows ≡ rows_of views
-  pub lengths-are : lengths ≡ pad 64 0 (map length views)
-  pub is : whole ≡ lists_from false count (after_views c pasts) (drop i numbers) views line a (split 10 (drop a s))
+-- ---- the lists that are kept in an array: what the rest of the text will say
+pub record Reading (past : Bool) (count : ℕ) (numbers : List ℕ) (line : Line) (text : List ℕ) (lists : List EventList) (i : ℕ) (now : Line) : Type 0 where
+  pub said : List (List ℕ)
+  pub long : length said ≡ i
+  pub kept : Kept said lists
+  pub stands : Stands now text
+  pub says : (next : List (List ℕ) → LinesSay)
+      → lines_at (lists_from past count next numbers []) line text ≡ lines_at (lists_from past count next (drop i numbers) said) now text
 
-module _ (c : Criterion) (count : ℕ) (numbers : List ℕ) (pasts : List (List ℕ)) (s : List ℕ) where
-  pub views-begin : (rows : List (List ℕ)) (lengths : List ℕ) (line a : ℕ) → rows ≡ replicate 64 no_row → lengths ≡ replicate 64 0
-      → ReadingViews (view_lines c count numbers pasts line a (split 10 (drop a s))) c count numbers pasts s rows lengths 0 line a
-  unfolding view_lines rows_of pad
-  views-begin rows lengths line a r l = record { views = []; long = refl; rows_are = r; lengths-are = l; is = refl }
+blank-short : (n k : ℕ) → (get_or (replicate n no_list) k no_list).count ≤ 64
+blank-short zero zero = omega arith
+blank-short zero (suc k) = omega arith
+blank-short (suc n) zero = omega arith
+blank-short (suc n) (suc k) = blank-short n k
 
-  module _ {whole : Lines} {rows : List (List ℕ)} {lengths : List ℕ} {i line a : ℕ}
-      (v : ReadingViews whole c count numbers pasts s rows lengths i line a) where
+set-short : (lists : List EventList) (i : ℕ) (l : EventList) → l.count ≤ 64 → i < length lists → ((k : ℕ) → (get_or lists k no_list).count ≤ 64)
+    → (k : ℕ) → (get_or (set lists i l) k no_list).count ≤ 64
+set-short lists i l s h p k =
+    by-eq k i
+    (λ e. rw (e, get_or-set_same) s)
+    (λ n. rw get_or-set_other (p k))
+
+kept-none : (lists : List EventList) → lists ≡ replicate 64 no_list → Kept [] lists
+unfolding pad
+kept-none lists e = record {
+  pads = e;
+  short = λ k. subst (λ (l : List EventList). (get_or l k no_list).count ≤ 64) (sym e) (blank-short 64 k);
+}
+
+module _ (past : Bool) (count : ℕ) (numbers : List ℕ) (line : Line) (text : List ℕ) where
+  pub reading-begins : (lists : List EventList) → lists ≡ replicate 64 no_list → Stands line text → Reading past count numbers line text lists 0 line
+  reading-begins lists e s = record { said = []; long = refl; kept = kept-none lists e; stands = s; says = λ next. refl }
+
+  module _ {lists : List EventList} {i : ℕ} {now : Line} (v : Reading past count numbers line text lists i now) where
     -- no number is left
-    pub views-end : length numbers ≤ i → whole ≡ after_views c pasts v.views line a (split 10 (drop a s))
-    views-end h =
-        v.is
-        ∙ ap (λ (ns : List ℕ). lists_from false count (after_views c pasts) ns v.views line a (split 10 (drop a s)))
-        (drop_of_length-le numbers {i = i} h)
-        ∙ lists-done false count (after_views c pasts) v.views line a (split 10 (drop a s))
+    pub reading-ends : length numbers ≤ i → ListsDone past count numbers line text (record { lists = lists; next = now })
+    reading-ends h = record {
+      said = v.said;
+      kept = v.kept;
+      stands = v.stands;
+      says =
+          λ next.
+          v.says next
+          ∙ ap (λ (ns : List ℕ). lines_at (lists_from past count next ns v.said) now text) (drop_of_length-le numbers {i = i} h)
+          ∙ lists-done past count next v.said now.number now.start (split 10 (drop now.start text));
+    }
 
-    -- the next line is x
-    module _ (h : i < length numbers) (from : a ≤ length s) (x : NextList) (q : x ≡ next_read false count (get_or numbers i 0) a (drop a s))
-        (found : x.end ≡ a + find 10 (drop a s)) (to : x.end ≤ length s) where
-      abbrev next-view : List ℕ
-      next-view = list_said (take (x.end - a) (drop a s))
+    -- the next line is r, and goes up to e
+    module _ (h : i < length numbers) (e : ℕ) (r : Result EventList Fault)
+        (q : ending_at e (list_line_of r) ≡ next_read past count (get_or numbers i 0) now.start (drop now.start text))
+        (found : e ≡ now.start + find 10 (drop now.start text)) (to : e ≤ length text) where
+      abbrev own : ℕ
+      own = get_or numbers i 0
 
-      next-is : whole
-          ≡ lists_from false count (after_views c pasts) (get_or numbers i 0 ∷ drop (i + 1) numbers) v.views line a (split 10 (drop a s))
-      next-is =
-          v.is
-          ∙ ap (λ (ns : List ℕ). lists_from false count (after_views c pasts) ns v.views line a (split 10 (drop a s))) (at-cons numbers i h)
+      next-is : (next : List (List ℕ) → LinesSay)
+          → lines_at (lists_from past count next numbers []) line text ≡ lines_at (lists_from past count next (own ∷ drop (i + 1) numbers) v.said) now text
+      next-is next =
+          v.says next ∙ ap (λ (ns : List ℕ). lines_at (lists_from past count next ns v.said) now text) (at-cons numbers i h)
 
-      pub views-bad : (x.fault ≡ 0 → ⊥) → whole ≡ refusal x.fault line a (x.end - a)
-      views-bad z =
-          next-is
-          ∙ list-bad line s a from x found to false count (after_views c pasts) (get_or numbers i 0) (drop (i + 1) numbers) v.views q z
+      pub reading-bad : (f : Fault) → r ≡ Err f → (next : List (List ℕ) → LinesSay)
+          → lines_at (lists_from past count next numbers []) line text ≡ refusal (fault_number f) now.number now.start (e - now.start)
+      reading-bad f z next =
+          let k : (list_line_of r).fault ≡ fault_number f = ap (λ (r : Result EventList Fault). (list_line_of r).fault) z in
+          next-is next
+          ∙ list-bad now.number text now.start v.stands.to (ending_at e (list_line_of r)) found to past count next own (drop (i + 1) numbers) v.said q
+          (λ n. fault-some f (sym k ∙ n))
+          ∙ ap (λ (n : ℕ). refusal n now.number now.start (e - now.start)) k
 
-      pub views-few : x.fault ≡ 0 → x.list.count ≤ count
-      unfolding event_list_of
-      views-few z =
-          rw (read-list false count (get_or numbers i 0) s a from x q found z)
-          (list-few false count (get_or numbers i 0) (take (x.end - a) (drop a s)) (read_none false count (get_or numbers i 0) s a from x q found z))
+      module _ (l : EventList) (z : r ≡ Ok l) where
+        no-fault : (list_line_of r).fault ≡ 0
+        no-fault = ap (λ (r : Result EventList Fault). (list_line_of r).fault) z
 
-      pub views-more : x.fault ≡ 0 → i < 64
-          → ReadingViews whole c count numbers pasts s (set rows i x.list.events) (set lengths i x.list.count) (i + 1) (line + 1) (x.end + 1)
-      unfolding rows_of event_list_of row_of
-      views-more z few =
-          let l : x.list ≡ event_list_of next-view = read-list false count (get_or numbers i 0) s a from x q found z in
-          record {
-            views = v.views ++ next-view ∷ [];
-            long = omega (arith, length-append v.views (next-view ∷ []), v.long);
-            rows_are =
-                rw (l, v.rows_are)
-                (pad-set 64 no_row (map row_of v.views) i (row_of next-view) (sym (length-map v.views row_of ∙ v.long)) few)
-                ∙ ap (pad 64 no_row) (sym (map-append row_of v.views (next-view ∷ [])));
-            lengths-are =
-                rw (l, v.lengths-are)
-                (pad-set 64 0 (map length v.views) i (length next-view) (sym (length-map v.views length ∙ v.long)) few)
-                ∙ ap (pad 64 0) (sym (map-append length v.views (next-view ∷ [])));
-            is =
-                next-is
-                ∙ list-more line s a from x found to false count (after_views c pasts) (get_or numbers i 0) (drop (i + 1) numbers) v.views q z;
-          }
+        pub reading-short : e < length text
+        reading-short = read_short past count own text now.start v.stands.to (ending_at e (list_line_of r)) q found no-fault
 
--- ---- the pasts that are kept, in an array
-pub record ReadingPasts (whole : Lines) (c : Criterion) (count : ℕ) (numbers : List ℕ) (s : List ℕ) (array : List EventList) (i line a : ℕ) : Type 0 where
-  pub pasts : List (List ℕ)
-  pub long : length pasts ≡ i
-  pub array-is : array ≡ pad 64 no_list (map event_list_of pasts)
-  pub is : whole ≡ lists_from true count (views_from c count numbers) (count_from i (count - i)) pasts line a (split 10 (drop a s))
+        abbrev entries : List ℕ
+        entries = list_said (take (e - now.start) (drop now.start text))
 
--- the lists in an array that holds the lists ls
-pub lists-in : (array : List EventList) (n : ℕ) (ls : List (List ℕ)) → array ≡ pad 64 no_list (map event_list_of ls) → length ls ≡ n
-    → map entries_in (take n array) ≡ ls
-lists-in array n ls e k =
-    let m : n ≡ length (map event_list_of ls) = sym (length-map ls event_list_of ∙ k) in
-    rw (e, m, take-pad 64 no_list (map event_list_of ls)) (entries-made ls)
+        list-is : l ≡ event_list_of entries
+        list-is =
+            sym (ap (λ (r : Result EventList Fault). (list_line_of r).list) z)
+            ∙ read-list past count own text now.start v.stands.to (ending_at e (list_line_of r)) q found no-fault
 
-module _ (c : Criterion) (count : ℕ) (numbers : List ℕ) (s : List ℕ) where
-  pub pasts-begin : (array : List EventList) (line a : ℕ) → array ≡ replicate 64 no_list
-      → ReadingPasts (past_lines c count numbers line a (split 10 (drop a s))) c count numbers s array 0 line a
-  unfolding past_lines pad
-  pasts-begin array line a r =
-      let z : count ≡ count - 0 = omega arith in
-      record {
-        pasts = [];
-        long = refl;
-        array-is = r;
-        is = ap (λ (n : ℕ). lists_from true count (views_from c count numbers) (count_from 0 n) [] line a (split 10 (drop a s))) z;
+        few : length entries ≤ count
+        few =
+            list-few past count own (take (e - now.start) (drop now.start text))
+            (read_none past count own text now.start v.stands.to (ending_at e (list_line_of r)) q found no-fault)
+
+        small : count ≤ 64 → l.count ≤ 64
+        unfolding event_list_of
+        small c = let k : l.count ≡ length entries = ap (λ (l : EventList). l.count) list-is in omega (arith, few)
+
+        pub reading-more : count ≤ 64 → i < 64
+            → Reading past count numbers line text (set lists i l) (i + 1) (record { number = now.number + 1; start = e + 1 })
+        reading-more c room =
+            let many : length (map event_list_of v.said) ≡ i = length-map v.said event_list_of ∙ v.long in
+            let wide : length lists ≡ 64 = ap length v.kept.pads ∙ pad-length 64 no_list (map event_list_of v.said) (omega arith) in
+            record {
+              said = v.said ++ entries ∷ [];
+              long = omega (arith, length-append v.said (entries ∷ []), v.long);
+              kept = record {
+                pads =
+                    rw (list-is, v.kept.pads)
+                    (pad-set 64 no_list (map event_list_of v.said) i (event_list_of entries) (sym many) room)
+                    ∙ ap (pad 64 no_list) (sym (map-append event_list_of v.said (entries ∷ [])));
+                short = set-short lists i l (small c) (omega arith) v.kept.short;
+              };
+              stands = record { to = omega (arith, reading-short); numbered = omega (arith, v.stands.numbered, found) };
+              says =
+                  λ next.
+                  next-is next
+                  ∙ list-more now.number text now.start v.stands.to (ending_at e (list_line_of r)) found to past count next own (drop (i + 1) numbers) v.said q no-fault;
+            }
+
+-- ---- the pasts
+module _ (c : Criterion) (es : List Event) (line : Line) (text : List ℕ) where
+  pub pasts-none : has_pasts c ≡ false → (lists : List EventList) → lists ≡ replicate 64 no_list → Stands line text
+      → PastsDone c es line text (record { lists = lists; next = line })
+  unfolding body_from
+  pasts-none h lists e s = record { pasts = []; kept = kept-none lists e; stands = s; says = rw h }
+
+  pub pasts-unheaded : has_pasts c ≡ true → (r : Refusal) → ((next : LinesSay) → lines_at (heading_from past_heading next) line text ≡ refused r)
+      → lines_at (body_from c es) line text ≡ refused r
+  unfolding body_from pasts_from
+  pasts-unheaded h r p = rw h (p (lists_from true (length es) (views_from c (length es) (view_numbers c es)) (count_from 0 (length es)) []))
+
+  pub pasts-read : has_pasts c ≡ true → (l : Line) → LineDone (heading_from past_heading) line text l
+      → (numbers : List ℕ) → numbers ≡ count_from 0 (length es) → (r : Result Lists Refusal) → ListsRead true (length es) numbers l text r
+      → PastsRead c es line text r
+  unfolding body_from pasts_from
+  pasts-read h l p numbers e (Ok x) d =
+      let d : ListsDone true (length es) (count_from 0 (length es)) l text x = subst (λ (ns : List ℕ). ListsDone true (length es) ns l text x) e d in record {
+        pasts = d.said;
+        kept = d.kept;
+        stands = d.stands;
+        says =
+            rw h
+            (p.says (lists_from true (length es) (views_from c (length es) (view_numbers c es)) (count_from 0 (length es)) [])
+            ∙ d.says (views_from c (length es) (view_numbers c es)));
       }
+  pasts-read h l p numbers e (Err f) d =
+      let d : ListsRead true (length es) (count_from 0 (length es)) l text (Err f) = subst (λ (ns : List ℕ). ListsRead true (length es) ns l text (Err f)) e d in
+      rw h
+      (p.says (lists_from true (length es) (views_from c (length es) (view_numbers c es)) (count_from 0 (length es)) [])
+      ∙ d (views_from c (length es) (view_numbers c es)))
 
-  module _ {whole : Lines} {array : List EventList} {i line a : ℕ} (v : ReadingPasts whole c count numbers s array i line a) where
-    pub pasts-end : count ≤ i → whole ≡ views_from c count numbers v.pasts line a (split 10 (drop a s))
-    pasts-end h =
-        v.is
-        ∙ ap (λ (ns : List ℕ). lists_from true count (views_from c count numbers) ns v.pasts line a (split 10 (drop a s))) (count-end i count h)
-        ∙ lists-done true count (views_from c count numbers) v.pasts line a (split 10 (drop a s))
+-- ---- the views
+module _ (c : Criterion) (count : ℕ) (numbers : List ℕ) (line : Line) (text : List ℕ) where
+  abbrev last : List (List ℕ) → List (List ℕ) → LinesSay
+  last pasts views = end_from (accepted c pasts views)
 
-    module _ (h : i < count) (from : a ≤ length s) (x : NextList) (q : x ≡ next_read true count i a (drop a s))
-        (found : x.end ≡ a + find 10 (drop a s)) (to : x.end ≤ length s) where
-      abbrev next-entries : List ℕ
-      next-entries = list_said (take (x.end - a) (drop a s))
+  pub views-unheaded : (r : Refusal) → ((next : LinesSay) → lines_at (heading_from view_heading next) line text ≡ refused r)
+      → (pasts : List (List ℕ)) → lines_at (views_from c count numbers pasts) line text ≡ refused r
+  unfolding views_from
+  views-unheaded r p pasts = p (lists_from false count (λ (views : List (List ℕ)). end_from (accepted c pasts views)) numbers [])
 
-      next_past : whole
-          ≡ lists_from true count (views_from c count numbers) (i ∷ count_from (i + 1) (count - (i + 1))) v.pasts line a (split 10 (drop a s))
-      next_past =
-          v.is
-          ∙ ap (λ (ns : List ℕ). lists_from true count (views_from c count numbers) ns v.pasts line a (split 10 (drop a s))) (count_next i count h)
+  module _ (l : Line) (p : LineDone (heading_from view_heading) line text l) where
+    pub views-refused : (r : Refusal) → ListsRead false count numbers l text (Err r)
+        → (pasts : List (List ℕ)) → lines_at (views_from c count numbers pasts) line text ≡ refused r
+    unfolding views_from
+    views-refused r d pasts =
+        p.says (lists_from false count (λ (views : List (List ℕ)). end_from (accepted c pasts views)) numbers [])
+        ∙ d (λ (views : List (List ℕ)). end_from (accepted c pasts views))
 
-      pub pasts-bad : (x.fault ≡ 0 → ⊥) → whole ≡ refusal x.fault line a (x.end - a)
-      pasts-bad z =
-          next_past
-          ∙ list-bad line s a from x found to true count (views_from c count numbers) i (count_from (i + 1) (count - (i + 1))) v.pasts q z
-
-      pub pasts-more : x.fault ≡ 0 → i < 64 → ReadingPasts whole c count numbers s (set array i x.list) (i + 1) (line + 1) (x.end + 1)
-      pasts-more z few =
-          let l : x.list ≡ event_list_of next-entries = read-list true count i s a from x q found z in
-          record {
-            pasts = v.pasts ++ next-entries ∷ [];
-            long = omega (arith, length-append v.pasts (next-entries ∷ []), v.long);
-            array-is =
-                rw (l, v.array-is)
-                (pad-set 64 no_list (map event_list_of v.pasts) i (event_list_of next-entries) (sym (length-map v.pasts event_list_of ∙ v.long)) few)
-                ∙ ap (pad 64 no_list) (sym (map-append event_list_of v.pasts (next-entries ∷ [])));
-            is =
-                next_past
-                ∙ list-more line s a from x found to true count (views_from c count numbers) i (count_from (i + 1) (count - (i + 1))) v.pasts q z;
-          }
-
--- ---- the answer and the rows: of a refusal, and of lines without a fault
-module _ (whole : Lines) (r : LinesRead) (rows : List (List ℕ)) where
-  pub refused : (fault line at size : ℕ) → r ≡ lines_read (refusal fault line at size) → whole ≡ refusal fault line at size → (fault ≡ 0 → ⊥)
-      → (r ≡ lines_read whole) × (rows ≡ rows_after whole rows)
-  refused fault line at size q w n =
-      (q ∙ ap lines_read (sym w), sym (ap (λ (x : Lines). rows_after x rows) w ∙ rw (ne_eqb fault 0 n)))
-
-pub all_read : (whole : Lines) (p : Place) → p ≡ nowhere → (c : Criterion) (array : List EventList) (lengths : List ℕ) (read rows : List (List ℕ)) (pasts views : List (List ℕ))
-    → whole ≡ accepted c pasts views → array ≡ pad 64 no_list (map event_list_of pasts) → lengths ≡ pad 64 0 (map length views) → read ≡ rows_of views
-    → (◌≡◌ {A = LinesRead} (record { fault = 0; place = p; certificate = record { criterion = c; pasts = array; lengths = lengths } }) (lines_read whole))
-    × (read ≡ rows_after whole rows)
-unfolding certificate_of
-all_read whole p n c array lengths read rows pasts views w q l r = (rw (n, w, q, l), rw (w, r))
-
--- the rest of the lines says it
-pub passed_on : (whole rest : Lines) (r : LinesRead) (rows old : List (List ℕ)) → whole ≡ rest → (r ≡ lines_read rest) × (rows ≡ rows_after rest old)
-    → (r ≡ lines_read whole) × (rows ≡ rows_after whole old)
-passed_on whole rest r rows old w p = (p.0 ∙ ap lines_read (sym w), p.1 ∙ ap (λ (x : Lines). rows_after x old) (sym w))
-
--- ---- the two parts, each after its heading
-pub views-part : (c : Criterion) (count : ℕ) (numbers : List ℕ) (pasts : List (List ℕ)) (line at : ℕ) (ps : List (List ℕ))
-    → views_from c count numbers pasts line at ps ≡ heading_from view_heading (view_lines c count numbers pasts) line at ps
-unfolding views_from view_lines
-views-part c count numbers pasts line at ps = refl
-
-pub pasts-part : (c : Criterion) (count : ℕ) (numbers : List ℕ) (line at : ℕ) (ps : List (List ℕ))
-    → pasts_from c count numbers line at ps ≡ heading_from past_heading (past_lines c count numbers) line at ps
-unfolding pasts_from past_lines
-pasts-part c count numbers line at ps = refl
-
--- ---- the lines after the first
-module _ (c : Criterion) (es : List Event) (line at : ℕ) (ps : List (List ℕ)) where
-  pub body-pasts : has_pasts c ≡ true → body_from c es line at ps ≡ pasts_from c (length es) (view_numbers c es) line at ps
-  unfolding body_from
-  body-pasts h = rw h
-
-  pub body-views : has_pasts c ≡ false → body_from c es line at ps ≡ views_from c (length es) (view_numbers c es) [] line at ps
-  unfolding body_from
-  body-views h = rw h
+    pub views-say : (x : Lists) → (d : ListsDone false count numbers l text x)
+        → (pasts : List (List ℕ)) → lines_at (views_from c count numbers pasts) line text ≡ lines_at (end_from (accepted c pasts d.said)) x.next text
+    unfolding views_from
+    views-say x d pasts =
+        p.says (lists_from false count (λ (views : List (List ℕ)). end_from (accepted c pasts views)) numbers [])
+        ∙ d.says (λ (views : List (List ℕ)). end_from (accepted c pasts views))
 
 -- the numbers in their array
 pub numbers-in : (x : ViewNumbers) (ns : List ℕ) → x ≡ view_numbers_of ns → take x.count x.numbers ≡ ns
 unfolding view_numbers_of
 numbers-in x ns q = rw q (take-pad 64 0 ns)
 
--- ---- the first line
-module _ (line : List ℕ) (x : CriterionRead) (q : x ≡ criterion_read line) where
-  pub named-known : x.known ≡ criterion_line line
-  unfolding criterion_read
-  named-known = by_bool (criterion_line line) (λ t. rw (q, t)) (λ t. rw (q, t))
+pub event-numbers : (x : ViewNumbers) (es : List Event) → x ≡ view_numbers_of (view_numbers Weak es) → take x.count x.numbers ≡ count_from 0 (length es)
+unfolding view_numbers
+event-numbers x es q = numbers-in x (count_from 0 (length es)) q
 
-  pub named-criterion : x.known ≡ true → x.criterion ≡ criterion_of (get_or (split 32 line) 1 [])
-  unfolding criterion_read
-  named-criterion k = rw (q, sym named-known ∙ k)
+-- ---- the record and the rows
+map-blank : {A B : Type 0} (f : A → B) (n : ℕ) (d : A) → map f (replicate n d) ≡ replicate n (f d)
+map-blank {B = B} f zero d = refl
+map-blank {B = B} f (suc n) d = ap (λ (t : List B). f d ∷ t) (map-blank f n d)
+
+map-pad : {A B : Type 0} (f : A → B) (n : ℕ) (d : A) (xs : List A) → map f (pad n d xs) ≡ pad n (f d) (map f xs)
+unfolding pad
+map-pad {B = B} f n d xs =
+    map-append f xs (replicate (n - length xs) d)
+    ∙ ap (λ (t : List B). map f xs ++ t) (map-blank f (n - length xs) d)
+    ∙ ap (λ (k : ℕ). map f xs ++ replicate (n - k) (f d)) (sym (length-map xs f))
+
+-- an array whose first places hold what f makes of a list
+pub set-mapped : {A B : Type 0} (f : A → B) (xs : List B) (ys : List A) (i : ℕ) (d : A) → take i xs ≡ map f (take i ys) → i < length xs → i < length ys
+    → take (i + 1) (set xs i (f (get_or ys i d))) ≡ map f (take (i + 1) ys)
+set-mapped {B = B} f xs ys i d p h k =
+    take_more_set xs i (f (get_or ys i d)) h
+    ∙ ap (λ (t : List B). t ++ f (get_or ys i d) ∷ []) p
+    ∙ sym (map-append f (take i ys) (get_or ys i d ∷ []))
+    ∙ ap (map f) (sym (take_more ys i d k))
+
+pub all-mapped : {A B : Type 0} (f : A → B) (xs : List B) (ys : List A) (i : ℕ) → take i xs ≡ map f (take i ys) → i ≡ length xs → i ≡ length ys → xs ≡ map f ys
+all-mapped f xs ys i p h k = sym (rw h (take-length xs)) ∙ p ∙ ap (map f) (rw k (take-length ys))
+
+map-counts : (ls : List (List ℕ)) → map (λ (l : EventList). l.count) (map event_list_of ls) ≡ map length ls
+unfolding event_list_of
+map-counts [] = refl
+map-counts (l ∷ ls) = ap (λ (t : List ℕ). length l ∷ t) (map-counts ls)
+
+map-rows : (ls : List (List ℕ)) → map (λ (l : EventList). l.events) (map event_list_of ls) ≡ map row_of ls
+unfolding event_list_of row_of
+map-rows [] = refl
+map-rows (l ∷ ls) = ap (λ (t : List (List ℕ)). pad 64 0 l ∷ t) (map-rows ls)
+
+pub all-done : (whole : Lines) (c : Criterion) (pasts views : List (List ℕ)) (lists array : List EventList) (lengths : List ℕ) (rows : List (List ℕ))
+    → whole ≡ accepted c pasts views → Kept pasts lists → Kept views array
+    → lengths ≡ map (λ (l : EventList). l.count) array → rows ≡ map (λ (l : EventList). l.events) array
+    → AllDone whole rows (record { criterion = c; pasts = lists; lengths = lengths })
+unfolding certificate_of rows_of
+all-done whole c pasts views lists array lengths rows w p v l r = record {
+  pasts = pasts;
+  views = views;
+  says = w;
+  is =
+      ap (λ (x : List EventList). record { criterion = c; pasts = x; lengths = lengths }) p.pads
+      ∙ ap (λ (x : List ℕ). record { criterion = c; pasts = pad 64 no_list (map event_list_of pasts); lengths = x })
+      (l ∙ ap (map (λ (l : EventList). l.count)) v.pads ∙ map-pad (λ (l : EventList). l.count) 64 no_list (map event_list_of views) ∙ ap (pad 64 0) (map-counts views));
+  rows_are = r ∙ ap (map (λ (l : EventList). l.events)) v.pads ∙ map-pad (λ (l : EventList). l.events) 64 no_list (map event_list_of views) ∙ ap (pad 64 no_row) (map-rows views);
+}

@@ -2,17 +2,20 @@
 use Prim.Native.Nat.{ℕ, ◌+◌, ◌-◌, ◌≤◌, ◌<◌}
 use native.Mathlib.Nat.{not-suc-le-zero}
 use native.Mathlib.Omega.{arith}
-use mathlib.Core.Path.{◌≡◌, refl, ap, ◌∙◌}
+use mathlib.Core.Path.{◌≡◌, refl, sym, ap, ◌∙◌}
 use mathlib.Core.Bool.{Bool, true, false, cond}
 use mathlib.Core.List.{List, [], ◌∷◌, ◌++◌}
-use lib.ListN.{length, get_or, take, drop}
+use lib.ListN.{length, get_or, take, drop, drop_of_length-le}
 use lib.Dec.{eqb}
 use borrow.Author.Tests.{eq-eqb, ne_eqb, le-leb, lt-leb}
+use Rattle.std.specs.Prelude.{Option, Some, None}
 use Rattle.layout.specs.Split.{find, split}
 use Rattle.layout.specs.Word.{same}
+use Rattle.layout.proofs.Cases.{by_bool, by-lt}
 use Rattle.layout.proofs.SplitLaws.{cut-more, cut-last, split-some}
 use Rattle.layout.proofs.NumberLaws.{cut-long}
 use Rattle.history.specs.declared.record.Event.{Event}
+use Rattle.certificate.specs.declared.record.Criterion.{Criterion}
 use Rattle.certificate.specs.Faults.{criterion_line, list_fault, list_said}
 use Rattle.certificate.specs.Criteria.{criterion_of}
 use Rattle.certificate_reader.specs.ReadCertificate.{Lines, refusal, end_from, heading_from, lists_from, body_from, lines_from, read_lines}
@@ -62,21 +65,15 @@ module _ (line : ℕ) (s : List ℕ) (a e : ℕ) (found : e ≡ a + find 10 (dro
 
   -- no line is left
   module _ (r : Lines) where
-    end-last : length s ≤ e → end_from r line a (split 10 (drop a s)) ≡ cond (eqb (e - a) 0) r (refusal 2 line a (e - a))
+    pub end-bad : (a ≡ length s → ⊥) → end_from r line a (split 10 (drop a s)) ≡ refusal 2 line a (e - a)
     unfolding end_from
-    end-last h = rw (cut-last 10 s a e found from h, long)
-
-    pub end-done : length s ≤ e → a ≡ e → end_from r line a (split 10 (drop a s)) ≡ r
-    end-done h z = let k : e - a ≡ 0 = omega arith in end-last h ∙ rw k
-
-    pub end-cut : length s ≤ e → (a ≡ e → ⊥) → end_from r line a (split 10 (drop a s)) ≡ refusal 2 line a (e - a)
-    end-cut h z = end-last h ∙ rw (ne_eqb (e - a) 0 (λ q. z (omega (arith, before))))
-
-    pub end_more : e < length s → end_from r line a (split 10 (drop a s)) ≡ refusal 2 line a (e - a)
-    end_more h =
+    end-bad z =
+        by-lt e (length s)
+        (λ h.
         ap (end_from r line a) (cut-more 10 s a e found from h)
         ∙ end_step r line a (take (e - a) (drop a s)) (split 10 (drop (e + 1) s)) rest_some
-        ∙ rw long
+        ∙ rw long)
+        (λ h. let n : e - a ≡ 0 → ⊥ = λ q. z (omega (arith, before)) in rw (cut-last 10 s a e found from h, long, ne_eqb (e - a) 0 n))
 
   -- a heading
   module _ (heading : List ℕ) (next : ℕ → ℕ → List (List ℕ) → Lines) where
@@ -130,6 +127,10 @@ pub lists-done : (past : Bool) (count : ℕ) (next : List (List ℕ) → ℕ →
 unfolding lists_from
 lists-done past count next ls line at ps = refl
 
+pub end-here : (r : Lines) (line a : ℕ) (s : List ℕ) → a ≡ length s → end_from r line a (split 10 (drop a s)) ≡ r
+unfolding split end_from
+end-here r line a s h = let k : length s ≤ a = omega arith in rw (drop_of_length-le s k)
+
 -- ---- the first line
 module _ (es : List Event) (s : List ℕ) (e : ℕ) (found : e ≡ 0 + find 10 (drop 0 s)) (to : e ≤ length s) where
   first-long : length (take (e - 0) s) ≡ e - 0
@@ -141,19 +142,30 @@ module _ (es : List Event) (s : List ℕ) (e : ℕ) (found : e ≡ 0 + find 10 (
 
   module _ (h : e < length s) where
     lines-turn : lines_from es (split 10 s)
-        ≡ cond (criterion_line (take (e - 0) s))
-        (body_from (criterion_of (get_or (split 32 (take (e - 0) s)) 1 [])) es 2 (length (take (e - 0) s) + 1) (split 10 (drop (e + 1) s)))
-        (refusal 2 1 0 (length (take (e - 0) s)))
+        ≡ cond (criterion_line (take e s)) (body_from (criterion_of (get_or (split 32 (take e s)) 1 [])) es 2 (e + 1) (split 10 (drop (e + 1) s)))
+        (refusal 2 1 0 (e - 0))
     lines-turn =
+        let z : e - 0 ≡ e = omega arith in
         ap (lines_from es) (cut-more 10 s 0 e found (omega arith) h)
         ∙ lines_step es (take (e - 0) s) (split 10 (drop (e + 1) s)) (split-some 10 (drop (e + 1) s))
+        ∙ rw (first-long, z)
 
-    pub lines-named : criterion_line (take (e - 0) s) ≡ true
-        → lines_from es (split 10 s) ≡ body_from (criterion_of (get_or (split 32 (take (e - 0) s)) 1 [])) es 2 (e + 1) (split 10 (drop (e + 1) s))
-    lines-named w = let k : length (take (e - 0) s) + 1 ≡ e + 1 = omega (arith, first-long) in lines-turn ∙ rw (w, k)
+    -- what the first line is read as
+    module _ (r : Option Criterion) (q : r ≡ cond (criterion_line (take e s)) (Some (criterion_of (get_or (split 32 (take e s)) 1 []))) None) where
+      pub lines-named : (c : Criterion) → r ≡ Some c → lines_from es (split 10 s) ≡ body_from c es 2 (e + 1) (split 10 (drop (e + 1) s))
+      lines-named c z =
+          by_bool (criterion_line (take e s))
+          (λ t.
+          let k : ◌≡◌ {A = Option Criterion} (Some (criterion_of (get_or (split 32 (take e s)) 1 []))) (Some c) = sym (q ∙ rw t) ∙ z in
+          let m : criterion_of (get_or (split 32 (take e s)) 1 []) ≡ c = cc in
+          lines-turn ∙ rw (t, m))
+          (λ t. let k : ◌≡◌ {A = Option Criterion} None (Some c) = sym (q ∙ rw t) ∙ z in absurd (cc))
 
-    pub lines-bad : criterion_line (take (e - 0) s) ≡ false → lines_from es (split 10 s) ≡ refusal 2 1 0 (e - 0)
-    lines-bad w = lines-turn ∙ rw (w, first-long)
+      pub lines-bad : r ≡ None → lines_from es (split 10 s) ≡ refusal 2 1 0 (e - 0)
+      lines-bad z =
+          by_bool (criterion_line (take e s))
+          (λ t. let k : ◌≡◌ {A = Option Criterion} (Some (criterion_of (get_or (split 32 (take e s)) 1 []))) None = sym (q ∙ rw t) ∙ z in absurd (cc))
+          (λ t. lines-turn ∙ rw t)
 
 -- ---- a text that is too long
 module _ (es : List Event) (text : List ℕ) where

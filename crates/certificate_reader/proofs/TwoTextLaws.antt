@@ -7,59 +7,74 @@ use mathlib.Core.List.{List, []}
 use lib.ListN.{length}
 use lib.Dec.{eqb}
 use borrow.Author.Tests.{eq-eqb, ne_eqb}
+use Rattle.std.specs.Prelude.{Ok, Err}
 use Rattle.layout.proofs.Cases.{by-eq}
-use Rattle.history.specs.Record.{pad, events_in}
-use Rattle.history_reader.specs.Place.{Place, text_named}
-use Rattle.history_reader.specs.ReadHistory.{HistoryRead, read_history}
+use Rattle.history.specs.Record.{pad, no_history, events_in}
+use Rattle.history.specs.Faults.{fault_number}
+use Rattle.history.specs.declared.record.History.{History}
+use Rattle.history_reader.specs.declared.read.Refusal.{Refusal}
+use Rattle.history_reader.specs.Place.{Place, nowhere, line_place, text_named}
+use Rattle.history_reader.specs.ReadHistory.{HistoryRead, history_read, read_history}
 use Rattle.history_reader.proofs.PlaceLaws.{placed-history}
+use Rattle.history_reader.proofs.ReadLaws.{fault-some}
 use Rattle.certificate.specs.declared.record.Criterion.TheVariants.{Pram}
 use Rattle.certificate.specs.declared.record.Certificate.{Certificate}
-use Rattle.certificate.specs.Record.{certificate_of}
-use Rattle.certificate_reader.specs.declared.read.LinesRead.{LinesRead}
-use Rattle.certificate_reader.specs.ReadCertificate.{CertificateRead, Lines, read_lines, history_refused, certificate_read, read_certificate, rows_after, rows_read}
-use Rattle.certificate_reader.specs.Steps.Lines.{lines_read}
+use Rattle.certificate.specs.Record.{no_certificate, certificate_of, rows_of}
+use Rattle.certificate_reader.specs.ReadCertificate.{Lines, CertificateRead, accepted, read_lines, history_refused, certificate_read, texts_read, read_certificate, rows_after, rows_read}
+use Rattle.certificate_reader.specs.Steps.Lines.{refused, AllDone}
 use Rattle.certificate_reader.proofs.PlaceLaws.{placed-text}
 
--- x is the reading of the history text
-module _ (history text : List ℕ) (rows : List (List ℕ)) (x : HistoryRead) (q : x ≡ read_history history) where
-  abbrev lines : Lines
-  lines = read_lines (events_in x.history) text
+module _ (history text : List ℕ) (rows : List (List ℕ)) where
+  -- x is the reading of the history text
+  module _ (x : HistoryRead) (q : x ≡ read_history history) where
+    answer-is : read_certificate history text ≡ cond (eqb x.fault 0) (certificate_read x.history (read_lines (events_in x.history) text)) (history_refused x)
+    unfolding read_certificate
+    answer-is =
+        ap (λ (h : HistoryRead). cond (eqb h.fault 0) (certificate_read h.history (read_lines (events_in h.history) text)) (history_refused h)) (sym q)
 
-  answer-is : read_certificate history text ≡ cond (eqb x.fault 0) (certificate_read x.history (read_lines (events_in x.history) text)) (history_refused x)
-  unfolding read_certificate
-  answer-is =
-      ap (λ (h : HistoryRead). cond (eqb h.fault 0) (certificate_read h.history (read_lines (events_in h.history) text)) (history_refused h)) (sym q)
+    rows_is : rows_read history text rows ≡ cond (eqb x.fault 0) (rows_after (read_lines (events_in x.history) text) rows) rows
+    unfolding rows_read
+    rows_is = ap (λ (h : HistoryRead). cond (eqb h.fault 0) (rows_after (read_lines (events_in h.history) text) rows) rows) (sym q)
 
-  rows_is : rows_read history text rows ≡ cond (eqb x.fault 0) (rows_after (read_lines (events_in x.history) text) rows) rows
-  unfolding rows_read
-  rows_is = ap (λ (h : HistoryRead). cond (eqb h.fault 0) (rows_after (read_lines (events_in h.history) text) rows) rows) (sym q)
+    history-is : x.history ≡ (read_history history).history
+    history-is = ap (λ (h : HistoryRead). h.history) q
 
   -- the history is refused
-  module _ (n : x.fault ≡ 0 → ⊥) where
-    pub history-answer : (c : Certificate) → c ≡ certificate_of Pram [] []
-        → ◌≡◌ {A = CertificateRead}
-        (record { fault = x.fault; place = x.place; history = x.history; certificate = c })
-        (read_certificate history text)
-    unfolding certificate_of pad
-    history-answer c e = sym (answer-is ∙ rw (ne_eqb x.fault 0 n, e))
+  module _ (r : Refusal) (q : history_read (Err r) ≡ read_history history) where
+    pub history-refused-answer : texts_read history (Err r) ≡ read_certificate history text
+    history-refused-answer =
+        ap {B = CertificateRead} (λ (h : History). record { fault = fault_number r.fault; place = line_place r.place; history = h; certificate = no_certificate })
+        (sym (history-is (history_read (Err r)) q))
+        ∙ sym (answer-is (history_read (Err r)) q ∙ rw (ne_eqb (fault_number r.fault) 0 (fault-some r.fault)))
 
-    pub history-rows : rows ≡ rows_read history text rows
-    history-rows = sym (rows_is ∙ rw (ne_eqb x.fault 0 n))
+    pub history-refused-rows : rows ≡ rows_read history text rows
+    history-refused-rows = sym (rows_is (history_read (Err r)) q ∙ rw (ne_eqb (fault_number r.fault) 0 (fault-some r.fault)))
 
-  -- the history is read, and r is what the certificate's lines are
-  module _ (z : x.fault ≡ 0) (r : LinesRead) (e : r ≡ lines_read (read_lines (events_in x.history) text)) where
-    pub lines_rows : rows_after (read_lines (events_in x.history) text) rows ≡ rows_read history text rows
-    lines_rows = sym (rows_is ∙ rw (eq-eqb x.fault 0 z))
+  -- the history is read
+  module _ (h : History) (q : history_read (Ok h) ≡ read_history history) where
+    -- and the certificate is refused
+    module _ (r : Refusal) (w : read_lines (events_in h) text ≡ refused r) where
+      pub lines-refused-answer : texts_read history (Err r) ≡ read_certificate history text
+      unfolding certificate_of pad
+      lines-refused-answer =
+          ap {B = CertificateRead} (λ (h : History). record { fault = fault_number r.fault; place = line_place r.place; history = h; certificate = no_certificate })
+          (sym (history-is (history_read (Ok h)) q))
+          ∙ sym (answer-is (history_read (Ok h)) q ∙ ap (λ (l : Lines). certificate_read h l) w)
 
-    lines-as : certificate_read x.history (read_lines (events_in x.history) text) ≡ read_certificate history text
-    lines-as = sym (answer-is ∙ rw (eq-eqb x.fault 0 z))
+      pub lines-refused-rows : rows ≡ rows_read history text rows
+      lines-refused-rows =
+          sym (rows_is (history_read (Ok h)) q ∙ ap (λ (l : Lines). rows_after l rows) w
+          ∙ rw (ne_eqb (fault_number r.fault) 0 (fault-some r.fault)))
 
-    pub lines-answer : ◌≡◌ {A = CertificateRead}
-        (record { fault = r.fault; place = r.place; history = x.history; certificate = r.certificate })
-        (read_certificate history text)
-    lines-answer =
-        ap {B = CertificateRead} (λ (y : LinesRead). record { fault = y.fault; place = y.place; history = x.history; certificate = y.certificate }) e
-        ∙ lines-as
+    -- and the certificate too
+    module _ (c : Certificate) (new : List (List ℕ)) (d : AllDone (read_lines (events_in h) text) new c) where
+      pub both-answer : texts_read history (Ok (record { history = h; certificate = c })) ≡ read_certificate history text
+      both-answer =
+          ap {B = CertificateRead} (λ (c : Certificate). record { fault = 0; place = nowhere; history = h; certificate = c }) d.is
+          ∙ sym (answer-is (history_read (Ok h)) q ∙ ap (λ (l : Lines). certificate_read h l) d.says)
+
+      pub both-rows : new ≡ rows_read history text rows
+      both-rows = d.rows_are ∙ sym (rows_is (history_read (Ok h)) q ∙ ap (λ (l : Lines). rows_after l rows) d.says)
 
 -- ---- where the faulty line lies: within the text that it is in
 pub record PlacedIn (history text : List ℕ) (p : Place) : Type 0 where

@@ -195,10 +195,12 @@ fn read_lines(
     };
     let pasts = read_pasts(text, second, criterion, events)?;
     let views = read_views(text, pasts.next, criterion, events)?;
+    let pasts = pasts.lists;
+    let lengths = put_rows(views, rows);
     Ok(Certificate {
         criterion,
-        pasts: pasts.lists,
-        lengths: put_rows(views, rows),
+        pasts,
+        lengths,
     })
 }
 

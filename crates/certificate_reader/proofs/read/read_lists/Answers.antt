@@ -1,0 +1,37 @@
+-- `read_lists` meets its contract: what the lines say is what those that are left say, after the lists that are kept. Assumes nothing.
+use native.Mathlib.Omega.{arith}
+use borrow.Author.Rules.{rules}
+use Prim.Native.Nat.{ℕ, ◌<◌, ◌≤◌, ◌-◌}
+use mathlib.Core.Path.{◌≡◌, sym, ◌∙◌}
+use lib.ListN.{length}
+use Rattle.std.proofs.lemmas.Result.{err_from_is_err_and}
+use Rattle.history.specs.Faults.{fault_number}
+use Rattle.history_reader.proofs.ReadLaws.{kept, failed}
+use Rattle.certificate_reader.specs.ReadCertificate.{refusal}
+use Rattle.certificate_reader.specs.Steps.Lines.{refused}
+use Rattle.certificate_reader.proofs.KeepLaws.{reading-begins, reading-ends, reading-bad, reading-more, reading-short}
+use Rattle.certificate_reader.proofs.read.read_lists.Goals as goal
+
+pub loop-i-init : goal.loop-i-init
+loop-i-init c =
+    reading-begins c.args.past c.args.count c.args.numbers.now c.args.line c.args.text.now _ (rw c.no_list-lists.ensures) (record { to = c.requires.0; numbered = c.requires.1 })
+
+pub returns-in_err-lists : goal.returns-in_err-lists
+returns-in_err-lists c =
+    let p = err_from_is_err_and c.from_residual.result c.from_residual.ensures.1 in
+    let f = failed c.next_list-next.result.list c.map_err.result _ c.in_err-lists.field-0.0 c.map_err.ensures.cases c.in_err-lists.was in
+    let l = f.1.1 in
+    let refused : refused c.in_err-lists.field-0.0 ≡ refusal (fault_number f.0) c.loop-i.line.number c.loop-i.line.start (c.next_list-next.result.end - c.loop-i.line.start) = search rules in
+    rw (p.1, p.2)
+    (λ next.
+    reading-bad c.args.past c.args.count c.args.numbers.now c.args.line c.args.text.now c.loop-i.invariant ? c.next_list-next.result.end c.next_list-next.result.list c.next_list-next.ensures.0 c.next_list-next.ensures.1 c.next_list-next.ensures.3
+    f.0 f.1.0 next
+    ∙ sym refused)
+
+pub loop-i-preserved : goal.loop-i-preserved
+loop-i-preserved c =
+    reading-more c.args.past c.args.count c.args.numbers.now c.args.line c.args.text.now c.loop-i.invariant ? c.next_list-next.result.end c.next_list-next.result.list c.next_list-next.ensures.0 c.next_list-next.ensures.1 c.next_list-next.ensures.3
+    c.in_ok-lists.field-0 (kept c.next_list-next.result.list c.map_err.result _ c.in_ok-lists.field-0 c.map_err.ensures.cases c.in_ok-lists.was) c.requires.2 ?
+
+pub returns : goal.returns
+returns c = reading-ends c.args.past c.args.count c.args.numbers.now c.args.line c.args.text.now c.loop-i.invariant ?

@@ -1,0 +1,21 @@
+-- `read_pasts` meets its contract: the pasts where the criterion has any. Assumes nothing.
+use mathlib.Core.Path.{sym, ◌∙◌}
+use Rattle.std.proofs.lemmas.Result.{err_from_is_err_and}
+use Rattle.certificate_reader.proofs.KeepLaws.{pasts-none, pasts-unheaded, pasts-read, event-numbers}
+use Rattle.certificate_reader.proofs.read.read_pasts.Goals as goal
+
+pub returns-then-not-has_pasts : goal.returns-then-not-has_pasts
+returns-then-not-has_pasts c =
+    pasts-none c.args.criterion c.args.events.now c.args.line c.args.text.now (sym c.has_pasts.ensures ∙ c.if-not-has_pasts.true) _ (rw c.no_list.ensures)
+    (record { to = c.requires.0; numbered = c.requires.1 })
+
+pub returns-in_err-line : goal.returns-in_err-line
+returns-in_err-line c =
+    let p = err_from_is_err_and c.from_residual.result c.from_residual.ensures.1 in
+    rw (p.1, p.2)
+    (pasts-unheaded c.args.criterion c.args.events.now c.args.line c.args.text.now (sym c.has_pasts.ensures ∙ c.if-not-has_pasts.false) c.in_err-line.field-0.0 c.in_err-line.ensures)
+
+pub returns : goal.returns
+returns c =
+    pasts-read c.args.criterion c.args.events.now c.args.line c.args.text.now (sym c.has_pasts.ensures ∙ c.if-not-has_pasts.false) c.in_ok-line.line c.in_ok-line.ensures _
+    (event-numbers c.view_numbers-numbers.result c.args.events.now c.view_numbers-numbers.ensures.0) c.read_lists.result c.read_lists.ensures
