@@ -66,6 +66,7 @@ module _ (v : Verdict) (c : Criterion) (x : Bool) (o : Option (List ℕ)) (buffe
   pub answers-seventeen : o ≡ none → IsMade (made_answer v c x o buffer) o buffer (Err (NotPair c)) buffer
   answers-seventeen q = record {
     answer = rw q refl;
+    made = rw q refl;
     long = rw q refl;
     bytes = rw q refl;
   }
@@ -77,6 +78,7 @@ module _ (v : Verdict) (c : Criterion) (x : Bool) (o : Option (List ℕ)) (buffe
       let n = ne_eqb v.number 0 (λ z. found_number f (sym found ∙ z)) in
       record {
         answer = rw (q, n) e;
+        made = rw (q, n, n) refl;
         long = rw (q, n, n) refl;
         bytes = rw (q, n, n) refl;
       }
@@ -86,6 +88,7 @@ module _ (v : Verdict) (c : Criterion) (x : Bool) (o : Option (List ℕ)) (buffe
       → IsMade (made_answer v c x o buffer) o buffer (Err (Crossing c)) buffer
   answers-crossed t q e z = record {
     answer = rw (q, e, z) refl;
+    made = rw (q, e, z) refl;
     long = rw (q, e, z) refl;
     bytes = rw (q, e, z) refl;
   }
@@ -103,6 +106,7 @@ module _ (v : Verdict) (c : Criterion) (x : Bool) (o : Option (List ℕ)) (buffe
             let same : n ≡ length t = ap (λ (w : Written). w.length) (rw r at p) in
             record {
               answer = rw (q, e, z, r) refl;
+              made = rw (q, e, z, r) refl;
               long = rw (q, e, z, r) same;
               bytes = b ∙ rw (q, e, z, r) refl;
             }
@@ -124,6 +128,7 @@ module _ (v : Verdict) (c : Criterion) (x : Bool) (o : Option (List ℕ)) (buffe
         go true r = absurd (some-number f (ap (λ (w : Written). w.number) (rw r at p)))
         go false r = record {
           answer = rw (q, e, z, r) refl;
+          made = rw (q, e, z, r) refl;
           long = rw (q, e, z, r) refl;
           bytes = b ∙ rw (q, e, z, r) refl;
         }

@@ -1,6 +1,6 @@
 -- On texts: what is made of two texts is what is made of the records that they are read as. Assumes nothing.
 use Rattle.std.specs.Prelude as code
-use Rattle.std.specs.Prelude.{Result, Ok, Err}
+use Rattle.std.specs.Prelude.{Result, Ok, Err, is_ok}
 use Prim.Native.Nat.{ℕ}
 use mathlib.Core.Path.{◌≡◌, refl, sym, ap, ◌∙◌, subst}
 use mathlib.Core.Bool.{Bool, true, false, cond}
@@ -31,6 +31,7 @@ use Rattle.weakener.specs.declared.made.Wanted.TheVariants.{Named, OneLine}
 use Rattle.weakener.specs.declared.made.Unmade.{Unmade}
 use Rattle.weakener.specs.declared.made.Unmade.TheVariants.{Refused}
 use Rattle.weakener.specs.Made.{verdict_made, length_of}
+use Rattle.weakener.proofs.WantedLaws.{wanted_in}
 use Rattle.weakener.specs.Steps.{IsMade, lists_wanted, crosses_wanted, text_wanted, crossing_wanted}
 
 -- ---- the answer of two texts
@@ -48,6 +49,7 @@ module _ (wanted : code.Option Wanted) (history text buffer : List ℕ) where
       let e = ne_eqb (read_certificate history text).fault 0 m in
       record {
         answer = ap refused read ∙ rw e refl;
+        made = rw (e, e) refl;
         long = rw (e, e) refl;
         bytes = rw (e, e) refl;
       }
@@ -97,25 +99,21 @@ module _ (wanted : code.Option Wanted) (history text buffer : List ℕ) where
           made = text_if_some (events_in r.history) (lists_wanted wanted (history_of r.history) (certificate_of r.history r.certificate rows))
 
 -- ---- weakening: what is wanted is the criterion of a number, if there is one
-abbrev pub wanted_in : Option Criterion → code.Option Wanted
-wanted_in none = code.None
-wanted_in (some w) = code.Some (Named w)
-
 pub weakens-to : (history text : List ℕ) (wanted : ℕ) (buffer : List ℕ) (k : Result Made Unmade) (then : List ℕ)
     → AnswersTexts (wanted_in (wanted_of wanted)) history text buffer k then
-    → (verdict_made k ≡ weaken_answer history text wanted buffer) × (length_of k ≡ weaken_length history text wanted buffer)
-    × (then ≡ weaken_bytes history text wanted buffer)
+    → (verdict_made k ≡ weaken_answer history text wanted buffer) × (is_ok k ≡ eqb (weaken_answer history text wanted buffer).number 0)
+    × (length_of k ≡ weaken_length history text wanted buffer) × (then ≡ weaken_bytes history text wanted buffer)
 unfolding weaken_answer weaken_length weaken_bytes weakened_text
 weakens-to history text wanted buffer k then p = go (wanted_of wanted) p
   where
     go : (o : Option Criterion) → AnswersTexts (wanted_in o) history text buffer k then
         → let v = made_verdict history text false (weakened_wanted history text o) buffer in
-        (verdict_made k ≡ v) × (length_of k ≡ length_made v (weakened_wanted history text o)) × (then ≡ bytes_made v (weakened_wanted history text o) buffer)
-    go none p = (p.answer, p.long, p.bytes)
-    go (some w) p = (p.answer, p.long, p.bytes)
+        (verdict_made k ≡ v) × (is_ok k ≡ eqb v.number 0) × (length_of k ≡ length_made v (weakened_wanted history text o)) × (then ≡ bytes_made v (weakened_wanted history text o) buffer)
+    go none p = (p.answer, p.made, p.long, p.bytes)
+    go (some w) p = (p.answer, p.made, p.long, p.bytes)
 
 -- ---- one line
 pub in-line : (history text buffer : List ℕ) (k : Result Made Unmade) (then : List ℕ) → AnswersTexts (code.Some OneLine) history text buffer k then
-    → (verdict_made k ≡ line_answer history text buffer) × (length_of k ≡ line_length history text buffer) × (then ≡ line_bytes history text buffer)
+    → (verdict_made k ≡ line_answer history text buffer) × (is_ok k ≡ eqb (line_answer history text buffer).number 0) × (length_of k ≡ line_length history text buffer) × (then ≡ line_bytes history text buffer)
 unfolding line_answer line_length line_bytes one_line_text crossing
-in-line history text buffer k then p = (p.answer, p.long, p.bytes)
+in-line history text buffer k then p = (p.answer, p.made, p.long, p.bytes)

@@ -1,6 +1,6 @@
 -- What is wanted of a certificate, and an answer and a buffer that are those of a verdict.
 use Rattle.std.specs.Prelude as code
-use Rattle.std.specs.Prelude.{ℕ, ◌≡◌, Bool, false, List, Result}
+use Rattle.std.specs.Prelude.{ℕ, ◌≡◌, Bool, false, List, Result, is_ok, eqb}
 use Rattle.std.proofs.Math.Option.{Option, none}
 use Rattle.history.specs.declared.record.History as WrittenHistory
 use Rattle.history.specs.Record.{events_in}
@@ -55,5 +55,6 @@ OrderWanted (code.Some OneLine) h c = OrderRead h c
 -- An answer and a buffer are those of a verdict and the text made.
 pub record IsMade (v : Verdict) (t : Option (List ℕ)) (buffer : List ℕ) (r : Result Made Unmade) (after : List ℕ) : Type 0 where
   pub answer : verdict_made r ≡ v
+  pub made : is_ok r ≡ eqb v.number 0
   pub long : length_of r ≡ length_made v t
   pub bytes : after ≡ bytes_made v t buffer

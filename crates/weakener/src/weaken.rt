@@ -1,5 +1,5 @@
 // Weakening on texts.
-ghost use Rattle.std.specs.Prelude.{◌≡◌};
+ghost use Rattle.std.specs.Prelude.{◌≡◌, is_ok, eqb};
 ghost use Rattle.layout.specs.Options.{option_in};
 ghost use Rattle.checker.specs.WeakenText.{wanted_of, weaken_answer, weaken_length, weaken_bytes};
 ghost use Rattle.weakener.specs.Made.{verdict_made, length_of};
@@ -30,6 +30,7 @@ pub fn weaken(
     buffer: &mut [u8],
 ) -> Result<Made, Unmade>
     ensures answer { verdict_made result ≡ weaken_answer history.now text.now wanted buffer.old }
+    ensures made { is_ok result ≡ eqb (weaken_answer history.now text.now wanted buffer.old).number 0 }
     ensures length { length_of result ≡ weaken_length history.now text.now wanted buffer.old }
     ensures bytes { buffer.new ≡ weaken_bytes history.now text.now wanted buffer.old }
 {
