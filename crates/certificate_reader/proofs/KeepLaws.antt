@@ -265,29 +265,39 @@ module _ (c : Criterion) (es : List Event) (line : Line) (text : List ℕ) where
       ∙ d (views_from c (length es) (view_numbers c es)))
 
 -- ---- the views
-module _ (c : Criterion) (count : ℕ) (numbers : List ℕ) (line : Line) (text : List ℕ) where
-  abbrev last : List (List ℕ) → List (List ℕ) → LinesSay
-  last pasts views = end_from (accepted c pasts views)
+module _ (c : Criterion) (es : List Event) (line : Line) (text : List ℕ) where
+  abbrev of_views : List (List ℕ) → LinesSay
+  of_views pasts = views_from c (length es) (view_numbers c es) pasts
 
   pub views-unheaded : (r : Refusal) → ((next : LinesSay) → lines_at (heading_from view_heading next) line text ≡ refused r)
-      → (pasts : List (List ℕ)) → lines_at (views_from c count numbers pasts) line text ≡ refused r
+      → (pasts : List (List ℕ)) → lines_at (views_from c (length es) (view_numbers c es) pasts) line text ≡ refused r
   unfolding views_from
-  views-unheaded r p pasts = p (lists_from false count (λ (views : List (List ℕ)). end_from (accepted c pasts views)) numbers [])
+  views-unheaded r p pasts = p (lists_from false (length es) (λ (views : List (List ℕ)). end_from (accepted c pasts views)) (view_numbers c es) [])
 
-  module _ (l : Line) (p : LineDone (heading_from view_heading) line text l) where
-    pub views-refused : (r : Refusal) → ListsRead false count numbers l text (Err r)
-        → (pasts : List (List ℕ)) → lines_at (views_from c count numbers pasts) line text ≡ refused r
+  module _ (l : Line) (p : LineDone (heading_from view_heading) line text l) (numbers : List ℕ) (e : numbers ≡ view_numbers c es) where
+    pub views-refused : (r : Refusal) → ListsRead false (length es) numbers l text (Err r)
+        → (pasts : List (List ℕ)) → lines_at (views_from c (length es) (view_numbers c es) pasts) line text ≡ refused r
     unfolding views_from
     views-refused r d pasts =
-        p.says (lists_from false count (λ (views : List (List ℕ)). end_from (accepted c pasts views)) numbers [])
+        let d : ListsRead false (length es) (view_numbers c es) l text (Err r) = subst (λ (ns : List ℕ). ListsRead false (length es) ns l text (Err r)) e d in
+        p.says (lists_from false (length es) (λ (views : List (List ℕ)). end_from (accepted c pasts views)) (view_numbers c es) [])
         ∙ d (λ (views : List (List ℕ)). end_from (accepted c pasts views))
 
-    pub views-say : (x : Lists) → (d : ListsDone false count numbers l text x)
-        → (pasts : List (List ℕ)) → lines_at (views_from c count numbers pasts) line text ≡ lines_at (end_from (accepted c pasts d.said)) x.next text
-    unfolding views_from
-    views-say x d pasts =
-        p.says (lists_from false count (λ (views : List (List ℕ)). end_from (accepted c pasts views)) numbers [])
-        ∙ d.says (λ (views : List (List ℕ)). end_from (accepted c pasts views))
+    module _ (x : Lists) (d : ListsDone false (length es) numbers l text x) where
+      views-say : (pasts : List (List ℕ))
+          → lines_at (views_from c (length es) (view_numbers c es) pasts) line text ≡ lines_at (end_from (accepted c pasts d.said)) x.next text
+      unfolding views_from
+      views-say pasts =
+          p.says (lists_from false (length es) (λ (views : List (List ℕ)). end_from (accepted c pasts views)) (view_numbers c es) [])
+          ∙ ap (λ (ns : List ℕ). lines_at (lists_from false (length es) (λ (views : List (List ℕ)). end_from (accepted c pasts views)) ns []) l text) (sym e)
+          ∙ d.says (λ (views : List (List ℕ)). end_from (accepted c pasts views))
+
+      pub views-followed : (r : Refusal) → ((w : Lines) → lines_at (end_from w) x.next text ≡ refused r)
+          → (pasts : List (List ℕ)) → lines_at (views_from c (length es) (view_numbers c es) pasts) line text ≡ refused r
+      views-followed r q pasts = views-say pasts ∙ q (accepted c pasts d.said)
+
+      pub views-done : ((w : Lines) → lines_at (end_from w) x.next text ≡ w) → ViewsDone c es line text x.lists
+      views-done q = record { views = d.said; kept = d.kept; says = λ pasts. views-say pasts ∙ q (accepted c pasts d.said) }
 
 -- the numbers in their array
 pub numbers-in : (x : ViewNumbers) (ns : List ℕ) → x ≡ view_numbers_of ns → take x.count x.numbers ≡ ns
