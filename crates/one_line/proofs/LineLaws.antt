@@ -2,13 +2,16 @@
 use mathlib.Core.Path.{◌≡◌, refl, sym, ap, ap₂, ◌∙◌}
 use mathlib.Core.Bool.{Bool, false, ◌&&◌}
 use mathlib.Core.List.{List, [], ◌∷◌, ◌++◌, append-nil, append_assoc}
-use Prim.Native.Nat.{ℕ, zero, suc, ◌+◌, ◌≤◌, ◌<◌}
+use Prim.Native.Nat.{ℕ, zero, suc, ◌+◌, ◌/◌, ◌%◌, ◌^◌, ◌≤◌, ◌<◌}
+use native.Mathlib.Nat.{add_assoc, pow-suc}
 use native.Mathlib.Numerals.{add-one}
 use native.Mathlib.Omega.{arith}
 use lib.Dec.{eqb, ltb}
+use lib.Count.{ones, ones_in, ones_step}
 use lib.ListN.{length, set, length-append}
+use Rattle.std.proofs.lemmas.Nat.Bits.{bit_at_lowest, bit_at-suc}
 use borrow.Author.Tests.{ltb-true, eq-eqb, ne_eqb}
-use Rattle.layout.proofs.Cases.{by-eq}
+use Rattle.layout.proofs.Cases.{by_bool, by-eq}
 use Rattle.history.specs.Record.{pad}
 use Rattle.history.proofs.PadLaws.{pad-none, pad-set}
 use Rattle.certificate.specs.declared.record.EventList.{EventList}
@@ -17,10 +20,16 @@ use Rattle.criteria.specs.Tests.{up_to, keep_if, keep, one}
 use Rattle.criteria.specs.OneLine.{tally, by_place}
 use Rattle.criteria.proofs.Lists.{and-true, mem-of-count, once-of-count, length-once, keep_append}
 use Rattle.criteria.proofs.OneLine.{count-by_place}
+use Rattle.orders.specs.Rows.{in_row}
 
 -- ---- how many pass
-pub tally-more : (f : ℕ → Bool) (i k d : ℕ) → d ≡ one (f i) → k ≡ tally i f → k + d ≡ tally (i + 1) f
-tally-more f i k d q p = rw (add-one, p, q) refl
+tally-few : (n : ℕ) (f : ℕ → Bool) → tally n f ≤ n
+tally-few zero f = omega arith
+tally-few (suc n) f = let few = tally-few n f in by_bool (f n) (λ t. rw t (omega arith)) (λ t. rw t (omega arith))
+
+tally-first : (n : ℕ) (f : ℕ → Bool) → tally (suc n) f ≡ one (f 0) + tally n (λ i. f (suc i))
+tally-first zero f = omega arith
+tally-first (suc n) f = ap (λ (k : ℕ). k + one (f (suc n))) (tally-first n f) ∙ add_assoc (one (f 0)) (tally n (λ i. f (suc i))) (one (f (suc n)))
 
 pub tally-same : (n : ℕ) (f g : ℕ → Bool) → ((i : ℕ) → i < n → f i ≡ g i) → tally n f ≡ tally n g
 tally-same zero f g h = refl
@@ -32,6 +41,31 @@ tally-beyond zero n f l h = let q : n ≡ 0 = omega arith in rw q refl
 tally-beyond (suc m) n f l h =
     by-eq n (suc m) (λ q. rw q refl)
     (λ q. rw (h m (omega (arith, q))) (let r : tally m f + 0 ≡ tally m f = omega arith in r ∙ tally-beyond m n f (omega (arith, q)) h))
+
+-- the ones of a number are the events of its row
+lowest : (m : ℕ) → one (in_row m 0) ≡ m % 2
+unfolding in_row
+lowest m = ap (λ (d : ℕ). one (eqb d 1)) (bit_at_lowest m) ∙ go (m % 2) (omega arith)
+  where
+    go : (d : ℕ) → d < 2 → one (eqb d 1) ≡ d
+    go zero h = refl
+    go (suc zero) h = refl
+    go (suc (suc d)) h = absurd (omega arith)
+
+above : (m i : ℕ) → in_row m (suc i) ≡ in_row (m / 2) i
+unfolding in_row
+above m i = ap (λ (d : ℕ). eqb d 1) (bit_at-suc m i)
+
+pub ones-tally : (k m : ℕ) → m < 2 ^ k → ones m ≡ tally k (in_row m)
+unfolding ones ones_in
+ones-tally zero m h = let z : m ≡ 0 = omega (arith, h) in rw z refl
+ones-tally (suc k) m h =
+    ones_step m
+    ∙ ap₂ (λ (i j : ℕ). i + j) (sym (lowest m)) (ones-tally k (m / 2) (omega (arith, h, pow-suc 2 k)) ∙ tally-same k (in_row (m / 2)) (λ i. in_row m (suc i)) (λ i l. sym (above m i)))
+    ∙ sym (tally-first k (in_row m))
+
+pub few-events : (row : ℕ) → tally 64 (in_row row) ≤ 64
+few-events row = tally-few 64 (in_row row)
 
 -- ---- the line
 module _ (n : ℕ) (at : ℕ → ℕ) where
@@ -67,41 +101,37 @@ module _ (n : ℕ) (at : ℕ → ℕ) where
   pub line-few : (m e : ℕ) → e ≤ n → length (line_to m e) ≤ n
   line-few m e l = let g = grows m e n l in let f = few-in-line (suc m) in omega (arith, g, f)
 
-  module _ (few : n ≤ 64) (m e count : ℕ) (events : List ℕ) (k : count ≡ length (line_to m e)) (l : events ≡ pad 64 0 (line_to m e)) where
-    -- event e is at m
-    module _ (h : e < n) (q : at e ≡ m) where
-      put : line_to m (suc e) ≡ line_to m e ++ (e ∷ [])
-      put = line-more m e ∙ ap (λ (b : Bool). line_to m e ++ keep_if b e []) (eq-eqb (at e) m q)
+  -- event e, one of those that are left, is at m: it is put behind the line
+  module _ (few : n ≤ 64) (m e : ℕ) (line : EventList) (k : line ≡ event_list_of (line_to m e)) (h : e < n) (q : at e ≡ m) where
+    put : line_to m (suc e) ≡ line_to m e ++ (e ∷ [])
+    put = line-more m e ∙ ap (λ (b : Bool). line_to m e ++ keep_if b e []) (eq-eqb (at e) m q)
 
-      longer : length (line_to m (suc e)) ≡ length (line_to m e) + 1
-      longer = ap length put ∙ length-append (line_to m e) (e ∷ [])
+    longer : length (line_to m (suc e)) ≡ length (line_to m e) + 1
+    longer = ap length put ∙ length-append (line_to m e) (e ∷ [])
 
-      pub put-room : count < 64
-      put-room = let f = line-few m (suc e) h in omega (arith, f, k, longer, few)
-
-      pub put_count : count + 1 ≡ length (line_to m (e + 1))
-      put_count = rw (add-one e) (omega (arith, k, longer))
-
-      pub put-events : set events count e ≡ pad 64 0 (line_to m (e + 1))
-      put-events =
-          rw (add-one e) (ap (λ (x : List ℕ). set x count e) l ∙ pad-set 64 0 (line_to m e) count e k put-room ∙ ap (pad 64 0) (sym put))
-
-    -- event e is at another place
-    pub same_line : (at e ≡ m → ⊥) → line_to m e ≡ line_to m (e + 1)
-    same_line q =
-        rw (add-one e)
-        (sym (line-more m e ∙ ap (λ (b : Bool). line_to m e ++ keep_if b e []) (ne_eqb (at e) m q) ∙ append-nil (line_to m e)))
-
-    -- all events are tested
-    pub whole-place : e ≡ n → record { count = count; events = events } ≡ event_list_of (by_place n at (suc m))
+    counts : line.count ≡ length (line_to m e)
     unfolding event_list_of
-    whole-place q = ap₂ (λ (x : ℕ) (y : List ℕ). record { count = x; events = y }) (rw q at k) (rw q at l)
+    counts = ap (λ (x : EventList). x.count) k
+
+    pub put-room : line.count < 64
+    put-room = let f = line-few m (suc e) h in omega (arith, f, counts, longer, few)
+
+    pub put_line : record { count = line.count + 1; events = set line.events line.count e } ≡ event_list_of (line_to m (e + 1))
+    unfolding event_list_of
+    put_line =
+        ap₂ (λ (x : ℕ) (y : List ℕ). record { count = x; events = y })
+        (rw (add-one e) (omega (arith, counts, longer)))
+        (rw (add-one e) (ap (λ (x : EventList). set x.events line.count e) k ∙ pad-set 64 0 (line_to m e) line.count e counts put-room ∙ ap (pad 64 0) (sym put)))
+
+  -- event e is at another place
+  pub same_line : (m e : ℕ) → (at e ≡ m → ⊥) → event_list_of (line_to m e) ≡ event_list_of (line_to m (e + 1))
+  same_line m e q =
+      ap event_list_of (rw (add-one e)
+      (sym (line-more m e ∙ ap (λ (b : Bool). line_to m e ++ keep_if b e []) (ne_eqb (at e) m q) ∙ append-nil (line_to m e))))
 
   -- none is tested yet
-  pub place-begins : (m : ℕ) (l : EventList) → l ≡ event_list_of (by_place n at m)
-      → (l.count ≡ length (line_to m 0)) × (l.events ≡ pad 64 0 (line_to m 0))
-  unfolding event_list_of
-  place-begins m l q = rw (append-nil (by_place n at m)) (ap (λ (x : EventList). x.count) q, ap (λ (x : EventList). x.events) q)
+  pub place-begins : (m : ℕ) → event_list_of (by_place n at m) ≡ event_list_of (line_to m 0)
+  place-begins m = ap event_list_of (sym (append-nil (by_place n at m)))
 
   -- there is room for it
   pub line-room : (m : ℕ) (l : EventList) → l ≡ event_list_of (by_place n at m) → n ≤ 64 → l.count ≤ 64

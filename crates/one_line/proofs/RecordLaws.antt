@@ -6,19 +6,19 @@ use mathlib.Core.Option.{none, some}
 use Prim.Native.Nat.{ℕ, zero, suc, ◌+◌, ◌≤◌, ◌<◌}
 use native.Mathlib.Omega.{arith}
 use lib.Dec.{eqb}
-use lib.ListN.{get_or, replicate}
-use lib.Seq.{get_or-take}
+use lib.ListN.{length, get_or, take, replicate}
+use lib.Seq.{get_or-take, length-take-le}
 use borrow.Author.Tests.{lt-ltb, le-ltb}
 use Rattle.layout.proofs.Cases.{and-false}
 use Rattle.history.specs.declared.record.History as WrittenHistory
 use Rattle.history.specs.declared.record.Event as WrittenEvent
-use Rattle.history.specs.Record.{no_event}
+use Rattle.history.specs.Record.{no_event, events_in}
 use Rattle.history.specs.Readable.{within}
 use Rattle.history.proofs.PadLaws.{pad-none}
 use Rattle.certificate.specs.declared.record.Criterion.TheVariants.{Sequential}
 use Rattle.certificate.specs.declared.record.EventList.{EventList}
 use Rattle.certificate.specs.declared.record.Certificate as WrittenCertificate
-use Rattle.certificate.specs.Record.{no_list, event_list_of, entries_in, rows_of}
+use Rattle.certificate.specs.Record.{no_list, event_list_of, entries_in}
 use Rattle.certificate.specs.Criteria.{has_pasts}
 use Rattle.criteria.specs.Tests.{any, table, one}
 use Rattle.criteria.specs.History.{Event, event}
@@ -29,7 +29,8 @@ use Rattle.criteria.proofs.RecordLaws.{size_is, event-is}
 use Rattle.orders.specs.Rows.{in_row, in_rows}
 use Rattle.orders.proofs.BitLaws.{any_same}
 use Rattle.faults.proofs.CheckLaws.{size_of, few-of}
-use Rattle.weakened.specs.Steps.{lengths_of}
+use Rattle.weakened.specs.declared.views.ViewRows.{ViewRows}
+use Rattle.weakened.specs.Steps.{view_rows_of}
 use Rattle.weakened.proofs.CausalLaws.{keep-below}
 use Rattle.weakened.proofs.SequentialLaws.{list-entries}
 use Rattle.weakened_records.specs.Steps.{IsRecordOf}
@@ -45,19 +46,24 @@ same-places n f g h (suc m) =
     ap₂ (λ (a b : List ℕ). a ++ b) (same-places n f g h m)
     (keep-below (λ e. eqb (f e) m) (λ e. eqb (g e) m) n (λ e l. ap (λ (k : ℕ). eqb k m) (h e l)))
 
-module _ (h : WrittenHistory.History) (w : within h ≡ true) where
-  op-is : (e : ℕ) → e < h.count → (get_or h.events e no_event).op ≡ (event (history_of h) e).op
-  unfolding event_of
-  op-is e l =
-      sym (ap (λ (x : Event). x.op) (event-is h e (omega (arith, l, size_is h, size_of h w)))
-      ∙ ap (λ (x : WrittenEvent.Event). x.op) (get_or-take h.count h.events e no_event l))
+-- the first n places of an array
+pub first-places : (places : List ℕ) (n : ℕ) → n ≤ length places
+    → by_place (length (take n places)) (λ e. get_or (take n places) e 0) (length (take n places) + length (take n places) + 2) ≡ by_place n (λ e. get_or places e 0) (n + n + 2)
+first-places places n h =
+    ap (λ (m : ℕ). by_place m (λ e. get_or (take n places) e 0) (m + m + 2)) (length-take-le n places h)
+    ∙ same-places n (λ e. get_or (take n places) e 0) (λ e. get_or places e 0) (λ e l. get_or-take n places e 0 l) (n + n + 2)
 
-  module _ (rows : List ℕ) (updates : ℕ) (u : RowOf updates h.count (update_in h.events)) where
+module _ (h : WrittenHistory.History) (w : within h ≡ true) where
+  op-is : (e : ℕ) → e < h.count → (get_or (events_in h) e no_event).op ≡ (event (history_of h) e).op
+  unfolding event_of
+  op-is e l = sym (ap (λ (x : Event). x.op) (event-is h e (omega (arith, l, size_is h, size_of h w))))
+
+  module _ (rows : List ℕ) (updates : ℕ) (u : RowOf updates h.count (update_in (events_in h))) where
     update-is : (e : ℕ) → e < h.count → in_row updates e ≡ update (history_of h) e
-    update-is e l = u e ∙ ap (λ (b : Bool). b && update_in h.events e) (lt-ltb e h.count l) ∙ ap is_update (op-is e l)
+    update-is e l = u e ∙ ap (λ (b : Bool). b && update_in (events_in h) e) (lt-ltb e h.count l) ∙ ap is_update (op-is e l)
 
     no-update : (e : ℕ) → h.count ≤ e → in_row updates e ≡ false
-    no-update e l = u e ∙ ap (λ (b : Bool). b && update_in h.events e) (le-ltb e h.count l)
+    no-update e l = u e ∙ ap (λ (b : Bool). b && update_in (events_in h) e) (le-ltb e h.count l)
 
     -- whether two updates are unordered
     pub crosses-is : any h.count (crosses_at rows updates h.count) ≡ crosses (history_of h) (in_rows rows)
@@ -103,10 +109,10 @@ module _ (h : WrittenHistory.History) (c : WrittenCertificate.Certificate) (view
       ∙ ap (λ (l : List ℕ). some record { criterion = Sequential; pasts = []; views = l ∷ [] }) (sym q)
 
   pub record_is : (l : EventList) → l ≡ event_list_of (one_line (history_of h) (order (history_of h) (certificate_of h c views)))
-      → (pasts : List EventList) → pasts ≡ replicate 64 no_list → (lengths : List ℕ) (made : List (List ℕ))
-      → made ≡ rows_of (table 1 (λ _. entries_in l)) → lengths ≡ lengths_of (table 1 (λ _. entries_in l))
-      → IsRecordOf (in_one_line (history_of h) (certificate_of h c views)) (record { criterion = Sequential; pasts = pasts; lengths = lengths }) made
-  record_is l q pasts p lengths made a b =
-      is-record _ Sequential [] (entries_in l ∷ []) _ made
+      → (pasts : List EventList) → pasts ≡ replicate 64 no_list → (made : ViewRows) → made ≡ view_rows_of (table 1 (λ _. entries_in l))
+      → IsRecordOf (in_one_line (history_of h) (certificate_of h c views)) (record { criterion = Sequential; pasts = pasts; lengths = made.lengths }) made.rows
+  record_is l q pasts p made a =
+      is-record _ Sequential [] (entries_in l ∷ []) _ made.rows
       (lists-are (entries_in l) (list-entries l _ q))
-      (record-parts Sequential pasts lengths [] (entries_in l ∷ []) (p ∙ sym (pad-none 64 no_list)) b) a
+      (record-parts Sequential pasts made.lengths [] (entries_in l ∷ []) (p ∙ sym (pad-none 64 no_list)) (ap (λ (x : ViewRows). x.lengths) a))
+      (ap (λ (x : ViewRows). x.rows) a)

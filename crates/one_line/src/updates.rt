@@ -29,8 +29,9 @@ fn unordered_with(order: &Order, a: usize) -> bool
     ensures { result ≡ any order.now.size (unordered_to order.now.pasts order.now.updates a) }
 {
     (0..order.size).any(|b| {
-        let ordered = in_row(order.pasts[b], a) || in_row(order.pasts[a], b);
-        in_row(order.updates, b) && a != b && !ordered
+        in_row(order.updates, b)
+            && a != b
+            && !(in_row(order.pasts[b], a) || in_row(order.pasts[a], b))
     })
 }
 

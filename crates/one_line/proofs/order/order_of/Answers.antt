@@ -1,0 +1,20 @@
+-- `order_of` meets its contract: a history within its limits has at most 64 events. Assumes nothing.
+use Rattle.std.proofs.Common.{◌≤◌, length, take, arith, length-take}
+use Rattle.faults.proofs.CheckLaws.{few-of}
+use Rattle.orders.proofs.ListedLaws.{short-first}
+use Rattle.one_line.proofs.order.order_of.Goals as goal
+
+pub shared_ref_as_front-past_rows : goal.shared_ref_as_front-past_rows
+shared_ref_as_front-past_rows c = few-of c.args.h.now c.requires.history
+
+pub past_rows-requires : goal.past_rows-requires
+past_rows-requires c = short-first c.args.c.now.pasts c.args.h.now.count (few-of c.args.h.now c.requires.history) c.requires.pasts
+
+pub shared_ref_as_front-updates_of : goal.shared_ref_as_front-updates_of
+shared_ref_as_front-updates_of c = few-of c.args.h.now c.requires.history
+
+pub updates_of-requires : goal.updates_of-requires
+updates_of-requires c =
+    let few = few-of c.args.h.now c.requires.history in
+    let n = length-take c.args.h.now.count c.args.h.now.events in
+    omega arith
