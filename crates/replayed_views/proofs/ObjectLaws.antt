@@ -2,18 +2,18 @@
 use Prim.Native.Nat.{ℕ, ◌+◌, ◌≤◌, ◌<◌}
 use native.Mathlib.Numerals.{add-one}
 use native.Mathlib.Omega.{arith}
-use mathlib.Core.Path.{◌≡◌, refl, ap, sym, ◌∙◌}
-use mathlib.Core.Bool.{Bool, true, false, not, ◌&&◌, ◌||◌, or-false, false≢true}
+use mathlib.Core.Path.{◌≡◌, refl, ap, sym, subst, ◌∙◌}
+use mathlib.Core.Bool.{Bool, true, false, not, ◌&&◌, ◌||◌, or-false}
 use mathlib.Core.List.{List, [], ◌∷◌}
 use mathlib.Core.Option.{Option, none, some}
-use lib.ListN.{length, get_or, take, set, length-set}
-use lib.Seq.{slice, slice-cons, slice_empty, get_or-set_same, get_or-set_other, get_or-take, length-take-le}
+use lib.ListN.{length, get_or, drop, set, length-set}
+use lib.Seq.{get_or-set_same, get_or-set_other}
+use Rattle.std.proofs.lemmas.List.{drop_more, drop_all}
 use lib.Dec.{eqb, ltb}
 use borrow.Author.Tests.{eqb-true, eqb-false, eq-eqb, ne_eqb, lt-ltb, le-ltb}
-use Rattle.layout.proofs.Cases.{by-lt, by-eq}
+use Rattle.layout.proofs.Cases.{by-lt, by-eq, and-false}
 use Rattle.history.specs.declared.record.Object.{Object}
-use Rattle.history.specs.Record.{no_object}
-use Rattle.history.specs.Kinds.{has_op}
+use Rattle.history.specs.Record.{no_object, recorded_in}
 use Rattle.criteria.specs.Tests.{or, found_if, keep_if, keep, mem}
 use Rattle.criteria.specs.Object.{after, gives}
 use Rattle.criteria.specs.History.{Event, History, event, object, only}
@@ -21,13 +21,14 @@ use Rattle.criteria.specs.Replay.{Contents}
 use Rattle.criteria.specs.Check.{fits, right, first_wrong}
 use Rattle.criteria.proofs.Lists.{by-test, mem-get_or}
 use Rattle.objects.specs.declared.state.State.{State}
-use Rattle.objects.specs.State.{value_in, contents_of, Changed}
+use Rattle.objects.specs.declared.state.Given.{Given}
+use Rattle.objects.specs.State.{value_in, contents_of, given_of, Changed, Answered}
 use Rattle.orders.specs.Rows.{in_row}
 use Rattle.replays.specs.declared.replay.Light.{Light}
-use Rattle.replays.specs.Replay.{recorded_as, no_light, light_history, Stands, Silent}
-use Rattle.replays.specs.Steps.{Judged}
-use Rattle.replayed_views.specs.Steps.{one_wrong}
-use Rattle.replays.proofs.ReplayLaws.{few-read, suits, event-at}
+use Rattle.replays.specs.declared.light.LightHistory.{LightHistory}
+use Rattle.replays.specs.Replay.{no_light, unused_answer, history_in, Stands}
+use Rattle.replayed_views.specs.Steps.{one_wrong, ReadyKept}
+use Rattle.replays.proofs.ReplayLaws.{stands_on, event-at, has-its-op, given-is, contents-after}
 
 -- an event of the object o
 abbrev pub on_object : History → ℕ → ℕ → Bool
@@ -64,75 +65,116 @@ module _ (h : History) (e o : ℕ) (its : (event h e).object ≡ o) where
       ∙ ap (λ (d : List ℕ). one_wrong h e o d (keep (on_object h o) fs)) (get_or-set_other s x o c [] (λ q. eqb-false x o t (sym q)))
       ∙ ap (λ (b : Bool). one_wrong h e o (get_or s o []) (keep_if b f (keep (on_object h o) fs))) (sym t))
 
--- an entry of the first n of a view is one of them
-pub entry_in : (view : List ℕ) (n i : ℕ) → i < n → n ≤ length view → mem (get_or view i 0) (take n view) ≡ true
-entry_in view n i h fits =
-    ap (λ (x : ℕ). mem x (take n view)) (sym (get_or-take n view i 0 h)) ∙ mem-get_or (take n view) i (omega (arith, h, length-take-le n view fits))
+-- ---- the replay of one object's events
+module _ (h : LightHistory) (e : ℕ) where
+  abbrev its-place : ℕ
+  its-place = (get_or h.events e no_light).object
 
--- ---- one turn
-module _ (os : List Object) (size : ℕ) (ls : List Light) (vs : List ℕ) (answers : List (List ℕ)) (cs : List ℕ) (e o : ℕ) where
+  abbrev its-object : Object
+  its-object = get_or h.objects its-place no_object
+
   -- the first wrong answer of what is left of a part
-  unfoldable pub one_in : State → List ℕ → Option ℕ
-  one_in s part = one_wrong (light_history os size ls vs answers cs) e o (contents_of vs s) part
+  unfoldable pub one_from : State → List ℕ → Option ℕ
+  one_from s part = one_wrong (history_in h) e its-place (contents_of h.values s) part
 
-  -- what is said of it is said of the definition
-  pub whole_part : (s : State) (part : List ℕ) {r : Option ℕ} → one_in s part ≡ r
-      → one_wrong (light_history os size ls vs answers cs) e o (contents_of vs s) part ≡ r
-  unfolding one_in
-  whole_part s part q = q
+-- Nothing is wrong in the first i entries of the part: the object's state stands, and what is left says what the whole part says.
+pub record PartPassed (h : LightHistory) (start : State) (part : List ℕ) (e i : ℕ) (s : State) : Type 0 where
+  pub stand : Stands (get_or h.objects (get_or h.events e no_light).object no_object) i s
+  pub same : one_from h e start part ≡ one_from h e s (drop i part)
 
-  -- at a place of a part: the loop goes on, or ends here
-  module _ (s : State) (part : List ℕ) (n i : ℕ) (i_lt : i < n) (le : n ≤ length part) (lt : get_or part i 0 < size) (w : Bool) (m : ℕ)
-      (st : Stands (get_or os o no_object) m s)
-      (has : has_op (get_or os o no_object).kind (get_or ls (get_or part i 0) no_light).op ≡ true)
-      (judged : Judged false (eqb (get_or part i 0) e) vs (recorded_as (get_or cs (get_or part i 0) 0) (get_or answers (get_or part i 0) [])) s (get_or ls (get_or part i 0) no_light).op (get_or part i 0) w) where
-    test_at : only e (get_or part i 0) && not (fits (event (light_history os size ls vs answers cs) (get_or part i 0)).answer (gives (object (light_history os size ls vs answers cs) o) (event (light_history os size ls vs answers cs) (get_or part i 0)).op (event (light_history os size ls vs answers cs) (get_or part i 0)).value (contents_of vs s))) ≡ w
-    unfolding Judged light_history
-    test_at =
-        let x = get_or part i 0 in
-        let ob = get_or os o no_object in
-        ap (λ (y : Event). only e x && not (fits y.answer (gives ob y.op y.value (contents_of vs s)))) (event-at os size ls vs answers cs x lt)
-        ∙ sym (judged ob (suits ob m s st (get_or ls x no_light).op has) (few-read ob m s st (get_or ls x no_light).op has vs) (λ t. absurd (false≢true t)))
+module _ {h : LightHistory} {start : State} {part : List ℕ} {e : ℕ} (r : ReadyKept h start part (λ f. mem f part) e) where
+  pub none-passed : PartPassed h start part e 0 start
+  none-passed = record { stand = r.start; same = refl }
 
-    pub part-stops : w ≡ true → one_in s (slice i n part) ≡ some (get_or part i 0)
-    unfolding one_in
-    part-stops q = rw (slice-cons i n part 0 i_lt le, test_at, q)
+  pub all-passed : {s : State} {i : ℕ} → length part ≤ i → PartPassed h start part e i s
+      → none ≡ one_wrong (history_in h) e (get_or h.events e no_light).object (contents_of h.values start) part
+  unfolding one_from
+  all-passed {s} {i} l p = sym (p.same ∙ ap (one_from h e s) (drop_all i part l))
 
-    after-at : (t : State) → Changed s (get_or ls (get_or part i 0) no_light).op (get_or part i 0) t
-        → after (object (light_history os size ls vs answers cs) o) (event (light_history os size ls vs answers cs) (get_or part i 0)).op (event (light_history os size ls vs answers cs) (get_or part i 0)).value (contents_of vs s) ≡ contents_of vs t
-    unfolding light_history
+  -- entry i of the part: event x
+  module _ {i : ℕ} {s : State} (p : PartPassed h start part e i s) (lt : i < length part) {x : ℕ} (is : x ≡ get_or part i 0) where
+    is-event : x < h.size
+    is-event = rw is (r.event i lt)
+
+    abbrev light : Light
+    light = get_or h.events x no_light
+
+    -- it is of e's object
+    its : (get_or h.events e no_light).object ≡ light.object
+    its = sym (r.same x is-event (rw is (mem-get_or part i lt)))
+
+    left : drop i part ≡ x ∷ drop (i + 1) part
+    left = drop_more part i 0 lt ∙ ap (λ (k : ℕ). k ∷ drop (i + 1) part) (sym is)
+
+    -- what the check asks of the event
+    abbrev wrong-here : Bool
+    wrong-here =
+        only e x && not (fits (event (history_in h) x).answer (gives (object (history_in h) (its-place h e)) (event (history_in h) x).op (event (history_in h) x).value (contents_of h.values s)))
+
+    asked : {b : Bool} (g : Given) → Answered s light.op x g → b ≡ fits (recorded_in (get_or h.answers x unused_answer)) (given_of h.values g)
+        → wrong-here ≡ only e x && not b
+    unfolding history_in
+    asked {b} g a q =
+        ap (λ (y : Event). only e x && not (fits y.answer (gives (its-object h e) y.op y.value (contents_of h.values s)))) (event-at h x is-event)
+        ∙ ap (λ (l : List ℕ). only e x && not (fits (recorded_in (get_or h.answers x unused_answer)) l)) (sym (given-is h r.parts is-event its p.stand g a))
+        ∙ ap (λ (t : Bool). only e x && not t) (sym q)
+
+    stops : wrong-here ≡ true → some x ≡ one_wrong (history_in h) e (get_or h.events e no_light).object (contents_of h.values start) part
+    unfolding one_from
+    stops q = sym (p.same ∙ ap (one_from h e s) left ∙ rw q)
+
+    after-at : (t : State) → Changed s light.op x t
+        → after (object (history_in h) (its-place h e)) (event (history_in h) x).op (event (history_in h) x).value (contents_of h.values s) ≡ contents_of h.values t
+    unfolding history_in
     after-at t c =
-        let ob = get_or os o no_object in
-        ap (λ (y : Event). after ob y.op y.value (contents_of vs s)) (event-at os size ls vs answers cs (get_or part i 0) lt) ∙ sym (c.contents vs ob (suits ob m s st (get_or ls (get_or part i 0) no_light).op has))
+        ap (λ (y : Event). after (its-object h e) y.op y.value (contents_of h.values s)) (event-at h x is-event)
+        ∙ contents-after h r.parts is-event its p.stand t c
 
-    pub part-on : w ≡ false → (t : State) → Changed s (get_or ls (get_or part i 0) no_light).op (get_or part i 0) t → one_in s (slice i n part) ≡ one_in t (slice (i + 1) n part)
-    unfolding one_in
-    part-on q t c = rw (add-one, slice-cons i n part 0 i_lt le, test_at, q, after-at t c)
+    goes-on : wrong-here ≡ false → (t : State) → Changed s light.op x t → PartPassed h start part e (i + 1) t
+    unfolding one_from
+    goes-on q t c = record {
+      stand = stands_on (its-object h e) i s p.stand light.op (has-its-op h r.parts is-event its) x t c;
+      same = p.same ∙ ap (one_from h e s) left ∙ rw (q, after-at t c);
+    }
 
-  pub part-ends : (s : State) (part : List ℕ) (n i : ℕ) → i ≡ n → one_in s (slice i n part) ≡ none
-  unfolding one_in
-  part-ends s part n i q = rw (q, slice_empty n part)
+    -- the way out, and the two ways on; the code names the event by the entry, and its places by x
+    abbrev number : ℕ
+    number = get_or part i 0
 
-  -- a silent event is never wrong
-  module _ (below : e < size) (silent-fits : Silent (get_or os o no_object) (get_or ls e no_light).op (get_or cs e 0)) where
-    its-right : (c : List ℕ) → fits (event (light_history os size ls vs answers cs) e).answer (gives (object (light_history os size ls vs answers cs) o) (event (light_history os size ls vs answers cs) e).op (event (light_history os size ls vs answers cs) e).value c) ≡ true
-    unfolding light_history
-    its-right c =
-        ap (λ (y : Event). fits y.answer (gives (get_or os o no_object) y.op y.value c)) (event-at os size ls vs answers cs e below)
-        ∙ silent-fits (value_in vs e) (get_or answers e []) c
+    changed-as : {t : State} → Changed s light.op number t → Changed s light.op x t
+    changed-as {t} c = subst (λ (k : ℕ). Changed s light.op k t) (sym is) c
 
-    silent-from : (c part : List ℕ) → one_wrong (light_history os size ls vs answers cs) e o c part ≡ none
-    silent-from c [] = refl
-    silent-from c (f ∷ fs) =
-        let h = light_history os size ls vs answers cs in
-        let rest = silent-from (after (object h o) (event h f).op (event h f).value c) fs in
-        by-test (eqb f e)
-        (λ t. rw (t, ap (λ (x : ℕ). fits (event h x).answer (gives (object h o) (event h x).op (event h x).value c)) (eqb-true f e t) ∙ its-right c) rest)
-        (λ t. rw t rest)
+    answered-as : {g : Given} → Answered s light.op number g → Answered s light.op x g
+    answered-as {g} a = subst (λ (k : ℕ). Answered s light.op k g) (sym is) a
 
-    pub part-silent : (s : State) (part : List ℕ) → one_in s part ≡ none
-    unfolding one_in
-    part-silent s part = silent-from (contents_of vs s) part
+    pub its-wrong : (g : Given) → number ≡ e → Answered s light.op number g → false ≡ fits (recorded_in (get_or h.answers x unused_answer)) (given_of h.values g)
+        → some e ≡ one_wrong (history_in h) e (get_or h.events e no_light).object (contents_of h.values start) part
+    its-wrong g here a f =
+        ap some (sym (is ∙ here)) ∙ stops (asked g (answered-as a) f ∙ ap (λ (b : Bool). b && true) (eq-eqb x e (is ∙ here)))
+
+    pub its-right : (g : Given) (t : State) → number ≡ e → Answered s light.op number g → true ≡ fits (recorded_in (get_or h.answers x unused_answer)) (given_of h.values g)
+        → Changed s light.op number t → PartPassed h start part e (i + 1) t
+    its-right g t here a f c = goes-on (asked g (answered-as a) f ∙ and-false (only e x)) t (changed-as c)
+
+    pub passes : (t : State) → (number ≡ e → ⊥) → Changed s light.op number t → PartPassed h start part e (i + 1) t
+    passes t other c = goes-on (rw (ne_eqb x e (λ q. other (sym is ∙ q)))) t (changed-as c)
+
+-- a silent event is never wrong
+module _ {h : LightHistory} {start : State} {view : List ℕ} {kept : ℕ → Bool} {e : ℕ} (r : ReadyKept h start view kept e) (t : (get_or h.events e no_light).silent ≡ true) where
+  its-answer : (c : List ℕ)
+      → fits (event (history_in h) e).answer (gives (object (history_in h) (its-place h e)) (event (history_in h) e).op (event (history_in h) e).value c) ≡ true
+  unfolding history_in
+  its-answer c =
+      ap (λ (y : Event). fits y.answer (gives (its-object h e) y.op y.value c)) (event-at h e r.own)
+      ∙ r.parts.silent e r.own t (value_in h.values e) c
+
+  pub silent-part : (c part : List ℕ) → none ≡ one_wrong (history_in h) e (get_or h.events e no_light).object c part
+  silent-part c [] = refl
+  silent-part c (f ∷ fs) =
+      let rest = silent-part (after (object (history_in h) (its-place h e)) (event (history_in h) f).op (event (history_in h) f).value c) fs in
+      by-test (eqb f e)
+      (λ q. rw (q, ap (λ (x : ℕ). fits (event (history_in h) x).answer (gives (object (history_in h) (its-place h e)) (event (history_in h) x).op (event (history_in h) x).value c)) (eqb-true f e q) ∙ its-answer c) rest)
+      (λ q. rw q rest)
 
 -- ---- the rows of the objects
 module _ (of : ℕ → ℕ) (f e o : ℕ) where

@@ -1,5 +1,5 @@
 // The one event whose answer decides a view, where there is one.
-ghost use Rattle.std.specs.Prelude.{◌≡◌, true, ℕ, ◌≤◌, ◌<◌, get_or, length, Unit, MatchOption, None};
+ghost use Rattle.std.specs.Prelude.{◌≡◌, true, ℕ, ◌≤◌, ◌<◌, get_or, length, MatchOption, None};
 ghost use Rattle.criteria.specs.Tests.{mem};
 ghost use Rattle.replays.specs.Replay.{no_light};
 ghost use Rattle.replayed_views.specs.Steps.{shows_of, GoesOn, Decides};
@@ -26,7 +26,10 @@ fn goes_on(events: &[Light; 64], a: &[u8], b: &[u8], p: ProcessNo, e: EventNo) -
     requires { (e.0 < 64) × ((i : ℕ) → i < length b.now → get_or b.now i 0 < 64) }
     ensures { result ≡ true → GoesOn events.now a.now b.now p.0 e.0 }
 {
-    events[usize::from(e.0)].process == p && b.starts_with(a) && alone(events, &b[a.len()..], p, e)
+    if events[usize::from(e.0)].process != p {
+        return false;
+    }
+    b.starts_with(a) && alone(events, &b[a.len()..], p, e)
 }
 
 // Whether the answers of process p are the visible ones.
@@ -36,33 +39,41 @@ fn shows(who: Visible, p: ProcessNo) -> bool
     matches!(who, Visible::Of(q) if q == p)
 }
 
-// The event that alone decides view k, if the replay of the earlier view gave the answers that were visible there.
+// What was replayed before a view, and found right: a view, and whose answers were visible in it.
+#[derive(Clone, Copy)]
+pub(crate) struct Before<'a> {
+    pub view: &'a [u8],
+    pub seen: Visible,
+}
+
+// The event that alone decides view k, if the view before it is right.
 pub(crate) fn deciding(
     history: &LightHistory,
     seen: Visible,
-    before: Visible,
-    earlier: &[u8],
+    before: Before,
     view: &[u8],
     k: usize,
 ) -> Option<EventNo>
     requires { (history.now.size ≤ 64) × (k < 64) × ((i : ℕ) → i < length view.now → get_or view.now i 0 < history.now.size) }
-    ensures { MatchOption result Unit (λ e. (e.0 < history.now.size) × Decides history.now before earlier.now seen view.now e.0) }
+    ensures { MatchOption result Unit (λ e. (e.0 < history.now.size) × Decides history.now before.entry.seen before.entry.view.now seen view.now e.0) }
 {
     match seen {
         Visible::All => None,
         Visible::Of(p) => {
             let e = EventNo(k as u8);
-            let decides = k < history.size
-                && shows(before, p)
-                && goes_on(&history.events, earlier, view, p, e);
-            if decides { Some(e) } else { None }
+            if k < history.size
+                && shows(before.seen, p)
+                && goes_on(&history.events, before.view, view, p, e)
+            {
+                return Some(e);
+            }
+            None
         }
         Visible::Only(e) => {
             if usize::from(e.0) < history.size {
-                Some(e)
-            } else {
-                None
+                return Some(e);
             }
+            None
         }
     }
 }
@@ -70,7 +81,7 @@ pub(crate) fn deciding(
 // For each of the first m events the latest earlier event of its process.
 pub(crate) fn earlier_views(events: &[Light; 64], m: usize) -> [Option<u8>; 64]
     requires { m ≤ 64 }
-    ensures { (k : ℕ) → k < 64 → MatchOption (get_or result k None) Unit (λ d. d < k) }
+    ensures { (k : ℕ) → MatchOption (get_or result k None) Unit (λ d. d < k) }
 {
     let mut last = [None; 256];
     let mut earlier = [None; 64];

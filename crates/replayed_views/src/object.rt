@@ -1,10 +1,10 @@
 // The replay of one object's events where one answer is visible.
-ghost use Rattle.std.specs.Prelude.{◌≡◌, ℕ, ◌<◌, get_or, eqb};
+ghost use Rattle.std.specs.Prelude.{◌≡◌, get_or};
 ghost use Rattle.criteria.specs.Tests.{keep, mem};
 ghost use Rattle.objects.specs.State.{contents_of};
 ghost use Rattle.orders.specs.Rows.{in_row};
 ghost use Rattle.replays.specs.Replay.{no_light, history_in, found_event};
-ghost use Rattle.replayed_views.specs.Steps.{one_wrong, ReadyKept};
+ghost use Rattle.replayed_views.specs.Steps.{one_wrong, ObjectRows, ReadyKept};
 
 use history::record::EventNo;
 use objects::state::{EventOp, State};
@@ -15,7 +15,7 @@ use replays::replay::{Light, fits_given};
 
 // The row of each object's events.
 pub(crate) fn object_rows(events: &[Light; 64]) -> [u64; 16]
-    ensures { (o : ℕ) → o < 16 → (f : ℕ) → f < 64 → in_row (get_or result o 0) f ≡ eqb (get_or events.now f no_light).object o }
+    ensures { ObjectRows events.now result }
 {
     let mut rows = [0; 16];
     for (e, light) in events.iter().enumerate() {

@@ -1,20 +1,75 @@
 // 16: the lowest view whose replay does not give a visible answer, and the first such event in it.
-ghost use Rattle.std.specs.Prelude.{◌≡◌, ℕ, ◌≤◌, ◌<◌, [], take, get_or};
+ghost use Rattle.std.specs.Prelude.{◌≡◌, ℕ, ◌≤◌, ◌<◌, [], take, get_or, MatchOption};
+ghost use Rattle.std.proofs.Math.Option.{none};
 ghost use Rattle.layout.specs.Options.{option_in};
 ghost use Rattle.criteria.specs.Tests.{lowest};
-ghost use Rattle.replays.specs.Replay.{history_in, contents_in, Ready};
+ghost use Rattle.criteria.specs.History.{History};
+ghost use Rattle.criteria.specs.Replay.{Contents};
+ghost use Rattle.criteria.specs.Check.{first_wrong};
+ghost use Rattle.replays.specs.Replay.{history_in, contents_in, is_visible, found_event, Ready};
+ghost use Rattle.replayed_views.specs.Steps.{ObjectRows};
 ghost use Rattle.replayed_views.specs.Search.{wrong_in};
 
+use crate::deciding::{Before, deciding, earlier_views};
+use crate::object::{object_rows, replay_row};
 use history::record::EventNo;
 use objects::state::State;
 use replays::light::LightHistory;
-use replays::replay::Visible;
+use replays::replay::{Visible, replay};
 
 // A view, by its place, and an event.
 #[derive(Clone, Copy)]
 pub struct Place {
     pub view: usize,
     pub event: EventNo,
+}
+
+// What was replayed before view k, if nothing was wrong in the views before it: that of the latest earlier event of its process.
+fn before<'a>(
+    views: &'a [[u8; 64]; 64],
+    lengths: [u8; 64],
+    who: [Visible; 64],
+    earlier: Option<u8>,
+    k: usize,
+) -> Before<'a>
+    requires { (k < 64) × MatchOption earlier Unit (λ d. (d < k) × (get_or lengths d 0 ≤ 64)) }
+    ensures { (h : History) (s : Contents) → ((d : ℕ) → d < k → wrong_in h s who views.now lengths d ≡ none) → first_wrong h (is_visible h result.seen) s result.view.now ≡ none }
+{
+    match earlier {
+        Some(d) => {
+            let d = usize::from(d);
+            let row = &views[d];
+            Before {
+                view: &row[..usize::from(lengths[d])],
+                seen: who[d],
+            }
+        }
+        None => Before {
+            view: &[],
+            seen: who[k],
+        },
+    }
+}
+
+// The first wrong answer of view k, if the one before it is right.
+fn wrong_answer(
+    history: &LightHistory,
+    starts: &[State; 16],
+    rows: &[u64; 16],
+    seen: Visible,
+    known: Before,
+    view: &[u8],
+    k: usize,
+) -> Option<EventNo>
+    requires { (k < 64) × Ready history.now starts.now view.now × ObjectRows history.now.events rows.now }
+    ensures { first_wrong (history_in history.now) (is_visible (history_in history.now) known.entry.seen) (contents_in history.now.values starts.now) known.entry.view.now ≡ none → found_event result ≡ first_wrong (history_in history.now) (is_visible (history_in history.now) seen) (contents_in history.now.values starts.now) view.now }
+{
+    // Where one event's answer decides a view, only the events of its object are replayed.
+    let Some(e) = deciding(history, seen, known, view, k) else {
+        return replay(history, *starts, view, seen);
+    };
+    let o = usize::from(history.events[usize::from(e.0)].object);
+    replay_row(history, starts[o], view, rows[o], e)
 }
 
 // The lowest of the first m views in which the replay does not give a visible answer, and the first such event.
@@ -29,5 +84,15 @@ pub fn first_wrong(
     requires { (m ≤ 64) × ((k : ℕ) → k < m → (get_or lengths k 0 ≤ 64) × Ready history.now starts (take (get_or lengths k 0) (get_or views.now k []))) }
     ensures { option_in result ≡ lowest m (wrong_in (history_in history.now) (contents_in history.now.values starts) who views.now lengths) }
 {
-    first_wrong(history, starts, views, lengths, m, who)
+    let rows = object_rows(&history.events);
+    let earlier = earlier_views(&history.events, m);
+    for k in 0..m {
+        let row = &views[k];
+        let view = &row[..usize::from(lengths[k])];
+        let known = before(views, lengths, who, earlier[k], k);
+        if let Some(event) = wrong_answer(history, &starts, &rows, who[k], known, view, k) {
+            return Some(Place { view: k, event });
+        }
+    }
+    None
 }
