@@ -49,12 +49,12 @@ fn cut(line: &[u8]) -> Option<Fields>
 // What six fields say that are laid out as they should be and within their limits. A value that is `-` is none, and so is an
 // answer of more than eight values, which no op can give.
 #[derive(Clone, Copy)]
-pub struct Said {
-    pub process: ProcessNo,
-    pub object: u8,
-    pub op: Op,
-    pub value: Option<Value>,
-    pub answer: Option<Answer>,
+struct Said {
+    process: ProcessNo,
+    object: u8,
+    op: Op,
+    value: Option<Value>,
+    answer: Option<Answer>,
 }
 
 // Reads the fields of the event whose number is `own`, in a history with so many objects.

@@ -1,5 +1,5 @@
 -- `answer_field` meets its contract: a list of at most eight values is kept whole. Assumes nothing.
-use Rattle.std.proofs.Common.{◌≡◌, Some, Ok, sym, ap, ◌∙◌}
+use Rattle.std.proofs.Common.{Some, Ok, sym, ap, ◌∙◌}
 use Rattle.history.specs.declared.record.Answer.{Answer}
 use Rattle.history.specs.Faults.{is_lost}
 use Rattle.history.proofs.AnswerLaws.{answer-fits, answer-listed}

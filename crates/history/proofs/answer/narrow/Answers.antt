@@ -1,5 +1,5 @@
 -- `narrow` meets its contract: the values so far are the first items. Assumes nothing.
-use Rattle.std.proofs.Common.{◌≡◌, ℕ, length, take, get_or, sym, ap, ◌∙◌, arith}
+use Rattle.std.proofs.Common.{◌≡◌, take, get_or, sym, ap, ◌∙◌, arith}
 use Rattle.std.proofs.Math.Seq.{length-take-le}
 use Rattle.std.proofs.lemmas.List.{take_all}
 use Rattle.history.specs.Record.{pad, answer_of}
