@@ -1,3 +1,1 @@
 pub mod PieceLaws
-pub mod LimitLaws
-pub mod WriteLaws

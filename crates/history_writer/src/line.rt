@@ -1,145 +1,142 @@
 // Writing a line: fields with a space between each two, and a line feed at the end.
-ghost use Rattle.std.specs.Prelude.{◌≡◌, ◌+◌, ◌≤◌, ◌<◌, [], ◌∷◌, ◌++◌, map, length, take};
+ghost use Rattle.std.specs.Prelude.{◌≡◌, ◌≤◌, [], ◌∷◌, ◌++◌, map, length};
 ghost use Rattle.layout.specs.Fill.{fill};
+ghost use Rattle.layout.specs.List.{list_text};
+ghost use Rattle.history.specs.Record.{values_in};
 ghost use Rattle.history.specs.Kinds.{kind_word, op_word};
+ghost use Rattle.history.specs.HistoryText.{answer_text};
 ghost use Rattle.layout.specs.Steps.Line.{pieces_text};
 ghost use Rattle.history_writer.specs.Steps.Lines.{field_text};
 
-use history::record::{Kind, Op};
+use history::record::{Answer, Kind, Op, Value};
 use layout::fill::put_bytes;
 use layout::line::byte_behind;
 use layout::list::{list_len, put_list};
 use layout::number::{number_len, put_number};
 
-// A field of a line. The items are those of a list beside it.
+// A field of a line.
 #[derive(Clone, Copy)]
 pub(crate) enum Field {
     Dash,
     Number(u32),
-    KindWord(Kind),
-    OpWord(Op),
-    Items,
-    Lost,
+    Kind(Kind),
+    Op(Op),
+    Answer(Answer),
 }
 
-fn kind_len(kind: Kind) -> usize
-    ensures { (result ≡ length (kind_word kind)) × (result ≤ 8) }
+// The word of a kind.
+#[tactic(auto, unfolding(history::specs::Kinds::kind_word))]
+fn kind_word(kind: Kind) -> &'static [u8]
+    ensures { (result.now ≡ kind_word kind) × (length result.now ≤ 8) }
 {
     match kind {
-        Kind::Register => 8,
-        Kind::Queue => 5,
-        Kind::Stack => 5,
-        Kind::Window => 6,
-        Kind::Channel => 7,
+        Kind::Register => b"register",
+        Kind::Queue => b"queue",
+        Kind::Stack => b"stack",
+        Kind::Window => b"window",
+        Kind::Channel => b"channel",
     }
 }
 
-fn op_len(op: Op) -> usize
-    ensures { (result ≡ length (op_word op)) × (result ≤ 5) }
+// The word of an op.
+#[tactic(auto, unfolding(history::specs::Kinds::op_word))]
+fn op_word(op: Op) -> &'static [u8]
+    ensures { (result.now ≡ op_word op) × (length result.now ≤ 5) }
 {
     match op {
-        Op::Write => 5,
-        Op::Read => 4,
-        Op::Push => 4,
-        Op::Pop => 3,
-        Op::Peek => 4,
+        Op::Write => b"write",
+        Op::Read => b"read",
+        Op::Push => b"push",
+        Op::Pop => b"pop",
+        Op::Peek => b"peek",
     }
+}
+
+// Values, as items of a list.
+fn widen(values: [Value; 8]) -> [u32; 8]
+    ensures { result ≡ values }
+{
+    values.map(|v| u32::from(v))
+}
+
+// How many bytes an answer has.
+fn answer_len(a: Answer) -> usize
+    ensures { (result ≡ length (answer_text a)) × (result ≤ 704) }
+{
+    if a.lost {
+        return 1;
+    }
+    list_len(&widen(a.values)[..usize::from(a.count).min(8)])
+}
+
+// Writes an answer into a part that has room.
+fn put_answer(part: &mut [u8], a: Answer) -> usize
+    requires { length (answer_text a) ≤ length part.old }
+    ensures { (result ≡ length (answer_text a)) × (part.new ≡ fill (answer_text a) part.old) }
+{
+    if a.lost {
+        return put_bytes(part, b"?");
+    }
+    put_list(part, &widen(a.values)[..usize::from(a.count).min(8)])
 }
 
 // How many bytes a field has.
-fn field_len(field: Field, items: &[u32]) -> usize
-    requires { length items.now ≤ 64 }
-    ensures { (result ≡ length (field_text items.now field)) × (result ≤ 704) }
+fn field_len(field: Field) -> usize
+    ensures { (result ≡ length (field_text field)) × (result ≤ 704) }
 {
     match field {
         Field::Dash => 1,
         Field::Number(n) => number_len(n),
-        Field::KindWord(k) => kind_len(k),
-        Field::OpWord(o) => op_len(o),
-        Field::Items => list_len(items),
-        Field::Lost => 1,
-    }
-}
-
-fn put_kind(part: &mut [u8], kind: Kind) -> usize
-    requires { length (kind_word kind) ≤ length part.old }
-    ensures { (result ≡ length (kind_word kind)) × (part.new ≡ fill (kind_word kind) part.old) }
-{
-    match kind {
-        Kind::Register => put_bytes(part, b"register"),
-        Kind::Queue => put_bytes(part, b"queue"),
-        Kind::Stack => put_bytes(part, b"stack"),
-        Kind::Window => put_bytes(part, b"window"),
-        Kind::Channel => put_bytes(part, b"channel"),
-    }
-}
-
-fn put_op(part: &mut [u8], op: Op) -> usize
-    requires { length (op_word op) ≤ length part.old }
-    ensures { (result ≡ length (op_word op)) × (part.new ≡ fill (op_word op) part.old) }
-{
-    match op {
-        Op::Write => put_bytes(part, b"write"),
-        Op::Read => put_bytes(part, b"read"),
-        Op::Push => put_bytes(part, b"push"),
-        Op::Pop => put_bytes(part, b"pop"),
-        Op::Peek => put_bytes(part, b"peek"),
+        Field::Kind(kind) => kind_word(kind).len(),
+        Field::Op(op) => op_word(op).len(),
+        Field::Answer(a) => answer_len(a),
     }
 }
 
 // Writes a field into a part that has room.
-fn put_field(part: &mut [u8], field: Field, items: &[u32]) -> usize
-    requires { length (field_text items.now field) ≤ length part.old }
-    ensures { (result ≡ length (field_text items.now field)) × (part.new ≡ fill (field_text items.now field) part.old) }
+fn put_field(part: &mut [u8], field: Field) -> usize
+    requires { length (field_text field) ≤ length part.old }
+    ensures { (result ≡ length (field_text field)) × (part.new ≡ fill (field_text field) part.old) }
 {
     match field {
         Field::Dash => put_bytes(part, b"-"),
         Field::Number(n) => put_number(part, n),
-        Field::KindWord(k) => put_kind(part, k),
-        Field::OpWord(o) => put_op(part, o),
-        Field::Items => put_list(part, items),
-        Field::Lost => put_bytes(part, b"?"),
+        Field::Kind(kind) => put_bytes(part, kind_word(kind)),
+        Field::Op(op) => put_bytes(part, op_word(op)),
+        Field::Answer(a) => put_answer(part, a),
     }
 }
 
 // Writes a field and the byte behind it.
-fn put_piece(part: &mut [u8], field: Field, items: &[u32], behind: u8) -> usize
-    requires { length (field_text items.now field ++ behind ∷ []) ≤ length part.old }
-    ensures { (result ≡ length (field_text items.now field ++ behind ∷ [])) × (part.new ≡ fill (field_text items.now field ++ behind ∷ []) part.old) }
+fn put_piece(part: &mut [u8], field: Field, behind: u8) -> usize
+    requires { length (field_text field ++ behind ∷ []) ≤ length part.old }
+    ensures { (result ≡ length (field_text field ++ behind ∷ [])) × (part.new ≡ fill (field_text field ++ behind ∷ []) part.old) }
 {
-    let k = put_field(part, field, items);
+    let k = put_field(part, field);
     part[k] = behind;
     k + 1
 }
 
-// How many bytes the line of the first n fields has, its line feed too.
-pub(crate) fn line_len(fields: [Field; 6], n: usize, items: &[u32]) -> usize
-    requires { (n ≤ 6) × (length items.now ≤ 64) }
-    ensures { (result ≡ length (pieces_text (map (field_text items.now) (take n fields)))) × (result ≤ 4230) }
+// How many bytes the line of the fields has, its line feed too.
+pub(crate) fn line_len(fields: &[Field]) -> usize
+    requires { length fields.now ≤ 6 }
+    ensures { (result ≡ length (pieces_text (map field_text fields.now))) × (result ≤ 4230) }
 {
-    let mut total: usize = 0;
-    let mut i = 0;
-    while i < n {
-        let f = fields[i];
-        total = total + field_len(f, items) + 1;
-        i += 1;
+    let mut total = 0;
+    for field in fields {
+        total += field_len(*field) + 1;
     }
     total
 }
 
-// Writes the line of the first n fields, its line feed too, into a part that has room.
-pub(crate) fn put_line(part: &mut [u8], fields: [Field; 6], n: usize, items: &[u32]) -> usize
-    requires { (n ≤ 6) × (length (pieces_text (map (field_text items.now) (take n fields))) ≤ length part.old) }
-    ensures { (result ≡ length (pieces_text (map (field_text items.now) (take n fields)))) × (part.new ≡ fill (pieces_text (map (field_text items.now) (take n fields))) part.old) }
+// Writes the line of the fields, its line feed too, into a part that has room.
+pub(crate) fn put_line(part: &mut [u8], fields: &[Field]) -> usize
+    requires { length (pieces_text (map field_text fields.now)) ≤ length part.old }
+    ensures { (result ≡ length (pieces_text (map field_text fields.now))) × (part.new ≡ fill (pieces_text (map field_text fields.now)) part.old) }
 {
-    let mut at: usize = 0;
-    let mut i = 0;
-    while i < n {
-        let f = fields[i];
-        let b = byte_behind(i, n);
-        let k = put_piece(&mut part[at..], f, items, b);
-        at += k;
-        i += 1;
+    let mut at = 0;
+    for (i, field) in fields.iter().enumerate() {
+        at += put_piece(&mut part[at..], *field, byte_behind(i, fields.len()));
     }
     at
 }

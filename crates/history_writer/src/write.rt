@@ -1,17 +1,21 @@
 // Writing a history: the text of a record in the first bytes of a lent buffer.
-ghost use Rattle.std.specs.Prelude.{◌≡◌, ◌≤◌, [], ◌∷◌, ◌++◌, true, cond, length, take};
+ghost use Rattle.std.specs.Prelude.{◌≡◌, ◌≤◌, ◌<◌, [], ◌∷◌, ◌++◌, true, cond, length, get_or};
 ghost use Rattle.layout.specs.Fill.{fill};
-ghost use Rattle.layout.specs.Word.{object_heading, event_heading};
-ghost use Rattle.history.specs.HistoryText.{lines_text, object_text, event_text, object_lines, event_lines, history_text};
+ghost use Rattle.history.specs.Record.{no_object, no_event};
+ghost use Rattle.history.specs.HistoryText.{object_text, event_text, history_text};
 ghost use Rattle.history.specs.Readable.{within};
-ghost use Rattle.history_writer.specs.Steps.Lines.{object_fields_of, event_fields_of, short_answers};
+ghost use Rattle.history_writer.specs.Steps.Lines.{object_fields_of, event_fields_of};
 ghost use Rattle.history_writer.specs.WriteHistory.{write_fault_number, written_of, history_written, history_after};
 
 use crate::limits::is_within;
 use crate::line::{Field, line_len, put_line};
-use history::record::{Event, History, Object, Value};
+use history::record::{Event, History, Object};
 use history::word::{has_width, takes_value};
-use layout::fill::put_bytes;
+use layout::pieces::{CountedPieces, Pieces, pieces_len, put_headed};
+
+const OBJECT_HEADING: &[u8] = b"object kind width\n";
+
+const EVENT_HEADING: &[u8] = b"event process object op value answer\n";
 
 // Why a record is not written.
 #[derive(Clone, Copy, Debug, PartialEq, Eq)]
@@ -38,35 +42,17 @@ impl WriteFault {
 fn number_or_dash(wanted: bool, n: u32) -> Field
     ensures { result ≡ cond wanted (Field.Number n) Field.Dash }
 {
-    if wanted {
-        return Field::Number(n);
-    }
-    Field::Dash
-}
-
-// `?` where the answer was lost, and else its items.
-fn items_or_lost(lost: bool) -> Field
-    ensures { result ≡ cond lost Field.Lost Field.Items }
-{
-    if lost {
-        return Field::Lost;
-    }
-    Field::Items
+    if wanted { Field::Number(n) } else { Field::Dash }
 }
 
 // The three fields of an object's line.
-fn object_fields(own: u32, o: Object) -> [Field; 6]
-    ensures { take 3 result ≡ object_fields_of own o }
+fn object_fields(own: u32, o: Object) -> [Field; 3]
+    ensures { result ≡ object_fields_of own o }
 {
-    let kind = o.kind;
-    let width = number_or_dash(has_width(kind), o.width as u32);
     [
         Field::Number(own),
-        Field::KindWord(kind),
-        width,
-        Field::Dash,
-        Field::Dash,
-        Field::Dash,
+        Field::Kind(o.kind),
+        number_or_dash(has_width(o.kind), u32::from(o.width)),
     ]
 }
 
@@ -74,135 +60,62 @@ fn object_fields(own: u32, o: Object) -> [Field; 6]
 fn event_fields(own: u32, e: Event) -> [Field; 6]
     ensures { result ≡ event_fields_of own e }
 {
-    let op = e.op;
-    let process = e.process.0;
-    let value = number_or_dash(takes_value(op), e.value as u32);
-    let answer = e.answer;
-    let list = items_or_lost(answer.lost);
     [
         Field::Number(own),
-        Field::Number(process as u32),
-        Field::Number(e.object as u32),
-        Field::OpWord(op),
-        value,
-        list,
+        Field::Number(u32::from(e.process.0)),
+        Field::Number(u32::from(e.object)),
+        Field::Op(e.op),
+        number_or_dash(takes_value(e.op), u32::from(e.value)),
+        Field::Answer(e.answer),
     ]
 }
 
-// The values of an answer, as items of a list.
-fn widen(values: [Value; 8]) -> [u32; 8]
-    ensures { result ≡ values }
-{
-    let mut items = [0u32; 8];
-    let mut i = 0;
-    while i < 8 {
-        items[i] = values[i] as u32;
-        i += 1;
+// The lines of objects, each with its line feed.
+#[derive(Clone, Copy)]
+struct ObjectLines<'a> {
+    objects: &'a [Object],
+}
+
+impl Pieces for ObjectLines<'_> {
+    ghost piece = { λ s i. object_text i (get_or s.objects.now i no_object) ++ 10 ∷ [] };
+
+    ghost stands = { λ s i. (i < length s.objects.now) × (i < 64) };
+
+    fn put_piece(&self, part: &mut [u8], i: usize) -> usize {
+        put_line(part, &object_fields(i as u32, self.objects[i]))
     }
-    items
 }
 
-// How many bytes an object's line has, its line feed too.
-fn object_len(own: u32, o: Object) -> usize
-    ensures { (result ≡ length (object_text own o ++ 10 ∷ [])) × (result ≤ 4230) }
-{
-    let none = [0u32; 8];
-    line_len(object_fields(own, o), 3, &none[0..0])
-}
+impl CountedPieces for ObjectLines<'_> {
+    ghost most = { 4230 };
 
-// Writes an object's line and its line feed into a part that has room.
-fn put_object(part: &mut [u8], own: u32, o: Object) -> usize
-    requires { length (object_text own o ++ 10 ∷ []) ≤ length part.old }
-    ensures { (result ≡ length (object_text own o ++ 10 ∷ [])) × (part.new ≡ fill (object_text own o ++ 10 ∷ []) part.old) }
-{
-    let none = [0u32; 8];
-    put_line(part, object_fields(own, o), 3, &none[0..0])
-}
-
-// How many bytes an event's line has, its line feed too.
-fn event_len(own: u32, e: Event) -> usize
-    requires { e.answer.count ≤ 8 }
-    ensures { (result ≡ length (event_text own e ++ 10 ∷ [])) × (result ≤ 4230) }
-{
-    let answer = e.answer;
-    let n = answer.count as usize;
-    let values = answer.values;
-    let items = widen(values);
-    line_len(event_fields(own, e), 6, &items[0..n])
-}
-
-// Writes an event's line and its line feed into a part that has room.
-fn put_event(part: &mut [u8], own: u32, e: Event) -> usize
-    requires { (e.answer.count ≤ 8) × (length (event_text own e ++ 10 ∷ []) ≤ length part.old) }
-    ensures { (result ≡ length (event_text own e ++ 10 ∷ [])) × (part.new ≡ fill (event_text own e ++ 10 ∷ []) part.old) }
-{
-    let answer = e.answer;
-    let n = answer.count as usize;
-    let values = answer.values;
-    let items = widen(values);
-    put_line(part, event_fields(own, e), 6, &items[0..n])
-}
-
-// How many bytes the lines of the first n objects have.
-fn objects_len(objects: [Object; 16], n: usize) -> usize
-    requires { n ≤ 16 }
-    ensures { (result ≡ length (lines_text (object_lines 0 (take n objects)))) × (result ≤ 67680) }
-{
-    let mut total: usize = 0;
-    let mut i = 0;
-    while i < n {
-        let o = objects[i];
-        total += object_len(i as u32, o);
-        i += 1;
+    fn piece_len(&self, i: usize) -> usize {
+        line_len(&object_fields(i as u32, self.objects[i]))
     }
-    total
 }
 
-// How many bytes the lines of the first n events have.
-fn events_len(events: [Event; 64], n: usize) -> usize
-    requires { (n ≤ 64) × (short_answers (take n events) ≡ true) }
-    ensures { (result ≡ length (lines_text (event_lines 0 (take n events)))) × (result ≤ 270720) }
-{
-    let mut total: usize = 0;
-    let mut i = 0;
-    while i < n {
-        let e = events[i];
-        total += event_len(i as u32, e);
-        i += 1;
-    }
-    total
+// The lines of events, each with its line feed.
+#[derive(Clone, Copy)]
+struct EventLines<'a> {
+    events: &'a [Event],
 }
 
-// Writes the lines of the first n objects into a part that has room.
-fn put_objects(part: &mut [u8], objects: [Object; 16], n: usize) -> usize
-    requires { (n ≤ 16) × (length (lines_text (object_lines 0 (take n objects))) ≤ length part.old) }
-    ensures { (result ≡ length (lines_text (object_lines 0 (take n objects)))) × (part.new ≡ fill (lines_text (object_lines 0 (take n objects))) part.old) }
-{
-    let mut at: usize = 0;
-    let mut i = 0;
-    while i < n {
-        let o = objects[i];
-        let k = put_object(&mut part[at..], i as u32, o);
-        at += k;
-        i += 1;
+impl Pieces for EventLines<'_> {
+    ghost piece = { λ s i. event_text i (get_or s.events.now i no_event) ++ 10 ∷ [] };
+
+    ghost stands = { λ s i. (i < length s.events.now) × (i < 64) };
+
+    fn put_piece(&self, part: &mut [u8], i: usize) -> usize {
+        put_line(part, &event_fields(i as u32, self.events[i]))
     }
-    at
 }
 
-// Writes the lines of the first n events into a part that has room.
-fn put_events(part: &mut [u8], events: [Event; 64], n: usize) -> usize
-    requires { (n ≤ 64) × (short_answers (take n events) ≡ true) × (length (lines_text (event_lines 0 (take n events))) ≤ length part.old) }
-    ensures { (result ≡ length (lines_text (event_lines 0 (take n events)))) × (part.new ≡ fill (lines_text (event_lines 0 (take n events))) part.old) }
-{
-    let mut at: usize = 0;
-    let mut i = 0;
-    while i < n {
-        let e = events[i];
-        let k = put_event(&mut part[at..], i as u32, e);
-        at += k;
-        i += 1;
+impl CountedPieces for EventLines<'_> {
+    ghost most = { 4230 };
+
+    fn piece_len(&self, i: usize) -> usize {
+        line_len(&event_fields(i as u32, self.events[i]))
     }
-    at
 }
 
 // How many bytes the text of a record within its limits has.
@@ -210,33 +123,14 @@ fn history_len(h: History) -> usize
     requires { within h ≡ true }
     ensures { result ≡ length (history_text h) }
 {
-    let objects = h.objects;
-    let declared = h.declared;
-    let events = h.events;
-    let count = h.count;
-    let first = objects_len(objects, declared);
-    let second = events_len(events, count);
-    first + second + 55
-}
-
-// Writes the heading of the objects and their lines.
-fn put_object_half(part: &mut [u8], objects: [Object; 16], n: usize) -> usize
-    requires { (n ≤ 16) × (length (lines_text (object_heading ∷ object_lines 0 (take n objects))) ≤ length part.old) }
-    ensures { (result ≡ length (lines_text (object_heading ∷ object_lines 0 (take n objects)))) × (part.new ≡ fill (lines_text (object_heading ∷ object_lines 0 (take n objects))) part.old) }
-{
-    let k = put_bytes(part, b"object kind width\n");
-    let m = put_objects(&mut part[k..], objects, n);
-    k + m
-}
-
-// Writes the heading of the events and their lines.
-fn put_event_half(part: &mut [u8], events: [Event; 64], n: usize) -> usize
-    requires { (n ≤ 64) × (short_answers (take n events) ≡ true) × (length (lines_text (event_heading ∷ event_lines 0 (take n events))) ≤ length part.old) }
-    ensures { (result ≡ length (lines_text (event_heading ∷ event_lines 0 (take n events)))) × (part.new ≡ fill (lines_text (event_heading ∷ event_lines 0 (take n events))) part.old) }
-{
-    let k = put_bytes(part, b"event process object op value answer\n");
-    let m = put_events(&mut part[k..], events, n);
-    k + m
+    let objects = ObjectLines {
+        objects: &h.objects,
+    };
+    let events = EventLines { events: &h.events };
+    OBJECT_HEADING.len()
+        + pieces_len(&objects, h.declared)
+        + EVENT_HEADING.len()
+        + pieces_len(&events, h.count)
 }
 
 // Writes the text of a record within its limits into a part that has room.
@@ -244,13 +138,12 @@ fn put_history(part: &mut [u8], h: History) -> usize
     requires { (within h ≡ true) × (length (history_text h) ≤ length part.old) }
     ensures { (result ≡ length (history_text h)) × (part.new ≡ fill (history_text h) part.old) }
 {
-    let objects = h.objects;
-    let declared = h.declared;
-    let events = h.events;
-    let count = h.count;
-    let k = put_object_half(part, objects, declared);
-    let m = put_event_half(&mut part[k..], events, count);
-    k + m
+    let objects = ObjectLines {
+        objects: &h.objects,
+    };
+    let events = EventLines { events: &h.events };
+    let k = put_headed(part, OBJECT_HEADING, &objects, h.declared);
+    k + put_headed(&mut part[k..], EVENT_HEADING, &events, h.count)
 }
 
 // Writes the text of a record into the first bytes of a buffer. A record outside its limits (9) and a buffer that is too
