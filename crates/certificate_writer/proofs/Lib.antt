@@ -1,2 +1,4 @@
+pub mod AllLaws
 pub mod LimitLaws
-pub mod WriteLaws
+pub mod LineLaws
+pub mod TextLaws

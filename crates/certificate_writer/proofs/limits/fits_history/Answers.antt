@@ -1,19 +1,9 @@
--- `fits_history` meets its contract: the criterion says how many pasts there are. Assumes nothing.
-use mathlib.Core.Path.{◌≡◌, sym, ◌∙◌}
-use lib.ListN.{length}
-use Rattle.certificate_writer.proofs.LimitLaws.{fits-with, fits-without}
+-- `fits_history` meets its contract: the criterion says how many pasts and views there are. Assumes nothing.
+use Rattle.std.proofs.Common.{◌∙◌}
+use Rattle.certificate_writer.proofs.LimitLaws.{fits_is}
 use Rattle.certificate_writer.proofs.limits.fits_history.Goals as goal
-
-pub returns-then-has_pasts : goal.returns-then-has_pasts
-returns-then-has_pasts c =
-    let events-long : length c.args.h.events ≡ 64 = c.well_formed.0.1.1.1.1.0.1.0.1 in
-    c.parts_fit.ensures
-    ∙ fits-with c.args.h c.args.c c.args.rows.now events-long c.requires c.view_numbers-views.result c.view_numbers-views.ensures.0
-    (sym c.has_pasts.ensures ∙ c.if-has_pasts.true)
 
 pub returns : goal.returns
 returns c =
-    let events-long : length c.args.h.events ≡ 64 = c.well_formed.0.1.1.1.1.0.1.0.1 in
-    c.parts_fit-2.ensures
-    ∙ fits-without c.args.h c.args.c c.args.rows.now events-long c.requires c.view_numbers-views.result c.view_numbers-views.ensures.0
-    (sym c.has_pasts.ensures ∙ c.if-has_pasts.false)
+    rw c.past_count-pasts.ensures at c.parts_fit.ensures
+    ∙ fits_is c.args.h.now c.args.c.now c.args.rows.now c.requires.1 c.view_numbers-views.result c.view_numbers-views.ensures.0

@@ -1,15 +1,14 @@
 -- `good_row` meets its contract. Assumes nothing.
-use mathlib.Core.Path.{◌≡◌, sym}
-use lib.ListN.{length}
-use Rattle.certificate_writer.proofs.LimitLaws.{row-many, row_is}
-use borrow.Author.Rules.{rules}
+use Rattle.std.proofs.Common.{arith}
+use Rattle.std.proofs.lemmas.Grind.{common_steps}
+use Rattle.std.proofs.lemmas.Bool.Decides.{nat_tests}
+use Rattle.certificate.specs.Readable.{good_row}
 use Rattle.certificate_writer.proofs.limits.good_row.Goals as goal
 
-pub returns-then-n-count : goal.returns-then-n-count
-returns-then-n-count c =
-    sym (row-many c.args.count c.args.n c.args.row c.if-n-count.true)
+pub returns-then-all_less : goal.returns-then-all_less
+unfolding good_row
+returns-then-all_less c = grind (arith, common_steps, nat_tests)
 
-pub returns : goal.returns
-returns c =
-    let l : length c.args.row ≡ 64 = search rules in
-    row_is c.args.count c.args.n c.args.row _ _ c.if-n-count.false l c.all_less-less.ensures c.all_zero-blank.ensures
+pub returns-else-all_less : goal.returns-else-all_less
+unfolding good_row
+returns-else-all_less c = grind (arith, common_steps, nat_tests)

@@ -1,28 +1,14 @@
--- `good_rows` meets its contract: the answer for the whole is the answer for what is left. Assumes nothing.
-use native.Mathlib.Omega.{arith}
-use mathlib.Core.Path.{◌≡◌, refl, sym, ◌∙◌}
-use lib.ListN.{length}
-use borrow.Author.Tests.{not-true, not-false}
-use Rattle.certificate_writer.proofs.LimitLaws.{rows-goes, rows-fail, rows_end}
-use borrow.Author.Rules.{rules}
+-- `good_rows` meets its contract. Assumes nothing.
+use Rattle.std.proofs.Common.{ℕ, List, rules, tests, sym, ◌∙◌}
+use Rattle.std.proofs.lemmas.Iterator.{YieldsList-from_slice, YieldsList-from_zip}
+use Rattle.std.proofs.lemmas.Iterator.Search.{all_from_yields_List}
+use Rattle.certificate.specs.Readable.{good_row}
+use Rattle.certificate_writer.proofs.AllLaws.{rows_are}
 use Rattle.certificate_writer.proofs.limits.good_rows.Goals as goal
-
-pub loop-i-init : goal.loop-i-init
-loop-i-init c =
-    let l : length c.args.lengths ≡ 64 = search rules in
-    (omega (arith, c.requires.0), omega (arith, c.requires.0, c.all-1.given), refl)
-
-pub returns-then-not-good_row : goal.returns-then-not-good_row
-returns-then-not-good_row c =
-    sym (c.loop-i.invariant.2 ∙ rows-fail c.args.count c.args.lengths c.args.rows.now c.args.m c.loop-i.i c.loop-i.invariant.0 c.loop-i.invariant.1 _ _ (search rules) (sym c.good_row.ensures ∙ not-true _ c.if-not-good_row.true-raw))
-
-pub loop-i-preserved : goal.loop-i-preserved
-loop-i-preserved c = (
-  c.loop-i.invariant.0,
-  c.loop-i.invariant.1,
-  c.loop-i.invariant.2 ∙ rows-goes c.args.count c.args.lengths c.args.rows.now c.args.m c.loop-i.i c.loop-i.invariant.0 c.loop-i.invariant.1 _ _ (search rules) (sym c.good_row.ensures ∙ not-false _ c.if-not-good_row.false-raw),
-)
 
 pub returns : goal.returns
 returns c =
-    sym (c.loop-i.invariant.2 ∙ rows_end c.args.count c.args.lengths c.args.rows.now c.args.m c.loop-i.i c.loop-i.invariant.0 c.loop-i.invariant.1 (search rules))
+    all_from_yields_List (λ (p : ℕ × List ℕ). good_row c.args.count p.0 p.1) c.all.new.self _ _ c.all.ensures.ran
+    (YieldsList-from_zip (YieldsList-from_slice c.args.lengths.now cc) (YieldsList-from_slice c.args.rows.now cc))
+    (λ x b q k. search (rules, tests))
+    ∙ sym (rows_are c.args.count c.args.lengths.now c.args.rows.now c.requires.1)

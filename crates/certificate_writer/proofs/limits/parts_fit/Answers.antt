@@ -1,13 +1,14 @@
 -- `parts_fit` meets its contract. Assumes nothing.
-use mathlib.Core.Path.{◌≡◌}
-use lib.ListN.{length}
-use Rattle.certificate_writer.proofs.LimitLaws.{parts_are}
-use borrow.Author.Rules.{rules}
+use Rattle.std.proofs.Common.{arith}
+use Rattle.std.proofs.lemmas.Grind.{common_steps}
+use Rattle.std.proofs.lemmas.Bool.Decides.{nat_tests}
+use Rattle.certificate_writer.specs.Steps.Lines.{parts_fit}
 use Rattle.certificate_writer.proofs.limits.parts_fit.Goals as goal
 
-pub returns : goal.returns
-returns c =
-    let pasts-long : length c.args.c.pasts ≡ 64 = c.well_formed.0.1.1.1.0.1.0.1 in
-    let lengths-long : length c.args.c.lengths ≡ 64 = search rules in
-    parts_are c.args.count c.args.k c.args.m c.args.c c.args.rows.now _ _ _ _ _ pasts-long lengths-long c.blank_rows-rows_blank.ensures.1
-    c.good_pasts-pasts_good.ensures c.good_rows-views_good.ensures c.blank_lists-pasts_blank.ensures c.all_zero-lengths_blank.ensures c.blank_rows-rows_blank.ensures.0
+pub returns-then-all_zero : goal.returns-then-all_zero
+unfolding parts_fit
+returns-then-all_zero c = grind (arith, common_steps, nat_tests)
+
+pub returns-else-all_zero : goal.returns-else-all_zero
+unfolding parts_fit
+returns-else-all_zero c = grind (arith, common_steps, nat_tests)

@@ -1,58 +1,14 @@
--- `put_criterion` meets its contract. Assumes nothing.
+-- `put_criterion` meets its contract: the heading, and the word behind it. Assumes nothing.
+use Rattle.std.proofs.Common.{[], ◌∷◌, ◌++◌, refl}
+use Rattle.layout.specs.Word.{criterion_word}
+use Rattle.layout.proofs.FillLaws.{writing-first, last-part}
 use Rattle.certificate.specs.Criteria.{word_of}
-use Rattle.certificate.specs.CertificateText.{criterion_text}
+use Rattle.certificate_writer.specs.Steps.Lines.{first_bytes}
 use Rattle.certificate_writer.proofs.write.put_criterion.Goals as goal
 
-pub put_bytes-requires : goal.put_bytes-requires
-unfolding criterion_text word_of
-put_bytes-requires c = rw c.in-Pram.is at c.requires
-
-pub put_bytes-requires-in-Weak : goal.put_bytes-requires-in-Weak
-unfolding criterion_text word_of
-put_bytes-requires-in-Weak c = rw c.in-Weak.is at c.requires
-
-pub put_bytes-requires-in-Causal : goal.put_bytes-requires-in-Causal
-unfolding criterion_text word_of
-put_bytes-requires-in-Causal c = rw c.in-Causal.is at c.requires
-
-pub put_bytes-requires-in-Converge : goal.put_bytes-requires-in-Converge
-unfolding criterion_text word_of
-put_bytes-requires-in-Converge c = rw c.in-Converge.is at c.requires
-
-pub put_bytes-requires-in-Sequential : goal.put_bytes-requires-in-Sequential
-unfolding criterion_text word_of
-put_bytes-requires-in-Sequential c = rw c.in-Sequential.is at c.requires
-
-pub put_bytes-requires-in-Strict : goal.put_bytes-requires-in-Strict
-unfolding criterion_text word_of
-put_bytes-requires-in-Strict c = rw c.in-Strict.is at c.requires
-
-pub returns-in-Pram : goal.returns-in-Pram
-unfolding criterion_text word_of
-returns-in-Pram c =
-    rw c.in-Pram.is c.put_bytes.ensures
-
-pub returns-in-Weak : goal.returns-in-Weak
-unfolding criterion_text word_of
-returns-in-Weak c =
-    rw c.in-Weak.is c.put_bytes-in-Weak.ensures
-
-pub returns-in-Causal : goal.returns-in-Causal
-unfolding criterion_text word_of
-returns-in-Causal c =
-    rw c.in-Causal.is c.put_bytes-in-Causal.ensures
-
-pub returns-in-Converge : goal.returns-in-Converge
-unfolding criterion_text word_of
-returns-in-Converge c =
-    rw c.in-Converge.is c.put_bytes-in-Converge.ensures
-
-pub returns-in-Sequential : goal.returns-in-Sequential
-unfolding criterion_text word_of
-returns-in-Sequential c =
-    rw c.in-Sequential.is c.put_bytes-in-Sequential.ensures
-
-pub returns-in-Strict : goal.returns-in-Strict
-unfolding criterion_text word_of
-returns-in-Strict c =
-    rw c.in-Strict.is c.put_bytes-in-Strict.ensures
+pub returns : goal.returns
+returns c =
+    let begun =
+    writing-first (first_bytes c.args.c) c.args.part.now (criterion_word ++ 32 ∷ []) (word_of c.args.c ++ 10 ∷ []) c.requires refl _ _
+    c.put_bytes-k.ensures.0 c.put_bytes-k.ensures.1 in
+    last-part begun c.put_word.new.part c.put_word.ensures.1 c.put_word.result c.put_word.ensures.0

@@ -1,12 +1,6 @@
--- `widen` meets its contract: the items so far are the events. Assumes nothing.
-use Prim.Native.Nat.{◌≤◌, ◌-◌}
-use mathlib.Core.Path.{◌≡◌}
-use lib.ListN.{length, take}
-use Rattle.history.specs.Record.{pad}
+-- `widen` meets its contract: the items so far are the events so far. Assumes nothing.
+use Rattle.std.proofs.Common.{◌≡◌, length, take}
 use Rattle.certificate_writer.proofs.write.widen.Given as goal
 
 abbrev pub invariant-loop-i : goal.invariant-loop-i
-invariant-loop-i l = (l.i ≤ 64) × (length l.row ≡ 64) × (length l.items ≡ 64) × (l.items ≡ pad 64 0 (take l.i l.row))
-
-abbrev pub decreases-loop-i : goal.decreases-loop-i
-decreases-loop-i l = 64 - l.i
+invariant-loop-i l = (length l.items ≡ 64) × (take l.i l.items ≡ take l.i l.events)

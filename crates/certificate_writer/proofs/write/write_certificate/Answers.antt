@@ -1,54 +1,56 @@
 -- `write_certificate` meets its contract: the limits and the length are judged before the first byte is written. Assumes nothing.
-use native.Mathlib.Omega.{arith}
-use mathlib.Core.Path.{◌≡◌, sym, ◌∙◌}
-use mathlib.Core.Bool.{true}
-use borrow.Author.Tests.{not-true, not-false}
-use Rattle.history.specs.Record.{events_in}
-use Rattle.history.specs.Readable.{within}
-use Rattle.history.proofs.WithinLaws.{within-limits}
-use Rattle.certificate.specs.Readable.{fits}
-use Rattle.certificate_writer.proofs.WriteLaws.{answer-outside, answer-unfit, answer-short, answer-fits}
-use borrow.Author.Rules.{rules}
+use Rattle.std.proofs.Common.{◌≡◌, true, arith, rules, length}
+use Rattle.certificate_writer.specs.WriteCertificate.{writable}
+use Rattle.certificate_writer.proofs.TextLaws.{count_few, past_stands, view_stands, answer_short, answer_fits, answer_refused}
 use Rattle.certificate_writer.proofs.write.write_certificate.Goals as goal
 
-pub returns-then-not-is_within : goal.returns-then-not-is_within
-returns-then-not-is_within c =
-    answer-outside c.args.h c.args.c c.args.rows.now c.args.buf.now (sym c.is_within.ensures ∙ not-true _ c.if-not-is_within.true-raw)
+pub returns-then-not-is_writable : goal.returns-then-not-is_writable
+returns-then-not-is_writable c =
+    answer_refused c.args.h c.args.c c.args.rows.now c.args.buf.now (search rules)
 
-pub fits_history-requires : goal.fits_history-requires
-fits_history-requires c =
-    let inside : within c.args.h ≡ true = sym c.is_within.ensures ∙ not-false _ c.if-not-is_within.false-raw in
-    (within-limits c.args.h inside).count
-
-pub returns-then-not-fits_history : goal.returns-then-not-fits_history
-returns-then-not-fits_history c =
-    let inside : within c.args.h ≡ true = sym c.is_within.ensures ∙ not-false _ c.if-not-is_within.false-raw in
-    answer-unfit c.args.h c.args.c c.args.rows.now c.args.buf.now inside (sym c.fits_history.ensures ∙ not-true _ c.if-not-fits_history.true-raw)
+pub shared_ref_as_front-view_numbers : goal.shared_ref_as_front-view_numbers
+shared_ref_as_front-view_numbers c = count_few c.args.h c.args.c c.args.rows.now (search rules)
 
 pub certificate_len-n-requires : goal.certificate_len-n-requires
 certificate_len-n-requires c =
-    let inside : within c.args.h ≡ true = sym c.is_within.ensures ∙ not-false _ c.if-not-is_within.false-raw in
-    let fitting : fits (events_in c.args.h) c.args.c c.args.rows.now ≡ true = sym c.fits_history.ensures ∙ not-false _ c.if-not-fits_history.false-raw in
-    ((within-limits c.args.h inside).count, fitting)
+    let w : writable c.args.h c.args.c c.args.rows.now ≡ true = search rules in
+    let v = c.view_numbers-numbers.result in
+    let long : length v.numbers ≡ 64 = search rules in
+    let are = c.view_numbers-numbers.ensures.0 in
+    let few = c.view_numbers-numbers.ensures.1 in
+    record {
+      pasts = (count_few c.args.h c.args.c c.args.rows.now w, past_stands c.args.h c.args.c c.args.rows.now w v are few long);
+      few = few;
+      views = view_stands c.args.h c.args.c c.args.rows.now w v are few long;
+    }
 
 pub returns-then-buf-n : goal.returns-then-buf-n
 returns-then-buf-n c =
-    let inside : within c.args.h ≡ true = sym c.is_within.ensures ∙ not-false _ c.if-not-is_within.false-raw in
-    let fitting : fits (events_in c.args.h) c.args.c c.args.rows.now ≡ true = sym c.fits_history.ensures ∙ not-false _ c.if-not-fits_history.false-raw in
-    answer-short c.args.h c.args.c c.args.rows.now c.args.buf.now inside fitting _ c.certificate_len-n.ensures c.if-buf-n.true
+    let w : writable c.args.h c.args.c c.args.rows.now ≡ true = search rules in
+    let v = c.view_numbers-numbers.result in
+    let long : length v.numbers ≡ 64 = search rules in
+    answer_short c.args.h c.args.c c.args.rows.now w v c.view_numbers-numbers.ensures.0 c.view_numbers-numbers.ensures.1 long c.args.buf.now _
+    c.certificate_len-n.ensures (search rules)
 
 pub put_certificate-requires : goal.put_certificate-requires
 put_certificate-requires c =
-    let inside : within c.args.h ≡ true = sym c.is_within.ensures ∙ not-false _ c.if-not-is_within.false-raw in
-    let fitting : fits (events_in c.args.h) c.args.c c.args.rows.now ≡ true = sym c.fits_history.ensures ∙ not-false _ c.if-not-fits_history.false-raw in (
-      (within-limits c.args.h inside).count,
-      fitting,
-      omega (arith, c.certificate_len-n.ensures, c.if-buf-n.false),
+    let w : writable c.args.h c.args.c c.args.rows.now ≡ true = search rules in
+    let v = c.view_numbers-numbers.result in
+    let long : length v.numbers ≡ 64 = search rules in
+    let are = c.view_numbers-numbers.ensures.0 in
+    let few = c.view_numbers-numbers.ensures.1 in (
+      record {
+        pasts = (count_few c.args.h c.args.c c.args.rows.now w, past_stands c.args.h c.args.c c.args.rows.now w v are few long);
+        few = few;
+        views = view_stands c.args.h c.args.c c.args.rows.now w v are few long;
+      },
+      omega (arith, c.certificate_len-n.ensures),
     )
 
 pub returns : goal.returns
 returns c =
-    let inside : within c.args.h ≡ true = sym c.is_within.ensures ∙ not-false _ c.if-not-is_within.false-raw in
-    let fitting : fits (events_in c.args.h) c.args.c c.args.rows.now ≡ true = sym c.fits_history.ensures ∙ not-false _ c.if-not-fits_history.false-raw in
-    answer-fits c.args.h c.args.c c.args.rows.now c.args.buf.now inside fitting _ c.certificate_len-n.ensures (search rules) _
-    c.put_certificate.ensures.1
+    let w : writable c.args.h c.args.c c.args.rows.now ≡ true = search rules in
+    let v = c.view_numbers-numbers.result in
+    let long : length v.numbers ≡ 64 = search rules in
+    answer_fits c.args.h c.args.c c.args.rows.now w v c.view_numbers-numbers.ensures.0 c.view_numbers-numbers.ensures.1 long c.args.buf.now _
+    c.certificate_len-n.ensures (search rules) _ c.put_certificate.ensures.1
