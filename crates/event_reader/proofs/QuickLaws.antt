@@ -5,7 +5,7 @@ use mathlib.Core.Path.{◌≡◌, refl, sym, ap, ap₂, ◌∙◌, subst}
 use mathlib.Core.Bool.{Bool, true, false, cond}
 use mathlib.Core.List.{List, [], ◌∷◌, ◌++◌, append_assoc}
 use lib.ListN.{length, get_or, take, drop, set, length-append}
-use lib.Seq.{take_at, get_or-take, length-take-le}
+use lib.Seq.{take_at}
 use lib.Dec.{eqb, ltb}
 use borrow.Author.Tests.{lt-ltb}
 use Rattle.layout.specs.declared.at.At.{At}
@@ -21,7 +21,7 @@ use Rattle.history.specs.declared.record.Op.{Op}
 use Rattle.history.specs.declared.record.Object.{Object}
 use Rattle.history.specs.declared.record.Event.{Event}
 use Rattle.history.specs.declared.record.Answer.{Answer}
-use Rattle.history.specs.Record.{value_bound, no_object, no_answer, lost_answer, no_event, answer_of}
+use Rattle.history.specs.Record.{value_bound, no_object, no_answer, lost_answer, answer_of}
 use Rattle.history.specs.Kinds.{op_word, has_op, takes_value, can_answer, may_answer}
 use Rattle.history.specs.HistoryText.{answer_text, event_text}
 use Rattle.history.specs.Readable.{all_less, all_zero, good_answer, good_value, good_event}
