@@ -1,4 +1,4 @@
--- What the loops over rows need: one turn of a search for some number, and the lowest number that is found. Assumes nothing.
+-- The tests that the searches over rows make. Assumes nothing.
 use mathlib.Core.Path.{◌≡◌, refl, sym, ap, ◌∙◌}
 use mathlib.Core.Bool.{Bool, true, false, not, ◌&&◌, ◌||◌}
 use mathlib.Core.List.{List}
@@ -11,13 +11,6 @@ use Rattle.criteria.proofs.Lists.{none-lowest}
 use Rattle.criteria.proofs.Loops.{lowest-found}
 use Rattle.criteria.specs.Check.{lacks_past}
 use Rattle.orders.specs.Rows.{in_row, in_rows}
-
--- one number more is tested, and all were
-pub any-turn : (f : ℕ → Bool) (k : ℕ) (b : Bool) → b ≡ any k f → b || f k ≡ any (k + 1) f
-any-turn f k b h = rw (add-one, h)
-
-pub any-end : (f : ℕ → Bool) (n k : ℕ) (b : Bool) → k ≤ n → n ≤ k → b ≡ any k f → b ≡ any n f
-any-end f n k b h l e = let q : k ≡ n = omega arith in e ∙ ap (λ (m : ℕ). any m f) q
 
 -- g is in row a and not in row b; it is in both; the row of e lacks something that it must have
 abbrev pub apart : ℕ → ℕ → ℕ → Bool

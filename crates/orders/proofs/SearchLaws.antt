@@ -1,4 +1,4 @@
--- What the searches over views need: the row of the first events, a row with one event more, and sets that are the same. Assumes nothing.
+-- What the searches over views need: the row of no events, and sets that are the same. Assumes nothing.
 use mathlib.Core.Path.{◌≡◌, refl, sym, ap, ◌∙◌}
 use mathlib.Core.Bool.{Bool, not, ◌||◌}
 use mathlib.Core.List.{List}
@@ -20,18 +20,9 @@ unfolding not_its_set
 set_same n P Q v h =
     any_same n (λ e. not (eqb (count e v) (one (P e)))) (λ e. not (eqb (count e v) (one (Q e)))) (λ e l. ap (λ (b : Bool). not (eqb (count e v) (one b))) (h e))
 
--- no event is in the row yet, and one more of the first is
+-- no event is in the row yet
 pub first-none : (e : ℕ) → in_row 0 e ≡ ltb e 0
 first-none e = none_in e ∙ sym (le-ltb e 0 (omega arith))
-
-pub first_more : (row row' i : ℕ) → More row i row' → ((e : ℕ) → in_row row e ≡ ltb e i) → (e : ℕ) → in_row row' e ≡ ltb e (i + 1)
-first_more row row' i more s e =
-    more e ∙ ap (λ (b : Bool). b || eqb e i) (s e) ∙ by-eq e i
-    (λ q. rw (q, le-ltb i i (omega arith), eq-eqb i i refl, lt-ltb i (i + 1) (omega arith)))
-    (λ n.
-    by-lt e i
-    (λ l. rw (lt-ltb e i l, lt-ltb e (i + 1) (omega arith)))
-    (λ l. rw (le-ltb e i l, le-ltb e (i + 1) (omega (arith, n)), ne_eqb e i n)))
 
 -- view k is not all n events; it is not the past of event k and that event; it is against the order
 abbrev pub not_all : List (List ℕ) → List ℕ → ℕ → ℕ → Bool
