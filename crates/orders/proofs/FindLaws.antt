@@ -12,11 +12,11 @@ use denote.Param.Members.{Mut}
 use Rattle.std.specs.Prelude.{Option, Some, None, MatchOption, MatchBool, ⊤}
 use Rattle.std.proofs.lemmas.Iterator.{first_from_Range, cases_from_any, YieldsList-from_range}
 use Rattle.std.proofs.lemmas.List.FromFn.{length-range_with_len, get_or-range_with_len}
-use Rattle.core.specs.declared.iter.ranges.Range.{Range}
-use Rattle.core.specs.Iterator.{YieldsThen}
-use Rattle.core.specs.List.{FoldsTo, range_with_len, AllWithin, HoldsAt}
-use Rattle.core.specs.Fn.{Called, CalledAt}
-use Rattle.core.proofs.iter.Yields.{nat_range_steps}
+use Rattle.std.specs.declared.ops.Range.{Range}
+use Rattle.std.specs.Iterator.{YieldsThen}
+use Rattle.std.specs.List.{FoldsTo, range_with_len, AllWithin, HoldsAt}
+use Rattle.std.specs.Fn.{Called, CalledAt}
+use Rattle.std.proofs.iter.Yields.{nat_range_steps}
 use Rattle.layout.specs.Options.{option_in}
 use Rattle.criteria.specs.Tests.{any, lowest, found_if}
 use Rattle.criteria.proofs.Lists.{any_at, none_any, none-lowest}
