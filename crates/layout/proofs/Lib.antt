@@ -7,6 +7,7 @@ pub mod StandsLaws
 pub mod FillLaws
 pub mod PiecesLaws
 pub mod LineLaws
+pub mod FieldLaws
 pub mod ListLaws
 pub mod ListTextLaws
 pub mod RoundTrips

@@ -10,11 +10,11 @@ use lib.Seq.{drop-cons}
 use lib.Dec.{eqb}
 use borrow.Author.Tests.{eq-eqb, ne_eqb}
 use Rattle.layout.specs.Split.{join}
-use Rattle.layout.specs.Steps.Line.{pieces_text}
+use Rattle.layout.specs.Fields.{pieces_text}
 use Rattle.layout.proofs.Cases.{by-eq}
 
 -- one field and the byte behind it
-pieces_step : (f : List ℕ) (fs : List (List ℕ)) → pieces_text (f ∷ fs) ≡ (f ++ cond (eqb (length fs) 0) 10 32 ∷ []) ++ pieces_text fs
+pub pieces_step : (f : List ℕ) (fs : List (List ℕ)) → pieces_text (f ∷ fs) ≡ (f ++ cond (eqb (length fs) 0) 10 32 ∷ []) ++ pieces_text fs
 unfolding pieces_text
 pieces_step f [] = sym (append-nil (f ++ 10 ∷ []))
 pieces_step f (g ∷ fs) =

@@ -4,5 +4,6 @@ pub mod Number
 pub mod List
 pub mod Fill
 pub mod Pieces
+pub mod Fields
 pub mod Options
 pub mod Steps

@@ -4,6 +4,7 @@
 #![tactic(auto)]
 
 pub mod at;
+pub mod fields;
 pub mod fill;
 pub mod line;
 pub mod list;
