@@ -1,16 +1,16 @@
 -- Laws of what a state holds, and of one op on it. Assumes nothing.
-use Prim.Native.Nat.{ℕ, zero, suc, ◌+◌, ◌-◌, ◌≤◌, ◌<◌}
+use Prim.Native.Nat.{ℕ, zero, suc, ◌+◌, ◌-◌, ◌≤◌, ◌<◌, min}
 use native.Mathlib.Nat.{not-suc-le-zero, le_of_suc-le-suc}
 use native.Mathlib.Numerals.{add-one}
 use native.Mathlib.Omega.{arith}
 use mathlib.Core.Path.{◌≡◌, refl, ap, sym, subst, ◌∙◌}
-use mathlib.Core.Logic.{◌⊎◌, inl, inr}
 use mathlib.Core.Bool.{Bool, true, false, cond, ◌&&◌, false≢true}
 use mathlib.Core.List.{List, [], ◌∷◌, ◌++◌, map, map-append}
 use lib.ListN.{length, take, drop, get_or, set, replicate, length-map, length-append, length-set}
 use lib.Dec.{leb}
 use borrow.Author.Tests.{lt-leb, leb-true, leb-false}
-use lib.Seq.{slice, slice_empty, slice-cons, length-slice, take-suc, take-suc-set, drop-append-le, drop-drop, length-take-le, take_at, drop_at, take_all, get_or-drop, get_or-take}
+use lib.Seq.{slice, slice_empty, slice-cons, length-slice, take-suc, take-suc-set, drop-append-le, drop-drop, length-take-le, take_at, drop_at, take_all}
+use Rattle.std.proofs.lemmas.List.{drop-take}
 use Rattle.history.specs.declared.record.Kind.{Kind}
 use Rattle.history.specs.declared.record.Kind.TheVariants.{Register, Queue, Stack, Window, Channel}
 use Rattle.history.specs.declared.record.Op.{Op}
@@ -319,31 +319,23 @@ module _ (s : State) (a : Given) where
   }
 
 -- ---- the copy of a read
-pub copied-turn : (a l : List ℕ) (h t i : ℕ) → i < length a → h + i < t → t ≤ length l → take i a ≡ take i (slice h t l)
-    → take (i + 1) (set a i (get_or l (h + i) 0)) ≡ take (i + 1) (slice h t l)
-copied-turn a l h t i la lt le e =
-    let z : length (slice h t l) ≡ t - h = length-slice h t l le in
-    let p : take (suc i) (slice h t l) ≡ take i (slice h t l) ++ (get_or (slice h t l) i 0 ∷ []) =
-    take-suc (slice h t l) i 0 (omega arith) in
-    let g : get_or (slice h t l) i 0 ≡ get_or l (h + i) 0 = get_or-drop h (take t l) i 0 ∙ get_or-take t l (h + i) 0 lt in
-    rw (add-one, take-suc-set a i (get_or l (h + i) 0), e, p, g)
-
-copied_all : (l : List ℕ) (h t n : ℕ) → t ≤ length l → (n ≡ t - h) ⊎ (n ≡ 8) → length (slice h t l) ≤ 8
-    → take n (slice h t l) ≡ slice h t l
-copied_all l h t n le (inl e) few =
-    let z : length (slice h t l) ≡ t - h = length-slice h t l le in
-    take_all n (slice h t l) (omega arith)
-copied_all l h t n le (inr e) few = take_all n (slice h t l) (omega arith)
-
-pub read-answers : (s : State) (a : List ℕ) (n number : ℕ) → s.tail ≤ length s.numbers → (n ≡ s.tail - s.head) ⊎ (n ≡ 8) → n ≤ 8
-    → take n a ≡ take n (slice s.head s.tail s.numbers) → Answered s Read number (record { numbers = a; count = n })
+-- the first n values that the object holds, from the place `first` to the place `end`; the places behind them hold what they held
+pub read-answers : (s : State) (first end n : ℕ) (copied rest : List ℕ) → s.head ≤ s.tail → s.tail ≤ length s.numbers → first ≡ s.head → end ≡ s.tail
+    → n ≡ min (length (take (end - first) (drop first s.numbers))) 8 → copied ≡ take n (take (end - first) (drop first s.numbers)) → (number : ℕ)
+    → Answered s Read number (record { numbers = copied ++ rest; count = n })
 unfolding contents_of given_of
-read-answers s a n number room least few e = record {
-  few = few;
-  values = λ vs o k h.
-      ap (map (value_in vs))
-      (e ∙ copied_all s.numbers s.head s.tail n room least (omega (arith, h refl, length-map (held s) (value_in vs))));
-}
+read-answers s first end n copied rest ends room h t few copy number =
+    let t_is : s.tail ≡ s.head + (s.tail - s.head) = omega arith in
+    let are : take (end - first) (drop first s.numbers) ≡ held s =
+    rw (h, t) (sym (drop-take s.head (s.tail - s.head) s.numbers) ∙ ap (λ (k : ℕ). slice s.head k s.numbers) (sym t_is)) in
+    let n_is : n ≡ min (length (held s)) 8 = few ∙ ap (λ (l : List ℕ). min (length l) 8) are in
+    let first-n : take n (copied ++ rest) ≡ take n (held s) =
+    take_at copied rest n (ap length copy ∙ ap (λ (l : List ℕ). length (take n l)) are ∙ length-take-le n (held s) (omega (arith, n_is))) ∙ copy ∙ ap (take n) are in
+    record {
+      few = omega (arith, n_is);
+      values = λ vs o k e.
+          ap (map (value_in vs)) (first-n ∙ take_all n (held s) (omega (arith, n_is, e refl, length-map (held s) (value_in vs))));
+    }
 
 -- ---- the op that a match found
 pub at_op : {s : State} {op p : Op} {number : ℕ} {r : State} → op ≡ p → Changed s p number r → Changed s op number r

@@ -1,6 +1,6 @@
 // The state of an object in a replay: methods by value take an event and hand back state and answer (`step`), or one of the two
 // (`changed`, `answer`).
-ghost use Rattle.std.specs.Prelude.{◌≡◌, ℕ, ◌-◌, ◌≤◌, ◌<◌, ◌⊎◌, [], ◌∷◌, leb};
+ghost use Rattle.std.specs.Prelude.{◌≡◌, ℕ, ◌-◌, ◌≤◌, ◌<◌, [], ◌∷◌, leb};
 ghost use Rattle.objects.specs.State.{Fresh, Changed, Answered};
 ghost use Rattle.objects.specs.Steps.State.{Starts, Names, Shows};
 
@@ -9,6 +9,7 @@ use history::record::{EventNo, Kind, Object, Op};
 // What the object holds is the values of the events numbers[head..tail], oldest first. There is a place for each of 64 events, and one
 // for the number 64, which stands for the value 0 that a register starts with. Pop and peek take the newest of them, or the oldest.
 // The object holds at most `limit` values.
+// Kept: what may not change: the definitions Fresh and limit_for have the number 64 and the limit 255 as numbers.
 #[derive(Clone, Copy)]
 pub struct State {
     pub numbers: [u8; 65],
@@ -44,7 +45,7 @@ fn none() -> Given
     ensures { Names [] result }
 {
     Given {
-        numbers: [64u8; 8],
+        numbers: [64; 8],
         count: 0,
     }
 }
@@ -53,28 +54,9 @@ fn none() -> Given
 fn one(number: u8) -> Given
     ensures { Names (number ∷ []) result }
 {
-    let mut numbers = [64u8; 8];
+    let mut numbers = [64; 8];
     numbers[0] = number;
-    Given {
-        numbers: numbers,
-        count: 1,
-    }
-}
-
-// A number, but at most eight.
-fn at_most_eight(n: usize) -> usize
-    ensures { (result ≤ n) × (result ≤ 8) × ((result ≡ n) ⊎ (result ≡ 8)) }
-{
-    if n < 8 { n } else { 8 }
-}
-
-// Whether the values from `first` to `end` are as many as an object holds at most.
-fn is_full(first: u8, end: u8, limit: u8) -> bool
-    requires { first ≤ end }
-    ensures { result ≡ leb limit (end - first) }
-{
-    let n = end - first;
-    limit <= n
+    Given { numbers, count: 1 }
 }
 
 // A state of so many values of the start, and of at most `limit` values.
@@ -82,11 +64,11 @@ fn started(tail: u8, newest: bool, limit: u8) -> State
     ensures { Starts tail newest limit result }
 {
     State {
-        numbers: [64u8; 65],
+        numbers: [64; 65],
         head: 0,
-        tail: tail,
-        newest: newest,
-        limit: limit,
+        tail,
+        newest,
+        limit,
     }
 }
 
@@ -95,73 +77,63 @@ impl State {
     pub fn fresh(o: Object) -> State
         ensures { Fresh o result }
     {
-        let kind = o.kind;
-        match kind {
+        match o.kind {
             Kind::Register => started(1, false, 1),
             Kind::Queue => started(0, false, 255),
             Kind::Stack => started(0, true, 255),
-            Kind::Window => started(0, false, o.width),
-            Kind::Channel => started(0, false, o.width),
+            Kind::Window | Kind::Channel => started(0, false, o.width),
         }
+    }
+
+    // Whether the object holds as many values as it can.
+    fn is_full(self) -> bool
+        requires { self.head ≤ self.tail }
+        ensures { result ≡ leb self.limit (self.tail - self.head) }
+    {
+        self.limit <= self.tail - self.head
     }
 
     // Puts the event behind the newest, unless the object holds as many as it can.
-    fn pushed(self, no: EventNo) -> State
+    fn pushed(mut self, no: EventNo) -> State
         requires { (self.head ≤ self.tail) × (self.tail < 65) }
         ensures { Changed self Op.Push no.0 result }
     {
-        let mut s = self;
-        let first = s.head;
-        let end = s.tail;
-        if is_full(first, end, s.limit) {
-            return s;
+        if self.is_full() {
+            return self;
         }
-        let at = end as usize;
-        let number = no.0;
-        s.numbers[at] = number;
-        s.tail = end + 1;
-        s
+        self.numbers[usize::from(self.tail)] = no.0;
+        self.tail += 1;
+        self
     }
 
     // Puts the event behind the newest, and keeps the last ones where the object held as many as it can.
-    fn written(self, no: EventNo) -> State
+    fn written(mut self, no: EventNo) -> State
         requires { (self.head ≤ self.tail) × (self.tail < 65) }
         ensures { Changed self Op.Write no.0 result }
     {
-        let mut s = self;
-        let first = s.head;
-        let end = s.tail;
-        let at = end as usize;
-        let number = no.0;
-        s.numbers[at] = number;
-        s.tail = end + 1;
-        let limit = s.limit;
-        if is_full(first, end, limit) {
-            s.head = end + 1 - limit;
-            return s;
+        let full = self.is_full();
+        self.numbers[usize::from(self.tail)] = no.0;
+        self.tail += 1;
+        if full {
+            self.head = self.tail - self.limit;
         }
-        s
+        self
     }
 
     // Drops the event at the end that pop takes, if there is one.
-    fn popped(self) -> State
+    fn popped(mut self) -> State
         requires { (self.head ≤ self.tail) × (self.tail < 65) }
         ensures { (no : ℕ) → Changed self Op.Pop no result }
     {
-        let mut s = self;
-        let oldest = s.head;
-        let end = s.tail;
-        if oldest == end {
-            return s;
+        if self.head == self.tail {
+            return self;
         }
-        let newest = s.newest;
-        if newest {
-            s.tail = end - 1;
-            s
+        if self.newest {
+            self.tail -= 1;
         } else {
-            s.head = oldest + 1;
-            s
+            self.head += 1;
         }
+        self
     }
 
     // The state after the event.
@@ -169,14 +141,11 @@ impl State {
         requires { (self.head ≤ self.tail) × (self.tail < 65) }
         ensures { Changed self e.op e.no.0 result }
     {
-        let no = e.no;
-        let op = e.op;
-        match op {
-            Op::Write => self.written(no),
-            Op::Read => self,
-            Op::Push => self.pushed(no),
+        match e.op {
+            Op::Write => self.written(e.no),
+            Op::Push => self.pushed(e.no),
             Op::Pop => self.popped(),
-            Op::Peek => self,
+            Op::Read | Op::Peek => self,
         }
     }
 
@@ -185,19 +154,13 @@ impl State {
         requires { (self.head ≤ self.tail) × (self.tail ≤ 65) }
         ensures { Shows self result }
     {
-        let s = self;
-        let oldest = s.head as usize;
-        let end = s.tail as usize;
-        if oldest == end {
+        if self.head == self.tail {
             return none();
         }
-        if s.newest {
-            let at = end - 1;
-            let number = s.numbers[at];
-            one(number)
+        if self.newest {
+            one(self.numbers[usize::from(self.tail - 1)])
         } else {
-            let number = s.numbers[oldest];
-            one(number)
+            one(self.numbers[usize::from(self.head)])
         }
     }
 
@@ -206,21 +169,11 @@ impl State {
         requires { (self.head ≤ self.tail) × (self.tail ≤ 65) }
         ensures { (no : ℕ) → Answered self Op.Read no result }
     {
-        let s = self;
-        let first = s.head as usize;
-        let end = s.tail as usize;
-        let n = at_most_eight(end - first);
-        let mut numbers = [64u8; 8];
-        let mut i = 0;
-        while i < n {
-            let at = first + i;
-            numbers[i] = s.numbers[at];
-            i += 1;
-        }
-        Given {
-            numbers: numbers,
-            count: n,
-        }
+        let held = &self.numbers[usize::from(self.head)..usize::from(self.tail)];
+        let count = held.len().min(8);
+        let mut numbers = [64; 8];
+        numbers[..count].copy_from_slice(&held[..count]);
+        Given { numbers, count }
     }
 
     // What a push answers: its value where the object holds as many as it can, and else nothing.
@@ -228,14 +181,7 @@ impl State {
         requires { (self.head ≤ self.tail) × (self.tail ≤ 65) }
         ensures { Answered self Op.Push no.0 result }
     {
-        let s = self;
-        let first = s.head;
-        let end = s.tail;
-        if is_full(first, end, s.limit) {
-            let number = no.0;
-            return one(number);
-        }
-        none()
+        if self.is_full() { one(no.0) } else { none() }
     }
 
     // What the event answers: at most the first eight.
@@ -243,14 +189,11 @@ impl State {
         requires { (self.head ≤ self.tail) × (self.tail ≤ 65) }
         ensures { Answered self e.op e.no.0 result }
     {
-        let no = e.no;
-        let op = e.op;
-        match op {
+        match e.op {
             Op::Write => none(),
             Op::Read => self.read(),
-            Op::Push => self.push_answer(no),
-            Op::Pop => self.ended(),
-            Op::Peek => self.ended(),
+            Op::Push => self.push_answer(e.no),
+            Op::Pop | Op::Peek => self.ended(),
         }
     }
 
@@ -259,11 +202,9 @@ impl State {
         requires { (self.head ≤ self.tail) × (self.tail < 65) }
         ensures { Changed self e.op e.no.0 result.state × Answered self e.op e.no.0 result.answer }
     {
-        let state = self.changed(e);
-        let answer = self.answer(e);
         Step {
-            state: state,
-            answer: answer,
+            state: self.changed(e),
+            answer: self.answer(e),
         }
     }
 }

@@ -1,5 +1,6 @@
 -- What an op answers. Assumes nothing.
 use mathlib.Core.Path.{refl}
+use mathlib.Core.Logic.{inl, inr}
 use Rattle.history.specs.declared.record.Op.TheVariants.{Write, Pop, Peek}
 use Rattle.objects.proofs.StateLaws.{asked, none_answers, end-answers}
 use Rattle.objects.proofs.state.State.answer.Goals as goal
@@ -16,8 +17,7 @@ returns-in-Push c = asked c.in-Push.is c.push_answer.ensures
 
 pub returns-in-Pop : goal.returns-in-Pop
 returns-in-Pop c =
-    asked c.in-Pop.is (end-answers c.args.self c.ended.result Pop _ (λ o v l. refl) c.ended.ensures)
-
-pub returns-in-Peek : goal.returns-in-Peek
-returns-in-Peek c =
-    asked c.in-Peek.is (end-answers c.args.self c.ended-in-Peek.result Peek _ (λ o v l. refl) c.ended-in-Peek.ensures)
+    elim c.in-Pop.is [
+      | inl e ↦ asked e (end-answers c.args.self c.ended.result Pop _ (λ o v l. refl) c.ended.ensures)
+      | inr e ↦ asked e (end-answers c.args.self c.ended.result Peek _ (λ o v l. refl) c.ended.ensures)
+    ]

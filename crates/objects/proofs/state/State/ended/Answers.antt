@@ -1,18 +1,21 @@
 -- The value at the end that the kind says, if there is one. Assumes nothing.
 use native.Mathlib.Omega.{arith}
+use mathlib.Core.Path.{◌≡◌}
+use lib.ListN.{length}
+use borrow.Author.Rules.{rules}
 use Rattle.objects.proofs.StateLaws.{shows-none, shows-newest, shows-oldest}
 use Rattle.objects.proofs.state.State.ended.Goals as goal
 
-pub returns-then-oldest-end : goal.returns-then-oldest-end
-returns-then-oldest-end c =
-    shows-none c.args.self c.none.result c.requires.0 c.if-oldest-end.true c.none.ensures
+pub returns-then-self : goal.returns-then-self
+returns-then-self c = shows-none c.args.self c.none.result c.requires.0 c.if-self.true c.none.ensures
 
-pub returns-then-s : goal.returns-then-s
-returns-then-s c =
-    let len = c.well_formed.0.1.1.0.1.0.1 in
-    shows-newest c.args.self c.one.result c.requires.0 (omega arith) (omega arith) c.if-s.true c.one.ensures
+pub returns-then-self-2 : goal.returns-then-self-2
+returns-then-self-2 c =
+    let long : length c.args.self.numbers ≡ 65 = search rules in
+    shows-newest c.args.self c.one.result c.requires.0 (omega arith) (omega arith) c.if-self-2.true (rw c.from.ensures at c.one.ensures)
 
-pub returns-else-s : goal.returns-else-s
-returns-else-s c =
-    let len = c.well_formed.0.1.1.0.1.0.1 in
-    shows-oldest c.args.self c.one-else-s.result c.requires.0 (omega arith) (omega arith) c.if-s.false c.one-else-s.ensures
+pub returns-else-self-2 : goal.returns-else-self-2
+returns-else-self-2 c =
+    let long : length c.args.self.numbers ≡ 65 = search rules in
+    shows-oldest c.args.self c.one-else-self-2.result c.requires.0 (omega arith) (omega arith) c.if-self-2.false
+    (rw c.from-else-self-2.ensures at c.one-else-self-2.ensures)

@@ -1,6 +1,7 @@
 -- The state at the start. Assumes nothing.
 use mathlib.Core.Path.{refl}
 use mathlib.Core.Bool.{true, false}
+use mathlib.Core.Logic.{inl, inr}
 use native.Mathlib.Omega.{arith}
 use Rattle.history.specs.declared.record.Kind.TheVariants.{Register, Queue, Stack, Window, Channel}
 use Rattle.objects.proofs.StateLaws.{fresh-law}
@@ -20,8 +21,7 @@ returns-in-Stack c =
 
 pub returns-in-Window : goal.returns-in-Window
 returns-in-Window c =
-    fresh-law c.args.o Window c.started-in-Window.result 0 false _ c.in-Window.is (omega arith) c.started-in-Window.ensures refl refl refl
-
-pub returns-in-Channel : goal.returns-in-Channel
-returns-in-Channel c =
-    fresh-law c.args.o Channel c.started-in-Channel.result 0 false _ c.in-Channel.is (omega arith) c.started-in-Channel.ensures refl refl refl
+    elim c.in-Window.is [
+      | inl e ↦ fresh-law c.args.o Window c.started-in-Window.result 0 false _ e (omega arith) c.started-in-Window.ensures refl refl refl
+      | inr e ↦ fresh-law c.args.o Channel c.started-in-Window.result 0 false _ e (omega arith) c.started-in-Window.ensures refl refl refl
+    ]

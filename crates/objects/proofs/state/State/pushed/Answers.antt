@@ -1,14 +1,16 @@
 -- A push puts the number behind the newest, unless the object holds as many as it can. Assumes nothing.
-use mathlib.Core.Path.{sym, ◌∙◌}
+use mathlib.Core.Path.{◌≡◌, sym, ◌∙◌}
+use lib.ListN.{length}
+use borrow.Author.Rules.{rules}
 use Rattle.objects.proofs.StateLaws.{push-full, push-changes}
 use Rattle.objects.proofs.state.State.pushed.Goals as goal
 
 pub returns-then-is_full : goal.returns-then-is_full
 returns-then-is_full c =
-    push-full c.args.self c.requires.0 c.well_formed.0.1.1.0.1.0.1 c.requires.1 _
-    (sym c.is_full.ensures ∙ c.if-is_full.true)
+    let long : length c.args.self.numbers ≡ 65 = search rules in
+    push-full c.args.self c.requires.0 long c.requires.1 _ (sym c.is_full.ensures ∙ c.if-is_full.true)
 
 pub returns : goal.returns
 returns c =
-    push-changes c.args.self c.requires.0 c.well_formed.0.1.1.0.1.0.1 c.requires.1 _
-    (sym c.is_full.ensures ∙ c.if-is_full.false)
+    let long : length c.args.self.numbers ≡ 65 = search rules in
+    rw c.from.ensures (push-changes c.args.self c.requires.0 long c.requires.1 _ (sym c.is_full.ensures ∙ c.if-is_full.false))
