@@ -5,8 +5,10 @@ use mathlib.Core.Path.{◌≡◌, refl, sym, ap, ap₂, ◌∙◌, subst, fun_ex
 use mathlib.Core.Bool.{Bool, true, false, cond, ◌&&◌}
 use mathlib.Core.List.{List, [], map}
 use mathlib.Core.Option.{Option, none, some}
-use lib.ListN.{length, get_or, take, length-map, get_or-map}
-use lib.Seq.{get_or-take}
+use lib.ListN.{length, get_or, take, length-map, length-take, get_or-map}
+use native.Mathlib.Nat.{min-le_left}
+use lib.Seq.{get_or-take, length-take-le}
+use Rattle.std.specs.Prelude.{Result, Ok, Err}
 use lib.Dec.{ltb}
 use borrow.Author.Tests.{le-ltb}
 use Rattle.layout.proofs.Cases.{by-lt}
@@ -37,8 +39,10 @@ use Rattle.criteria.proofs.Check.{OfEvents, listed-events, program-causal}
 use Rattle.criteria.proofs.RecordLaws.{size_is, event-is, view-count, view-number, readable}
 use Rattle.orders.specs.Rows.{in_rows, IsOrder, ShortList, EventViews, view_at, program_in}
 use Rattle.orders.proofs.ProgramLaws.{program-is}
-use Rattle.faults.specs.Finding.{is_found}
+use Rattle.faults.specs.declared.finding.Finding.{Finding}
+use Rattle.faults.specs.Finding.{is_found, finding_of}
 use Rattle.faults.specs.Steps.{order_fault, view_fault}
+use Rattle.faults.proofs.RecordFacts.{number-count, number_at}
 use Rattle.faults.proofs.OrderLaws.{order-faults}
 use Rattle.faults.proofs.ViewedLaws.{view-faults}
 use Rattle.faults.proofs.ReplayedLaws.{view-begins}
@@ -80,15 +84,6 @@ answers-first x a r q e is = or-first x r e ∙ ap (λ (t : Option Fault). or t 
 answers_next : (x a r y : Option Fault) {k : Option Fault} → x ≡ a → is_found x ≡ false → k ≡ or a r → y ≡ r → y ≡ k
 answers_next x a r y q e is p = p ∙ sym (or-next x r e) ∙ ap (λ (t : Option Fault). or t r) q ∙ sym is
 
--- ---- the numbers of the views
-pub number-count : (x : ViewNumbers) (ns : List ℕ) → x ≡ view_numbers_of ns → x.count ≡ length ns
-unfolding view_numbers_of
-number-count x ns q = ap (λ (y : ViewNumbers). y.count) q
-
-pub number_at : (x : ViewNumbers) (ns : List ℕ) → x ≡ view_numbers_of ns → (k : ℕ) → get_or x.numbers k 0 ≡ get_or ns k 0
-unfolding view_numbers_of
-number_at x ns q k = ap (λ (y : ViewNumbers). get_or y.numbers k 0) q ∙ get_or-pad 64 0 ns k
-
 -- ---- the order of a certificate
 inside-by : (p : Bool) (h : History) (ps : List (List ℕ)) → length ps ≡ cond p (size h) 0 → ((k e : ℕ) → mem e (get_or ps k []) ≡ true → e < size h)
     → OfEvents h (order_by p h ps)
@@ -118,6 +113,12 @@ program-same n ps qs q a b =
     no-and false u x y e = refl
 
 -- ---- lists in arrays
+pub take-few : {A : Type 0} (n : ℕ) (xs : List A) → n ≤ 64 → length (take n xs) ≤ 64
+take-few n xs h = let a = length-take n xs in let b = min-le_left n (length xs) in omega (arith, a, b)
+
+pub taken : {A : Type 0} (n : ℕ) (xs : List A) (i : ℕ) → i < length (take n xs) → i < n
+taken n xs i l = let a = length-take n xs in let b = min-le_left n (length xs) in omega (arith, a, b)
+
 short-made : (xs : List ℕ) (n : ℕ) → n ≤ 64 → length xs ≤ n → ((i : ℕ) → i < length xs → get_or xs i 0 < n) → ShortList (event_list_of xs)
 unfolding event_list_of
 short-made xs n few le f = record {
@@ -156,11 +157,13 @@ module _ (h : WrittenHistory.History) (w : within h ≡ true) where
       ∙ sym (ap (λ (x : Event). x.process) (event-is h e (omega (arith, sound-h.events)))
       ∙ ap (λ x. x.process.0) (get_or-take h.count h.events e no_event k))
 
-  pub program-of : (ps : List ℕ) (program : List ℕ) → ((e : ℕ) → e < 64 → get_or ps e 0 ≡ (get_or h.events e no_event).process.0)
-      → IsOrder program (program_in h.count ps) → IsOrder program (program_order (history_of h))
-  program-of ps program q o a b =
+  pub program-of : (ps : List ℕ) (program : List ℕ) → length ps ≡ 64 → ((e : ℕ) → e < 64 → get_or ps e 0 ≡ (get_or h.events e no_event).process.0)
+      → IsOrder program (program_in (length (take h.count ps)) (take h.count ps)) → IsOrder program (program_order (history_of h))
+  program-of ps program long q o a b =
       o a b
-      ∙ program-same h.count ps (map (λ (x : Event). x.process) (history_of h).events) (λ e l. q e (omega (arith, few-of)) ∙ sym (process-of e l)) a b
+      ∙ ap (λ (n : ℕ). program_in n (take h.count ps) a b) (length-take-le h.count ps (omega (arith, long, few-of)))
+      ∙ program-same h.count (take h.count ps) (map (λ (x : Event). x.process) (history_of h).events)
+      (λ e l. get_or-take h.count ps e 0 l ∙ q e (omega (arith, few-of)) ∙ sym (process-of e l)) a b
       ∙ ap (λ (n : ℕ). program_in n (map (λ (x : Event). x.process) (history_of h).events) a b) (sym size_of)
       ∙ sym (program-is (history_of h) a b)
 
@@ -316,3 +319,44 @@ module _ (h : WrittenHistory.History) (w : within h ≡ true) where
             → z ≡ find16 c.criterion (history_of h) (in_rows order-rows) (beginnings (take numbers.count c.lengths) (take numbers.count rows))
             → z ≡ check (history_of h) lists
         replay-answers x y z q e p d r = answers_next x _ _ z q e check-is (answers_next y _ _ z p d refl r)
+
+-- ---- the steps, by what each of them promises
+module _ (h : WrittenHistory.History) (c : WrittenCertificate.Certificate) (rows : List (List ℕ)) (asked : (within h ≡ true) × (fits (events_in h) c rows ≡ true))
+    (named : ViewNumbers) (numbered : (named ≡ view_numbers_of (view_numbers c.criterion (events_in h))) × (named.count ≤ 64)) where
+  pub few-views : length (view_numbers c.criterion (events_in h)) ≤ 64
+  few-views = omega (arith, number-count named _ numbered.0, numbered.1)
+
+  module _ (processes : List ℕ) (long : length processes ≡ 64) (processed : (e : ℕ) → e < 64 → get_or processes e 0 ≡ (get_or h.events e no_event).process.0)
+      (program : List ℕ) (programmed : IsOrder program (program_in (length (take h.count processes)) (take h.count processes)))
+      (order-rows : List ℕ)
+      (ordered : (a b : ℕ) → in_rows order-rows a b ≡ cond (has_pasts c.criterion) (listed (map entries_in (take h.count c.pasts)) a b) (in_rows program a b))
+      (among : ℕ) (counted : among ≡ cond (has_pasts c.criterion) h.count 0)
+      (first : Result (Unit {0}) Finding) (first-is : finding_of first ≡ order_fault order-rows program among) where
+    is-program : IsOrder program (program_order (history_of h))
+    is-program = program-of h asked.0 processes program long processed programmed
+
+    first-found : finding_of first ≡ order_fault order-rows program (cond (has_pasts c.criterion) h.count 0)
+    first-found = first-is ∙ ap (order_fault order-rows program) counted
+
+    pub order-stops : (f : Finding) → first ≡ Err f → finding_of first ≡ check (history_of h) (certificate_of h c rows)
+    order-stops f e =
+        order-answers h asked.0 c rows asked.1 few-views program order-rows is-program ordered named numbered.0 processes processed
+        (finding_of first) first-found (ap (λ (r : Result (Unit {0}) Finding). is_found (finding_of r)) e)
+
+    module _ (u : Unit {0}) (passed : first ≡ Ok u)
+        (second : Result (Unit {0}) Finding)
+        (second-is : finding_of second
+        ≡ view_fault (event_each c.criterion) rows c.lengths named.numbers order-rows processes named.count (cond (is_strict c.criterion) named.count 0) h.count) where
+      pub views-stop : (f : Finding) → second ≡ Err f → finding_of second ≡ check (history_of h) (certificate_of h c rows)
+      views-stop f e =
+          view-answers h asked.0 c rows asked.1 few-views program order-rows is-program ordered named numbered.0 processes processed
+          (finding_of first) (finding_of second) first-found (ap (λ (r : Result (Unit {0}) Finding). is_found (finding_of r)) passed) second-is
+          (ap (λ (r : Result (Unit {0}) Finding). is_found (finding_of r)) e)
+
+      pub replay-stops : (v : Unit {0}) → second ≡ Ok v → (third : Result (Unit {0}) Finding)
+          → finding_of third ≡ find16 c.criterion (history_of h) (in_rows order-rows) (beginnings (take named.count c.lengths) (take named.count rows))
+          → finding_of third ≡ check (history_of h) (certificate_of h c rows)
+      replay-stops v e third third-is =
+          replay-answers h asked.0 c rows asked.1 few-views program order-rows is-program ordered named numbered.0 processes processed
+          (finding_of first) (finding_of second) (finding_of third) first-found (ap (λ (r : Result (Unit {0}) Finding). is_found (finding_of r)) passed) second-is
+          (ap (λ (r : Result (Unit {0}) Finding). is_found (finding_of r)) e) third-is

@@ -3,23 +3,24 @@ use Prim.Native.Nat.{ℕ, ◌≤◌}
 use native.Mathlib.Omega.{arith}
 use mathlib.Core.Path.{◌≡◌, refl, sym, ap, ◌∙◌}
 use mathlib.Core.Option.{Option, none, some}
+use Rattle.std.specs.Prelude.{Result, Ok, Err}
 use borrow.Author.Tests.{eq-eqb, ne_eqb}
 use Rattle.layout.proofs.Cases.{by-eq}
 use Rattle.criteria.specs.Check.{Fault, fault11, fault12, fault13, fault14, fault15, fault16, fault20, answer_of}
 use Rattle.faults.specs.declared.finding.Finding.{Finding}
-use Rattle.faults.specs.declared.finding.Finding.TheVariants.{Nothing, LacksOwn, InOwnPast, LacksPast, NotItsSet, Against, Wrong, OutsidePast}
+use Rattle.faults.specs.declared.finding.Finding.TheVariants.{LacksOwn, InOwnPast, LacksPast, NotItsSet, Against, Wrong, OutsidePast}
 use Rattle.faults.specs.Finding.{finding_of, or_none, number_in, finding_in}
 
 -- the answer of a finding tells it back
-pub finding-back : (f : Finding) → f ≡ finding_in (answer_of (finding_of f))
-finding-back Nothing = refl
-finding-back (LacksOwn e) = refl
-finding-back (InOwnPast e) = refl
-finding-back (LacksPast e) = refl
-finding-back (NotItsSet v) = refl
-finding-back (Against v) = refl
-finding-back (Wrong v e) = refl
-finding-back (OutsidePast v) = refl
+pub finding-back : (f : Result (Unit {0}) Finding) → f ≡ finding_in (answer_of (finding_of f))
+finding-back (Ok u) = refl
+finding-back (Err (LacksOwn e)) = refl
+finding-back (Err (InOwnPast e)) = refl
+finding-back (Err (LacksPast e)) = refl
+finding-back (Err (NotItsSet v)) = refl
+finding-back (Err (Against v)) = refl
+finding-back (Err (Wrong v e)) = refl
+finding-back (Err (OutsidePast v)) = refl
 
 -- and the finding of an answer tells the answer back
 pub fault-back : (x : Option Fault) → finding_of (finding_in (answer_of x)) ≡ x
@@ -42,11 +43,3 @@ value_in n = by-eq n 4294967295 (λ e. rw (eq-eqb n 4294967295 e) e) (λ e. rw (
 
 pub number-out : (n : ℕ) (x : Option ℕ) → number_in n ≡ x → n ≡ or_none x
 number-out n x q = value_in n ∙ ap or_none q
-
--- ---- the arms of a finding
-module _ (f : Finding) where
-  pub view-at : (g : Finding) (n : ℕ) → f ≡ g → (answer_of (finding_of g)).view ≡ some n → n ≤ 4294967294 → number_in n ≡ (answer_of (finding_of f)).view
-  view-at g n q e h = number_small n h ∙ sym (ap (λ (x : Finding). (answer_of (finding_of x)).view) q ∙ e)
-
-  pub event-at : (g : Finding) (n : ℕ) → f ≡ g → (answer_of (finding_of g)).event ≡ some n → n ≤ 4294967294 → number_in n ≡ (answer_of (finding_of f)).event
-  event-at g n q e h = number_small n h ∙ sym (ap (λ (x : Finding). (answer_of (finding_of x)).event) q ∙ e)

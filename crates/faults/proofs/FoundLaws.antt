@@ -1,12 +1,10 @@
 -- What a search for the lowest number gives to the search for what stands at it. Assumes nothing.
-use Prim.Native.Nat.{ℕ, zero, suc, ◌≤◌, ◌<◌}
+use Prim.Native.Nat.{ℕ, zero, suc, ◌<◌}
 use native.Mathlib.Omega.{arith}
 use mathlib.Core.Path.{◌≡◌, refl, sym, ap, ◌∙◌}
 use mathlib.Core.Bool.{Bool, true, false}
 use mathlib.Core.Option.{Option, none, some}
-use borrow.Author.Tests.{lt-ltb, le-ltb}
 use Rattle.criteria.specs.Tests.{or, found_if, lowest}
-use Rattle.orders.specs.Rows.{found_at}
 
 -- searches that agree below n find the same
 pub lowest-same : {A : Type 0} (n : ℕ) (f g : ℕ → Option A) → ((k : ℕ) → k < n → f k ≡ g k) → lowest n f ≡ lowest n g
@@ -37,8 +35,8 @@ module _ {A : Type 0} (t : ℕ → Bool) (F : ℕ → A) where
   moved-lowest zero = refl
   moved-lowest (suc n) = moved-or (lowest n (λ e. found_if (t e) e)) (found_if (t n) n) ∙ rw (moved-lowest n, moved-if (t n) n)
 
-  pub found_some : (n r : ℕ) → r < n → found_at n r ≡ lowest n (λ e. found_if (t e) e) → lowest n (λ e. found_if (t e) (F e)) ≡ some (F r)
-  found_some n r l q = let s : found_at n r ≡ some r = rw (lt-ltb r n l) refl in sym (moved-lowest n) ∙ ap moved (sym q ∙ s)
+  pub found_some : (n r : ℕ) → some r ≡ lowest n (λ e. found_if (t e) e) → lowest n (λ e. found_if (t e) (F e)) ≡ some (F r)
+  found_some n r q = sym (moved-lowest n) ∙ ap moved (sym q)
 
-  pub found_none : (n r : ℕ) → n ≤ r → found_at n r ≡ lowest n (λ e. found_if (t e) e) → lowest n (λ e. found_if (t e) (F e)) ≡ none
-  found_none n r l q = let s : found_at n r ≡ none = rw (le-ltb r n l) refl in sym (moved-lowest n) ∙ ap moved (sym q ∙ s)
+  pub found_none : (n : ℕ) → none ≡ lowest n (λ e. found_if (t e) e) → lowest n (λ e. found_if (t e) (F e)) ≡ none
+  found_none n q = sym (moved-lowest n) ∙ ap moved (sym q)

@@ -10,7 +10,7 @@ use Rattle.criteria.specs.Tests.{any, or, found_if, lowest}
 use Rattle.criteria.specs.History.{History, size, program_order}
 use Rattle.criteria.specs.Check.{Fault, fault11, fault12, fault13, lacks_own, lacks_past, find11, find12, find13}
 use Rattle.criteria.proofs.Check.{program-parts}
-use Rattle.orders.specs.Rows.{in_rows, found_at, IsOrder}
+use Rattle.orders.specs.Rows.{in_rows, IsOrder}
 use Rattle.orders.proofs.BitLaws.{any_same}
 use Rattle.orders.proofs.SizeLaws.{and_no, any-fewer, past-size}
 use Rattle.faults.specs.Steps.{order_fault}
@@ -26,28 +26,28 @@ own rows e = in_rows rows e e
 abbrev pub unclosed : List ℕ → ℕ → Bool
 unclosed rows e = lacks_past 64 (in_rows rows) e
 
--- the search of a test stopped at r
-abbrev pub Stopped : (ℕ → Bool) → ℕ → ℕ → Type 0
-Stopped t n r = found_at n r ≡ lowest n (λ e. found_if (t e) e)
+-- what the search of a test found
+abbrev pub Found : Option ℕ → (ℕ → Bool) → ℕ → Type 0
+Found r t n = r ≡ lowest n (λ e. found_if (t e) e)
 
-module _ (rows must : List ℕ) (n a : ℕ) (p : Stopped (lacks rows must) n a) where
-  pub is-11 : a < n → some (fault11 a) ≡ order_fault rows must n
+module _ (rows must : List ℕ) (n : ℕ) where
+  pub is-11 : (a : ℕ) → Found (some a) (lacks rows must) n → some (fault11 a) ≡ order_fault rows must n
   unfolding order_fault
-  is-11 l = rw (found_some (lacks rows must) fault11 n a l p) refl
+  is-11 a p = rw (found_some (lacks rows must) fault11 n a p) refl
 
-  module _ (b : ℕ) (l : n ≤ a) (q : Stopped (own rows) n b) where
-    pub is-12 : b < n → some (fault12 b) ≡ order_fault rows must n
+  module _ (p : Found none (lacks rows must) n) where
+    pub is-12 : (b : ℕ) → Found (some b) (own rows) n → some (fault12 b) ≡ order_fault rows must n
     unfolding order_fault
-    is-12 m = rw (found_none (lacks rows must) fault11 n a l p, found_some (own rows) fault12 n b m q) refl
+    is-12 b q = rw (found_none (lacks rows must) fault11 n p, found_some (own rows) fault12 n b q) refl
 
-    module _ (c : ℕ) (m : n ≤ b) (r : Stopped (unclosed rows) n c) where
-      pub is-13 : c < n → some (fault13 c) ≡ order_fault rows must n
+    module _ (q : Found none (own rows) n) where
+      pub is-13 : (c : ℕ) → Found (some c) (unclosed rows) n → some (fault13 c) ≡ order_fault rows must n
       unfolding order_fault
-      is-13 k = rw (found_none (lacks rows must) fault11 n a l p, found_none (own rows) fault12 n b m q, found_some (unclosed rows) fault13 n c k r) refl
+      is-13 c r = rw (found_none (lacks rows must) fault11 n p, found_none (own rows) fault12 n q, found_some (unclosed rows) fault13 n c r) refl
 
-      pub is-nothing : n ≤ c → none ≡ order_fault rows must n
+      pub is-nothing : Found none (unclosed rows) n → none ≡ order_fault rows must n
       unfolding order_fault
-      is-nothing k = rw (found_none (lacks rows must) fault11 n a l p, found_none (own rows) fault12 n b m q, found_none (unclosed rows) fault13 n c k r) refl
+      is-nothing r = rw (found_none (lacks rows must) fault11 n p, found_none (own rows) fault12 n q, found_none (unclosed rows) fault13 n r) refl
 
 module _ (h : History) (R : ℕ → ℕ → Bool) (rows must : List ℕ) (few : size h ≤ 64)
     (is-order : IsOrder rows R) (is-program : IsOrder must (program_order h))

@@ -15,13 +15,14 @@ use Rattle.criteria.specs.Certificate.{is_strict, view_count, view_number, view_
 use Rattle.criteria.specs.Check.{Fault, fault14, fault15, fault20, not_its_set, against, outside_past, find14, find15, find20}
 use Rattle.criteria.proofs.Lists.{flag-none, lowest-none, mem-get_or, take-mem, place_in}
 use Rattle.criteria.proofs.Check.{set-inside, true-where}
-use Rattle.orders.specs.Rows.{in_rows, found_at, view_at, IsOrder, EventViews}
+use Rattle.orders.specs.Rows.{in_rows, view_at, IsOrder, EventViews}
 use Rattle.orders.proofs.BitLaws.{any_same}
 use Rattle.orders.proofs.ViewLaws.{once-of-set}
 use Rattle.orders.proofs.SizeLaws.{set-size}
 use Rattle.orders.proofs.SearchLaws.{outside, set_same}
 use Rattle.faults.specs.Steps.{set_at, view_fault}
 use Rattle.faults.proofs.FoundLaws.{lowest-same, found_some, found_none}
+use Rattle.faults.proofs.OrderLaws.{Found}
 
 -- ---- what the three searches say of the fault
 module _ (each : Bool) (views : List (List ℕ)) (lengths numbers : List ℕ) (rows : List ℕ) (processes : List ℕ) (m strict n : ℕ) where
@@ -32,38 +33,36 @@ module _ (each : Bool) (views : List (List ℕ)) (lengths numbers : List ℕ) (r
   abbrev pub inverted : ℕ → Bool
   inverted k = against (in_rows rows) (view_at views lengths k)
 
-  pub fault-set : (a : ℕ) → a < m → found_at m a ≡ lowest m (λ k. found_if (not_set k) k)
-      → some (fault14 (get_or numbers a 0)) ≡ view_fault each views lengths numbers rows processes m strict n
+  pub fault-set : (a : ℕ) → Found (some a) not_set m → some (fault14 (get_or numbers a 0)) ≡ view_fault each views lengths numbers rows processes m strict n
   unfolding view_fault
-  fault-set a l q = rw (found_some not_set (λ k. fault14 (get_or numbers k 0)) m a l q) refl
+  fault-set a p = rw (found_some not_set (λ k. fault14 (get_or numbers k 0)) m a p) refl
 
-  module _ (a : ℕ) (none-set : m ≤ a) (sets : found_at m a ≡ lowest m (λ k. found_if (not_set k) k)) (b : ℕ) where
-    pub fault-against : b < m → found_at m b ≡ lowest m (λ k. found_if (inverted k) k)
+  module _ (p : Found none not_set m) where
+    pub fault-against : (b : ℕ) → Found (some b) inverted m
         → some (fault15 (get_or numbers b 0)) ≡ view_fault each views lengths numbers rows processes m strict n
     unfolding view_fault
-    fault-against h r =
-        rw (found_none not_set (λ k. fault14 (get_or numbers k 0)) m a none-set sets, found_some inverted (λ k. fault15 (get_or numbers k 0)) m b h r) refl
+    fault-against b q =
+        rw (found_none not_set (λ k. fault14 (get_or numbers k 0)) m p, found_some inverted (λ k. fault15 (get_or numbers k 0)) m b q) refl
 
-    module _ (none-against : m ≤ b) (orders : found_at m b ≡ lowest m (λ k. found_if (inverted k) k)) (d : ℕ)
-        (pasts : found_at strict d ≡ lowest strict (λ k. found_if (outside views lengths rows processes numbers k) k)) where
-      pub fault-outside : d < strict → some (fault20 (get_or numbers d 0)) ≡ view_fault each views lengths numbers rows processes m strict n
+    module _ (q : Found none inverted m) where
+      pub fault-outside : (d : ℕ) → Found (some d) (outside views lengths rows processes numbers) strict
+          → some (fault20 (get_or numbers d 0)) ≡ view_fault each views lengths numbers rows processes m strict n
       unfolding view_fault
-      fault-outside h =
-          rw (found_none not_set (λ k. fault14 (get_or numbers k 0)) m a none-set sets, found_none inverted (λ k. fault15 (get_or numbers k 0)) m b none-against orders)
-          (sym (found_some (outside views lengths rows processes numbers) (λ k. fault20 (get_or numbers k 0)) strict d h pasts))
+      fault-outside d r =
+          rw (found_none not_set (λ k. fault14 (get_or numbers k 0)) m p, found_none inverted (λ k. fault15 (get_or numbers k 0)) m q)
+          (sym (found_some (outside views lengths rows processes numbers) (λ k. fault20 (get_or numbers k 0)) strict d r))
 
-      pub fault-none : strict ≤ d → none ≡ view_fault each views lengths numbers rows processes m strict n
+      pub fault-none : Found none (outside views lengths rows processes numbers) strict → none ≡ view_fault each views lengths numbers rows processes m strict n
       unfolding view_fault
-      fault-none h =
-          rw (found_none not_set (λ k. fault14 (get_or numbers k 0)) m a none-set sets, found_none inverted (λ k. fault15 (get_or numbers k 0)) m b none-against orders)
-          (sym (found_none (outside views lengths rows processes numbers) (λ k. fault20 (get_or numbers k 0)) strict d h pasts))
+      fault-none r =
+          rw (found_none not_set (λ k. fault14 (get_or numbers k 0)) m p, found_none inverted (λ k. fault15 (get_or numbers k 0)) m q)
+          (sym (found_none (outside views lengths rows processes numbers) (λ k. fault20 (get_or numbers k 0)) strict r))
 
   -- each view is its set: none has an entry twice
-  pub once-views : (a : ℕ) → m ≤ a → found_at m a ≡ lowest m (λ k. found_if (not_set k) k) → EventViews views lengths m 64
-      → (k : ℕ) → k < m → (e : ℕ) → count e (view_at views lengths k) ≤ 1
-  once-views a l q s k h =
+  pub once-views : Found none not_set m → EventViews views lengths m 64 → (k : ℕ) → k < m → (e : ℕ) → count e (view_at views lengths k) ≤ 1
+  once-views p s k h =
       once-of-set (set_at each rows n k) (view_at views lengths k) inside
-      (flag-none (not_set k) k (lowest-none m (λ k. found_if (not_set k) k) (found_none not_set (λ k. k) m a l q) k h))
+      (flag-none (not_set k) k (lowest-none m (λ k. found_if (not_set k) k) (sym p) k h))
     where
       inside : (e : ℕ) → mem e (view_at views lengths k) ≡ true → e < 64
       inside e t =

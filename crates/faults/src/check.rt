@@ -8,13 +8,25 @@ ghost use Rattle.criteria.specs.Records.{history_of, certificate_of};
 ghost use Rattle.faults.specs.Finding.{finding_of};
 
 use crate::finding::Finding;
+use crate::order::{order_fault, order_rows, past_count, processes_of};
+use crate::replayed::replay_fault;
+use crate::viewed::view_fault;
+use certificate::numbers::view_numbers;
 use certificate::record::Certificate;
 use history::record::History;
+use orders::listed::program_rows;
 
 // The first of the faults 11 to 16, with 20 after 15, of a certificate, with the rows of its views beside it, for a history.
 pub fn check_records(h: History, c: Certificate, views: &[[u8; 64]; 64]) -> Result<(), Finding>
     requires { (within h ≡ true) × (fits (events_in h) c views.now ≡ true) }
     ensures { finding_of result ≡ check (history_of h) (certificate_of h c views.now) }
 {
-    check_records(h, c, views)
+    let n = h.count;
+    let named = view_numbers(c.criterion, &h.events[..n]);
+    let processes = processes_of(&h.events);
+    let program = program_rows(&processes[..n]);
+    let rows = order_rows(c.criterion, &c.pasts[..n], program);
+    order_fault(&rows, &program, past_count(c.criterion, n))?;
+    view_fault(&c, views, &named, &rows, processes, n)?;
+    replay_fault(&h, &c, views, &named, &rows)
 }

@@ -5,3 +5,5 @@
 pub mod check;
 pub mod finding;
 pub mod order;
+pub mod replayed;
+pub mod viewed;

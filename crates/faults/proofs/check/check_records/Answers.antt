@@ -1,0 +1,77 @@
+-- `check_records` meets its contract: what the first step with a fault finds is the answer. Assumes nothing.
+use Rattle.std.proofs.Common.{rules, arith, ◌≡◌, ◌≤◌, ◌<◌, ◌∙◌, ap, sym, subst, length, take, get_or}
+use Rattle.std.proofs.Math.Seq.{get_or-take}
+use Rattle.std.proofs.lemmas.Result.{err_from_is_err_and}
+use Rattle.certificate.specs.Record.{no_list}
+use Rattle.orders.specs.Rows.{ShortList}
+use Rattle.faults.specs.Finding.{finding_of}
+use Rattle.faults.proofs.RecordFacts.{process-small}
+use Rattle.faults.proofs.CheckLaws.{few-of, short-past, short-views, event-views, few-views, order-stops, views-stop, replay-stops, take-few, taken}
+use Rattle.faults.proofs.check.check_records.Goals as goal
+
+pub shared_ref_as_front-view_numbers : goal.shared_ref_as_front-view_numbers
+shared_ref_as_front-view_numbers c = few-of c.args.h c.requires.0
+
+pub program_rows-program-requires : goal.program_rows-program-requires
+program_rows-program-requires c =
+    let few = few-of c.args.h c.requires.0 in (
+      take-few c.args.h.count c.processes_of-processes.result few,
+      λ i l.
+          let k : i < c.args.h.count = taken c.args.h.count c.processes_of-processes.result i l in
+          rw (get_or-take c.args.h.count c.processes_of-processes.result i 0 k, c.processes_of-processes.ensures i (omega (arith, few, k))) (process-small c.args.h c.requires.0 i k),
+    )
+
+pub order_rows-rows-requires : goal.order_rows-rows-requires
+order_rows-rows-requires c =
+    let views = few-views c.args.h c.args.c c.args.views.now c.requires c.view_numbers-named.result c.view_numbers-named.ensures in (
+      take-few c.args.h.count c.args.c.pasts (few-of c.args.h c.requires.0),
+      λ e k l.
+          let i : k < c.args.h.count = taken c.args.h.count c.args.c.pasts k l in
+          rw (get_or-take c.args.h.count c.args.c.pasts k no_list i) (short-past c.args.h c.requires.0 c.args.c c.args.views.now c.requires.1 views k),
+    )
+
+pub returns-in_err-order_fault : goal.returns-in_err-order_fault
+returns-in_err-order_fault c =
+    let long : length c.processes_of-processes.result ≡ 64 = search rules in
+    let back = err_from_is_err_and c.from_residual.result c.from_residual.ensures.1 in
+    let is = order-stops c.args.h c.args.c c.args.views.now c.requires c.view_numbers-named.result c.view_numbers-named.ensures
+    c.processes_of-processes.result long c.processes_of-processes.ensures c.program_rows-program.result c.program_rows-program.ensures
+    c.order_rows-rows.result c.order_rows-rows.ensures c.past_count.result c.past_count.ensures
+    c.order_fault.result c.order_fault.ensures c.in_err-order_fault.field-0.0 c.in_err-order_fault.was in
+    rw (back.1, back.2) (ap finding_of (sym c.in_err-order_fault.was) ∙ is)
+
+pub view_fault-requires : goal.view_fault-requires
+view_fault-requires c =
+    let views = few-views c.args.h c.args.c c.args.views.now c.requires c.view_numbers-named.result c.view_numbers-named.ensures in (
+      c.view_numbers-named.ensures.1,
+      few-of c.args.h c.requires.0,
+      short-views c.args.h c.requires.0 c.args.c c.args.views.now c.requires.1 views c.view_numbers-named.result.count c.view_numbers-named.ensures.1,
+    )
+
+pub returns-in_err-view_fault : goal.returns-in_err-view_fault
+returns-in_err-view_fault c =
+    let long : length c.processes_of-processes.result ≡ 64 = search rules in
+    let back = err_from_is_err_and c.from_residual-in_err-view_fault.result c.from_residual-in_err-view_fault.ensures.1 in
+    let is = views-stop c.args.h c.args.c c.args.views.now c.requires c.view_numbers-named.result c.view_numbers-named.ensures
+    c.processes_of-processes.result long c.processes_of-processes.ensures c.program_rows-program.result c.program_rows-program.ensures
+    c.order_rows-rows.result c.order_rows-rows.ensures c.past_count.result c.past_count.ensures
+    c.order_fault.result c.order_fault.ensures _ c.in_ok-order_fault.was c.view_fault.result c.view_fault.ensures c.in_err-view_fault.field-0.0 c.in_err-view_fault.was in
+    rw (back.1, back.2) (ap finding_of (sym c.in_err-view_fault.was) ∙ is)
+
+pub replay_fault-requires : goal.replay_fault-requires
+replay_fault-requires c =
+    let views = few-views c.args.h c.args.c c.args.views.now c.requires c.view_numbers-named.result c.view_numbers-named.ensures in (
+      c.requires.0,
+      c.view_numbers-named.ensures.0,
+      c.view_numbers-named.ensures.1,
+      event-views c.args.h c.requires.0 c.args.c c.args.views.now c.requires.1 views c.view_numbers-named.result.count c.view_numbers-named.ensures.1,
+    )
+
+pub returns : goal.returns
+returns c =
+    let long : length c.processes_of-processes.result ≡ 64 = search rules in
+    replay-stops c.args.h c.args.c c.args.views.now c.requires c.view_numbers-named.result c.view_numbers-named.ensures
+    c.processes_of-processes.result long c.processes_of-processes.ensures c.program_rows-program.result c.program_rows-program.ensures
+    c.order_rows-rows.result c.order_rows-rows.ensures c.past_count.result c.past_count.ensures
+    c.order_fault.result c.order_fault.ensures _ c.in_ok-order_fault.was c.view_fault.result c.view_fault.ensures _ c.in_ok-view_fault.was
+    c.replay_fault.result c.replay_fault.ensures

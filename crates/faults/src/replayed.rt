@@ -1,0 +1,56 @@
+// Fault 16.
+ghost use Rattle.std.specs.Prelude.{◌≡◌, ◌≤◌, true, take};
+ghost use Rattle.history.specs.Record.{events_in};
+ghost use Rattle.history.specs.Readable.{within};
+ghost use Rattle.certificate.specs.Record.{beginnings};
+ghost use Rattle.certificate.specs.Criteria.{view_numbers};
+ghost use Rattle.certificate.specs.Steps.Numbers.{view_numbers_of};
+ghost use Rattle.criteria.specs.Check.{find16};
+ghost use Rattle.criteria.specs.Records.{history_of};
+ghost use Rattle.orders.specs.Rows.{in_rows, EventViews};
+ghost use Rattle.faults.specs.Finding.{finding_of};
+ghost use Rattle.faults.specs.Steps.{is_converge};
+
+use crate::finding::Finding;
+use certificate::numbers::ViewNumbers;
+use certificate::record::{Certificate, Criterion};
+use history::record::History;
+use objects::starts::starts;
+use orders::views::view_at;
+use replayed_views::cut::first_wrong_cut;
+use replayed_views::search::first_wrong;
+use replays::light::light_history;
+use replays::visible::visible_views;
+
+// Whether the criterion is converge.
+fn is_converge(c: Criterion) -> bool
+    ensures { result ≡ is_converge c }
+{
+    matches!(c, Criterion::Converge)
+}
+
+// 16 of the views of a certificate, whose numbers these are; `rows` are the order, which converge cuts its view by.
+pub(crate) fn replay_fault(
+    h: &History,
+    c: &Certificate,
+    views: &[[u8; 64]; 64],
+    named: &ViewNumbers,
+    rows: &[u64; 64],
+) -> Result<(), Finding>
+    requires { (within h.now ≡ true) × (named.now ≡ view_numbers_of (view_numbers c.now.criterion (events_in h.now))) × (named.now.count ≤ 64) × EventViews views.now c.now.lengths named.now.count h.now.count }
+    ensures { finding_of result ≡ find16 c.now.criterion (history_of h.now) (in_rows rows.now) (beginnings (take named.now.count c.now.lengths) (take named.now.count views.now)) }
+{
+    let history = light_history(h);
+    let begin = starts(h.objects);
+    if is_converge(c.criterion) {
+        return match first_wrong_cut(&history, begin, rows, view_at(views, &c.lengths, 0)) {
+            Some(e) => Err(Finding::Wrong(named.numbers[0], e)),
+            None => Ok(()),
+        };
+    }
+    let who = visible_views(c.criterion, named.numbers, history.events);
+    match first_wrong(&history, begin, views, c.lengths, named.count, who) {
+        Some(place) => Err(Finding::Wrong(named.numbers[place.view], place.event)),
+        None => Ok(()),
+    }
+}
