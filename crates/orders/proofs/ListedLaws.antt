@@ -79,7 +79,9 @@ past_small ps i d h short = rw (any-default ps i d no_list h) (few, λ k l. entr
 -- the first n pasts, where each of them is short
 pub short-first : (ps : List EventList) (n : ℕ) → n ≤ 64 → ((k : ℕ) → k < n → ShortList (get_or ps k no_list))
     → (length (take n ps) ≤ 64) × ((k : ℕ) → k < length (take n ps) → ShortList (get_or (take n ps) k no_list))
-short-first ps n few short =
-    (omega (arith, length-take n ps), λ k l.
-    let below : k < n = omega (arith, length-take n ps) in
-    rw (get_or-take n ps k no_list below) (short k below))
+short-first ps n few short = (
+  omega (arith, length-take n ps),
+  λ k l.
+      let below : k < n = omega (arith, length-take n ps) in
+      rw (get_or-take n ps k no_list below) (short k below),
+)

@@ -1,14 +1,10 @@
 -- The tests that the searches over rows make. Assumes nothing.
-use mathlib.Core.Path.{◌≡◌, refl, sym, ap, ◌∙◌}
-use mathlib.Core.Bool.{Bool, true, false, not, ◌&&◌, ◌||◌}
+use mathlib.Core.Path.{◌≡◌, refl}
+use mathlib.Core.Bool.{Bool, not, ◌&&◌}
 use mathlib.Core.List.{List}
-use Prim.Native.Nat.{ℕ, ◌+◌, ◌≤◌, ◌<◌}
-use native.Mathlib.Numerals.{add-one}
-use native.Mathlib.Omega.{arith}
+use Prim.Native.Nat.{ℕ}
 use lib.ListN.{get_or}
-use Rattle.criteria.specs.Tests.{any, lowest, found_if}
-use Rattle.criteria.proofs.Lists.{none-lowest}
-use Rattle.criteria.proofs.Loops.{lowest-found}
+use Rattle.criteria.specs.Tests.{any}
 use Rattle.criteria.specs.Check.{lacks_past}
 use Rattle.orders.specs.Rows.{in_row, in_rows}
 

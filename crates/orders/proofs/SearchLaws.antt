@@ -1,18 +1,16 @@
 -- What the searches over views need: the row of no events, and sets that are the same. Assumes nothing.
-use mathlib.Core.Path.{◌≡◌, refl, sym, ap, ◌∙◌}
+use mathlib.Core.Path.{◌≡◌, sym, ap, ◌∙◌}
 use mathlib.Core.Bool.{Bool, not, ◌||◌}
 use mathlib.Core.List.{List}
-use Prim.Native.Nat.{ℕ, ◌+◌}
+use Prim.Native.Nat.{ℕ}
 use native.Mathlib.Omega.{arith}
 use lib.Dec.{eqb, ltb}
 use lib.ListN.{get_or}
-use borrow.Author.Tests.{eq-eqb, ne_eqb, lt-ltb, le-ltb}
-use Rattle.layout.proofs.Cases.{by-eq, by-lt}
+use borrow.Author.Tests.{le-ltb}
 use Rattle.criteria.specs.Tests.{count, one}
 use Rattle.criteria.specs.Check.{not_its_set, against, outside_past}
 use Rattle.orders.specs.Rows.{in_row, in_rows, view_at}
 use Rattle.orders.proofs.BitLaws.{any_same, none_in}
-use Rattle.orders.proofs.ViewLaws.{More}
 
 -- tests that agree give the same set
 pub set_same : (n : ℕ) (P Q : ℕ → Bool) (v : List ℕ) → ((e : ℕ) → P e ≡ Q e) → not_its_set n P v ≡ not_its_set n Q v

@@ -1,8 +1,6 @@
 -- The lowest view that is not the past of its event, and that event. Assumes nothing.
-use Rattle.std.proofs.Common.{◌≡◌, ◌∙◌, ℕ, Bool, ◌||◌, eqb, get_or, rules}
+use Rattle.std.proofs.Common.{rules}
 use Rattle.std.proofs.lemmas.Iterator.{serves_from_Range}
-use Rattle.criteria.specs.Check.{not_its_set}
-use Rattle.orders.specs.Rows.{in_row, in_rows, view_at}
 use Rattle.orders.proofs.FindLaws.{lowest-from_find}
 use Rattle.orders.proofs.SearchLaws.{not_past, set_same}
 use Rattle.orders.proofs.ViewLaws.{small-view}

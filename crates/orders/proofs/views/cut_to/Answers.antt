@@ -1,5 +1,5 @@
 -- `cut_to` meets its contract: the events so far are those of the first entries that are kept. Assumes nothing.
-use Rattle.std.proofs.Common.{◌≡◌, ◌<◌, length, sym, ◌∙◌, arith, length-set}
+use Rattle.std.proofs.Common.{◌<◌, length, sym, ◌∙◌, arith, length-set}
 use Rattle.orders.proofs.CutLaws.{cut-kept, cut-left}
 use Rattle.orders.specs.Rows.{in_row}
 use Rattle.orders.proofs.views.cut_to.Goals as goal

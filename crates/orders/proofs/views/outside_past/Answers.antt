@@ -1,11 +1,10 @@
 -- An event outside the past before an own event: the entries so far are marked, and none of them is such an own event. Assumes nothing.
-use Rattle.std.proofs.Common.{◌≡◌, ℕ, Bool, ◌&&◌, ◌||◌, true, false, ◌∙◌, sym, ap, eqb, get_or, arith, rules, below_none, below_more}
+use Rattle.std.proofs.Common.{ℕ, Bool, ◌∙◌, sym, eqb, get_or, arith, below_none, below_more}
 use borrow.Author.Tests.{eq-eqb, eqb-true}
 use Rattle.layout.proofs.Cases.{true-and}
 use Rattle.criteria.proofs.Check.{false-and}
 use Rattle.orders.specs.Rows.{in_rows}
 use Rattle.orders.proofs.BitLaws.{none_in}
-use Rattle.orders.proofs.RowLaws.{apart}
 use Rattle.orders.proofs.ViewLaws.{mark-turn}
 use Rattle.orders.proofs.PastLaws.{outside-turn, outside_found, outside_nowhere}
 use Rattle.orders.proofs.views.outside_past.Goals as goal
