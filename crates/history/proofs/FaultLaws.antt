@@ -1,27 +1,15 @@
 -- Laws of the first fault of a line. Assumes nothing.
-use Prim.Native.Nat.{ℕ, ◌≤◌, ◌<◌}
+use Prim.Native.Nat.{ℕ, ◌<◌}
 use native.Mathlib.Omega.{arith}
-use mathlib.Core.Path.{◌≡◌, refl, ap₂}
-use mathlib.Core.Bool.{Bool, true, false, cond}
+use mathlib.Core.Path.{◌≡◌, refl}
+use mathlib.Core.Bool.{Bool, true, false}
 use mathlib.Core.List.{List}
 use lib.ListN.{length}
 use Rattle.layout.specs.Split.{split}
-use Rattle.layout.proofs.Cases.{by_bool}
 use Rattle.layout.proofs.SplitLaws.{split-some}
 use Rattle.history.specs.Faults.{first_fault}
 
 -- ---- the first fault
--- only what is judged counts: limits where the layout is in order, the rest where the limits are
-pub fault-same : (l m m' f f' g g' : Bool) → (l ≡ true → m ≡ m') → (l ≡ true → m' ≡ true → (f ≡ f') × (g ≡ g'))
-    → first_fault l m f g ≡ first_fault l m' f' g'
-unfolding first_fault
-fault-same false m m' f f' g g' p q = refl
-fault-same true m m' f f' g g' p q =
-    rw (p refl)
-    (by_bool m'
-    (λ e. rw e (ap₂ (λ (x y : Bool). cond x (cond y 0 5) 4) (q refl e).0 (q refl e).1))
-    (λ e. rw e))
-
 -- no fault
 pub record InOrder (l m f g : Bool) : Type 0 where
   pub layout : l ≡ true
@@ -40,10 +28,6 @@ fault-none false m f g e = absurd (omega arith)
 pub fault-zero : {l m f g : Bool} → InOrder l m f g → first_fault l m f g ≡ 0
 unfolding first_fault
 fault-zero {l} {m} {f} {g} o = rw (o.layout, o.limits, o.fits, o.long)
-
--- ---- an order that is no equality is strict
-pub strict : (a b : ℕ) → a ≤ b → (a ≡ b → ⊥) → a < b
-strict a b h n = omega arith
 
 -- ---- bytes that are cut have a first part
 pub some_part : (b : ℕ) (s : List ℕ) → 0 < length (split b s)

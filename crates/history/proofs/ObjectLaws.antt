@@ -1,32 +1,15 @@
 -- Laws of the line of an object. Assumes nothing.
-use Prim.Native.Nat.{ℕ, ◌+◌}
-use native.Mathlib.Omega.{arith}
+use Prim.Native.Nat.{ℕ}
 use mathlib.Core.Path.{◌≡◌}
-use mathlib.Core.Bool.{true, ◌&&◌}
+use mathlib.Core.Bool.{true}
 use mathlib.Core.List.{List, []}
 use lib.ListN.{length, get_or}
-use lib.Dec.{leb, ltb}
-use borrow.Author.Tests.{eq-eqb, ne_eqb, leb-true, leb-false, lt-ltb, le-ltb}
+use borrow.Author.Tests.{eq-eqb, ne_eqb}
 use Rattle.layout.specs.Split.{split}
-use Rattle.layout.specs.Word.{same}
-use Rattle.layout.specs.Number.{spell}
-use Rattle.layout.proofs.Cases.{by_bool, and_right}
-use Rattle.history.specs.Kinds.{is_kind}
-use Rattle.history.specs.Faults.{is_optional, object_layout, object_limits, object_fits, object_fault, faulty_object, object_three, object_fields, object_line}
+use Rattle.history.specs.Faults.{object_layout, object_limits, object_fits, object_fault, faulty_object, object_three, object_fields, object_line}
 use Rattle.history.proofs.FaultLaws.{InOrder, fault-none}
 
--- below the bound of a kind's widths is at most their limit
-pub limit_is : (v m bound : ℕ) → bound ≡ m + 1 → ltb v bound ≡ leb v m
-limit_is v m bound e =
-    by_bool (leb v m)
-    (λ h. rw h (lt-ltb v bound (omega (arith, leb-true v m h))))
-    (λ h. rw h (le-ltb v bound (omega (arith, leb-false v m h))))
-
 -- ---- the object, or its fault
-layout-width : (own : ℕ) (a k w : List ℕ) → object_layout own a k w ≡ true → is_optional w ≡ true
-unfolding object_layout
-layout-width own a k w l = and_right (same a (spell own) && is_kind k) (is_optional w) l
-
 module _ (own : ℕ) (a k w : List ℕ) where
   pub three-faulty : (object_fault own a k w ≡ 0 → ⊥) → object_three own a k w ≡ faulty_object (object_fault own a k w)
   unfolding object_three

@@ -4,7 +4,7 @@ use native.Mathlib.Nat.{sub-zero}
 use native.Mathlib.Numerals.{add-one}
 use native.Mathlib.Omega.{arith}
 use mathlib.Core.Path.{◌≡◌, refl, sym, ap, ◌∙◌}
-use mathlib.Core.List.{List, [], ◌∷◌, ◌++◌, append_assoc, append-nil}
+use mathlib.Core.List.{List, [], ◌∷◌, ◌++◌, append_assoc}
 use lib.ListN.{length, get_or, take, set, replicate, length-set, length-append, length-replicate, get_or-append, get_or-eq_default}
 use lib.Seq.{take-append_seam, set-append_seam, take-suc, take-suc-set, length-take-le, get_or-append-add}
 use Rattle.layout.proofs.Cases.{by-lt}
@@ -86,8 +86,3 @@ module _ {A : Type 0} {places : ℕ} {blank : A} {xs : List A} {n : ℕ} (f : Fi
           ∙ pad-set places blank (take n xs) n v (sym filled-count) h
           ∙ ap (pad places blank) (sym filled-take);
     }
-
--- a list that fills the array
-pub pad-full : {A : Type 0} (places : ℕ) (blank : A) (xs : List A) → length xs ≡ places → pad places blank xs ≡ xs
-unfolding pad
-pad-full places blank xs e = let k : places - length xs ≡ 0 = omega arith in rw k (append-nil xs)

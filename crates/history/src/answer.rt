@@ -14,7 +14,7 @@ pub fn no_answer() -> Answer
     Answer {
         lost: false,
         count: 0,
-        values: [0 as Value; 8],
+        values: [0; 8],
     }
 }
 
@@ -23,8 +23,7 @@ pub fn lost_answer() -> Answer
 {
     Answer {
         lost: true,
-        count: 0,
-        values: [0 as Value; 8],
+        ..no_answer()
     }
 }
 
@@ -33,7 +32,7 @@ fn narrow(items: &[u32]) -> Answer
     requires { (length items.now ≤ 8) × ((i : ℕ) → i < length items.now → get_or items.now i 0 < value_bound) }
     ensures { result ≡ answer_of items.now }
 {
-    let mut values = [0 as Value; 8];
+    let mut values: [Value; 8] = [0; 8];
     for (i, item) in items.iter().enumerate() {
         values[i] = *item as Value;
     }
