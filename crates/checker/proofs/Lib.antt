@@ -1,6 +1,7 @@
 pub mod ListTexts
 pub mod TextTheorems
 pub mod EventLaws
+pub mod AnswerLaws
 pub mod VerdictLaws
 pub mod MadeLaws
 pub mod LineTheorems

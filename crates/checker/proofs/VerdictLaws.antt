@@ -1,6 +1,7 @@
 -- What the check answers of two texts is the verdict of the definitions. Assumes nothing.
 use Rattle.std.specs.Prelude as code
-use Rattle.std.specs.Prelude.{Err}
+use Rattle.std.specs.Prelude.{Result, Ok, Err}
+use Rattle.std.specs.Result.{result_err}
 use Prim.Native.Nat.{ℕ, ◌-◌, ◌≤◌}
 use native.Mathlib.Omega.{arith}
 use mathlib.Core.Path.{◌≡◌, refl, sym, ap, ap₂, ◌∙◌, subst}
@@ -36,6 +37,7 @@ use Rattle.criteria.specs.History.{size}
 use Rattle.criteria.specs.Records.{history_of, certificate_of}
 use Rattle.criteria.proofs.RecordLaws.{size_is}
 use Rattle.faults.specs.declared.finding.Finding.{Finding}
+use Rattle.faults.specs.Finding.{finding_of}
 use Rattle.checker.specs.CheckText.{Verdict, refused, checked, place_of, found_in, history_read, rows_of, certificate_read, check_text, carried_line}
 use Rattle.checker.specs.Verdict.{found_of, checked_as, verdict_of}
 use Rattle.checker.proofs.TextTheorems.{checked-as, refused_as, lists-readable}
@@ -47,6 +49,11 @@ pub found-is : (history : List ℕ) (declared : ℕ) (c : Criterion) (p : code.O
     → place_in p ≡ place_of history declared (answer_of (found_of f)).event
     → checked_as record { criterion = c; finding = f; place = p } ≡ found_in history declared c (found_of f)
 found-is history declared c p f q = ap (λ (x : Place). checked x c (answer_of (found_of f))) q
+
+-- what the check of two records finds, if anything
+pub found-err : (r : Result (Unit {0}) Finding) → found_of (result_err r) ≡ finding_of r
+found-err (Ok u) = refl
+found-err (Err f) = refl
 
 -- no fault has the number 0
 pub fault-some : (f : Faulty.Fault) → fault_number f ≡ 0 → ⊥

@@ -1,5 +1,8 @@
 -- `carried_line` meets its contract: the place that an answer has lies within the text that it is in. Assumes nothing.
-use Rattle.std.proofs.Common.{rules, ◌≡◌, refl, sym, ◌∙◌, ap}
+use Rattle.std.proofs.Common.{◌≡◌, refl, sym, ap, ◌∙◌}
+use Rattle.history_reader.specs.Place.{line_place}
+use Rattle.certificate_reader.proofs.TwoTextLaws.{PlacedIn}
+use Rattle.checker.specs.CheckText.{Verdict, check_text}
 use Rattle.checker.proofs.VerdictLaws.{answer-placed, carried-part, carried_none}
 use Rattle.checker.proofs.check.carried_line.Goals as goal
 
