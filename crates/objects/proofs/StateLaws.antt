@@ -23,10 +23,6 @@ use Rattle.objects.specs.Steps.State.{Starts, Names, Shows}
 use Rattle.objects.specs.declared.state.State.{State}
 use Rattle.objects.specs.declared.state.Given.{Given}
 
--- The length of an array that is a field, from what owning the struct tells.
-pub plain : {n : ℕ} (l : List ℕ) → length (map (λ v. v) l) ≡ n → length l ≡ n
-plain l h = sym (length-map l (λ v. v)) ∙ h
-
 -- ---- a map over what an op makes of a list and what it answers
 module _ (f : ℕ → ℕ) where
   map-take : (n : ℕ) (l : List ℕ) → map f (take n l) ≡ take n (map f l)

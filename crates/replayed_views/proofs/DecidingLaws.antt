@@ -80,10 +80,10 @@ decides-on h before p a view e entries below shows on s right-yet =
     λ x l. ap (λ (y : Event). y.process) (event-at h x l) in
     let whole : view ≡ a ++ drop (length a) view = on.begins in
     let inside : (f : ℕ) → mem f (drop (length a) view) ≡ true → f < h.size = λ f t.
-        let q = place_in f (drop (length a) view) t in
-        let i = length a + place f (drop (length a) view) in
-        let z : get_or view i 0 ≡ f = sym (get_or-drop (length a) view (place f (drop (length a) view)) 0) ∙ q.1 in
-        rw z at (entries i (omega (arith, q.0, length-drop (length a) view))) in
+    let q = place_in f (drop (length a) view) t in
+    let i = length a + place f (drop (length a) view) in
+    let z : get_or view i 0 ≡ f = sym (get_or-drop (length a) view (place f (drop (length a) view)) 0) ∙ q.1 in
+    rw z at (entries i (omega (arith, q.0, length-drop (length a) view))) in
     ap (first_wrong (history_in h) (own (history_in h) p.0) s) whole
     ∙ goes_on (history_in h) (own (history_in h) p.0) e s a (drop (length a) view) (eq-eqb (process (history_in h) e) p.0 (its e below ∙ on.own))
     (sym (shown (history_in h) before p.0 s a shows) ∙ right-yet)

@@ -28,12 +28,7 @@ pub(crate) fn object_rows(events: &[Light; 64]) -> [u64; 16]
 }
 
 // Event e, where its answer is not what the replay of the part gives. The part holds events of e's object.
-fn replay_object(
-    history: &LightHistory,
-    start: State,
-    part: &[u8],
-    e: EventNo,
-) -> Option<EventNo>
+fn replay_object(history: &LightHistory, start: State, part: &[u8], e: EventNo) -> Option<EventNo>
     requires { ReadyKept history.now start part.now (λ f. mem f part.now) e.0 }
     ensures { found_event result ≡ one_wrong (history_in history.now) e.0 (get_or history.now.events e.0 no_light).object (contents_of history.now.values start) part.now }
 {

@@ -3,10 +3,9 @@ ghost use Rattle.std.specs.Prelude.{◌≡◌, ℕ, ◌<◌, get_or};
 ghost use Rattle.replays.specs.Visible.{visible_in, visible_at};
 ghost use Rattle.replays.specs.Visible.{no_visible};
 
-use core::array;
-
 use crate::replay::{Light, Visible};
 use certificate::record::Criterion;
+use core::array;
 use history::record::{EventNo, ProcessNo};
 
 // Of the view at the place k: its number is `number`, and `process` is the process of event k.
@@ -14,12 +13,10 @@ fn visible_in(c: Criterion, number: u8, process: ProcessNo, k: u8) -> Visible
     ensures { result ≡ visible_in c number process.0 k }
 {
     match c {
-        Criterion::Pram => Visible::Of(ProcessNo(number)),
-        Criterion::Weak => Visible::Only(EventNo(k)),
+        Criterion::Pram | Criterion::Strict => Visible::Of(ProcessNo(number)),
         Criterion::Causal => Visible::Of(process),
-        Criterion::Converge => Visible::Only(EventNo(k)),
+        Criterion::Weak | Criterion::Converge => Visible::Only(EventNo(k)),
         Criterion::Sequential => Visible::All,
-        Criterion::Strict => Visible::Of(ProcessNo(number)),
     }
 }
 
