@@ -18,6 +18,7 @@ fn good_object(o: Object) -> bool
 }
 
 // Whether a place for an object is blank.
+#[tactic(auto, unfolding(history::specs::Readable::blank_object))]
 fn blank_object(o: Object) -> bool
     ensures { result ≡ blank_object o }
 {
@@ -64,6 +65,7 @@ fn good_answer(object: Object, op: Op, a: Answer) -> bool
 }
 
 // Whether an op has the value: a value where it takes one, and 0 elsewhere.
+#[tactic(auto, unfolding(history::specs::Readable::good_value))]
 fn good_value(op: Op, v: Value) -> bool
     ensures { result ≡ good_value op v }
 {

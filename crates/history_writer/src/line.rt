@@ -81,6 +81,7 @@ fn put_answer(part: &mut [u8], a: Answer) -> usize
 }
 
 // How many bytes a field has.
+#[tactic(auto, unfolding(crate::specs::Steps::Lines::field_text))]
 fn field_len(field: Field) -> usize
     ensures { (result ≡ length (field_text field)) × (result ≤ 704) }
 {
@@ -94,6 +95,7 @@ fn field_len(field: Field) -> usize
 }
 
 // Writes a field into a part that has room.
+#[tactic(auto, unfolding(crate::specs::Steps::Lines::field_text))]
 fn put_field(part: &mut [u8], field: Field) -> usize
     requires { length (field_text field) ≤ length part.old }
     ensures { (result ≡ length (field_text field)) × (part.new ≡ fill (field_text field) part.old) }

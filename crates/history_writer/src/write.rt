@@ -1,10 +1,7 @@
 // Writing a history: the text of a record in the first bytes of a lent buffer.
-ghost use Rattle.std.specs.Prelude.{◌≡◌, ◌≤◌, ◌<◌, [], ◌∷◌, ◌++◌, true, cond, length, get_or};
+ghost use Rattle.std.specs.Prelude.{◌≡◌, ◌≤◌, ◌<◌, cond, length};
 ghost use Rattle.layout.specs.Fill.{fill};
-ghost use Rattle.history.specs.Record.{no_object, no_event};
-ghost use Rattle.history.specs.HistoryText.{object_text, event_text, history_text};
-ghost use Rattle.history.specs.Readable.{within};
-ghost use Rattle.history_writer.specs.Steps.Lines.{object_fields_of, event_fields_of};
+ghost use Rattle.history_writer.specs.Steps.Lines.{object_fields_of, event_fields_of, object_piece, event_piece, text_bytes};
 ghost use Rattle.history_writer.specs.WriteHistory.{write_fault_number, written_of, history_written, history_after};
 
 use crate::limits::is_within;
@@ -46,6 +43,7 @@ fn number_or_dash(wanted: bool, n: u32) -> Field
 }
 
 // The three fields of an object's line.
+#[tactic(auto, unfolding(crate::specs::Steps::Lines::object_fields_of))]
 fn object_fields(own: u32, o: Object) -> [Field; 3]
     ensures { result ≡ object_fields_of own o }
 {
@@ -57,6 +55,7 @@ fn object_fields(own: u32, o: Object) -> [Field; 3]
 }
 
 // The six fields of an event's line.
+#[tactic(auto, unfolding(crate::specs::Steps::Lines::event_fields_of))]
 fn event_fields(own: u32, e: Event) -> [Field; 6]
     ensures { result ≡ event_fields_of own e }
 {
@@ -77,7 +76,7 @@ struct ObjectLines<'a> {
 }
 
 impl Pieces for ObjectLines<'_> {
-    ghost piece = { λ s i. object_text i (get_or s.objects.now i no_object) ++ 10 ∷ [] };
+    ghost piece = { λ s i. object_piece s.objects.now i };
 
     ghost stands = { λ s i. (i < length s.objects.now) × (i < 64) };
 
@@ -101,7 +100,7 @@ struct EventLines<'a> {
 }
 
 impl Pieces for EventLines<'_> {
-    ghost piece = { λ s i. event_text i (get_or s.events.now i no_event) ++ 10 ∷ [] };
+    ghost piece = { λ s i. event_piece s.events.now i };
 
     ghost stands = { λ s i. (i < length s.events.now) × (i < 64) };
 
@@ -118,10 +117,10 @@ impl CountedPieces for EventLines<'_> {
     }
 }
 
-// How many bytes the text of a record within its limits has.
-fn history_len(h: History) -> usize
-    requires { within h ≡ true }
-    ensures { result ≡ length (history_text h) }
+// How many bytes the text of a record has.
+fn history_len(h: &History) -> usize
+    requires { (h.now.declared ≤ 16) × (h.now.count ≤ 64) }
+    ensures { result ≡ length (text_bytes h.now) }
 {
     let objects = ObjectLines {
         objects: &h.objects,
@@ -133,10 +132,10 @@ fn history_len(h: History) -> usize
         + pieces_len(&events, h.count)
 }
 
-// Writes the text of a record within its limits into a part that has room.
-fn put_history(part: &mut [u8], h: History) -> usize
-    requires { (within h ≡ true) × (length (history_text h) ≤ length part.old) }
-    ensures { (result ≡ length (history_text h)) × (part.new ≡ fill (history_text h) part.old) }
+// Writes the text of a record into a part that has room.
+fn put_history(part: &mut [u8], h: &History) -> usize
+    requires { (h.now.declared ≤ 16) × (h.now.count ≤ 64) × (length (text_bytes h.now) ≤ length part.old) }
+    ensures { (result ≡ length (text_bytes h.now)) × (part.new ≡ fill (text_bytes h.now) part.old) }
 {
     let objects = ObjectLines {
         objects: &h.objects,
@@ -154,10 +153,10 @@ pub fn write_history(buf: &mut [u8], h: History) -> Result<usize, WriteFault>
     if !is_within(h) {
         return Err(WriteFault::OutsideLimits);
     }
-    let n = history_len(h);
+    let n = history_len(&h);
     if buf.len() < n {
         return Err(WriteFault::TooShort);
     }
-    put_history(buf, h);
+    put_history(buf, &h);
     Ok(n)
 }

@@ -1,11 +1,14 @@
 -- The fields of a line as they are written.
-use Rattle.std.specs.Prelude.{ℕ, cond, List, [], ◌∷◌}
-use Rattle.layout.specs.Word.{dash}
+use Rattle.std.specs.Prelude.{ℕ, cond, List, [], ◌∷◌, ◌++◌, get_or}
+use Rattle.layout.specs.Word.{dash, object_heading, event_heading}
 use Rattle.layout.specs.Number.{spell}
+use Rattle.layout.specs.Pieces.{pieces_from}
 use Rattle.history.specs.Kinds.{kind_word, op_word, has_width, takes_value}
-use Rattle.history.specs.HistoryText.{answer_text}
+use Rattle.history.specs.Record.{no_object, no_event}
+use Rattle.history.specs.HistoryText.{answer_text, object_text, event_text}
 use Rattle.history.specs.declared.record.Object.{Object}
 use Rattle.history.specs.declared.record.Event.{Event}
+use Rattle.history.specs.declared.record.History.{History}
 use Rattle.history_writer.specs.declared.line.Field.{Field}
 use Rattle.history_writer.specs.declared.line.Field.TheVariants.{Dash, Number, Kind, Op, Answer}
 
@@ -24,3 +27,20 @@ object_fields_of own o = Number own ∷ Kind o.kind ∷ cond (has_width o.kind) 
 unfoldable pub event_fields_of : ℕ → Event → List Field
 event_fields_of own e =
     Number own ∷ Number e.process.0 ∷ Number e.object ∷ Op e.op ∷ cond (takes_value e.op) (Number e.value) Dash ∷ Answer e.answer ∷ []
+
+-- The line of the object i and of the event i, their line feeds too.
+abbrev pub object_piece : List Object → ℕ → List ℕ
+object_piece os i = object_text i (get_or os i no_object) ++ 10 ∷ []
+
+abbrev pub event_piece : List Event → ℕ → List ℕ
+event_piece es i = event_text i (get_or es i no_event) ++ 10 ∷ []
+
+-- The whole text: the objects with their heading, and the events with theirs.
+abbrev pub objects_bytes : History → List ℕ
+objects_bytes h = (object_heading ++ 10 ∷ []) ++ pieces_from (object_piece h.objects) 0 h.declared
+
+abbrev pub events_bytes : History → List ℕ
+events_bytes h = (event_heading ++ 10 ∷ []) ++ pieces_from (event_piece h.events) 0 h.count
+
+abbrev pub text_bytes : History → List ℕ
+text_bytes h = objects_bytes h ++ events_bytes h
