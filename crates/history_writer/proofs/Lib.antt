@@ -1,2 +1,3 @@
 pub mod LimitLaws
 pub mod PieceLaws
+pub mod WriteLaws

@@ -39,7 +39,11 @@ impl WriteFault {
 fn number_or_dash(wanted: bool, n: u32) -> Field
     ensures { result ≡ cond wanted (Field.Number n) Field.Dash }
 {
-    if wanted { Field::Number(n) } else { Field::Dash }
+    if wanted {
+        Field::Number(n)
+    } else {
+        Field::Dash
+    }
 }
 
 // The three fields of an object's line.

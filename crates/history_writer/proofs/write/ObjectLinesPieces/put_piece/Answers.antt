@@ -1,0 +1,13 @@
+-- `put_piece` of objects' lines meets its contract. Assumes nothing.
+use Rattle.std.proofs.Common.{List, ℕ, ap, ◌∙◌, arith, length}
+use Rattle.layout.specs.Fill.{fill}
+use Rattle.history_writer.proofs.PieceLaws.{object_line}
+use Rattle.history_writer.proofs.write.ObjectLinesPieces.put_piece.Goals as goal
+
+pub put_line-requires : goal.put_line-requires
+put_line-requires c = omega (arith, c.requires.1, ap length (object_line c.args.self.now.objects.now c.args.i _ c.requires.0.0 c.object_fields.result c.object_fields.ensures))
+
+pub returns : goal.returns
+returns c =
+    let e = object_line c.args.self.now.objects.now c.args.i _ c.requires.0.0 c.object_fields.result c.object_fields.ensures in
+    (c.put_line.ensures.0 ∙ ap length e, c.put_line.ensures.1 ∙ ap (λ (t : List ℕ). fill t c.args.part.now) e)
