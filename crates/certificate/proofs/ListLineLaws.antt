@@ -21,12 +21,6 @@ use Rattle.certificate.specs.Record.{no_list, event_list_of}
 use Rattle.certificate.specs.Faults.{rising, list_layout, list_limits, pair_fault, list_fault, list_said}
 use Rattle.certificate.specs.Steps.Lists.{list_with, pair_read, list_read}
 
-pub rising-one : (xs : List ℕ) → length xs ≤ 1 → rising xs ≡ true
-unfolding rising
-rising-one [] h = refl
-rising-one (x ∷ []) h = refl
-rising-one (x ∷ y ∷ xs) h = absurd (omega arith)
-
 -- ---- the two fields of a line
 module _ (past : Bool) (count own : ℕ) (a s : List ℕ) where
   pub pair-number : same a (spell own) ≡ false → record { fault = 2; list = no_list } ≡ pair_read past count own a s

@@ -6,7 +6,8 @@ use mathlib.Core.Path.{◌≡◌, refl, sym, ap, ◌∙◌, subst}
 use mathlib.Core.Bool.{Bool, true, false, not, ◌||◌, or-true}
 use mathlib.Core.List.{List, [], ◌∷◌, ◌++◌, append_assoc}
 use lib.ListN.{length, get_or, take, drop, set, replicate, length-append, length-drop}
-use lib.Seq.{take_at}
+use lib.Seq.{take_at, take_all}
+use Rattle.std.proofs.lemmas.List.{get_or-drop}
 use lib.Dec.{leb, ltb}
 use borrow.Author.Tests.{lt-ltb, le-ltb, le-leb, leb-true}
 use Rattle.layout.specs.Split.{find}
@@ -34,19 +35,41 @@ use Rattle.certificate.specs.Steps.Next.{NextList, ending_at, next_read, Good, L
 use Rattle.certificate.proofs.LineTextLaws.{line-without, good-fault, line-said}
 
 -- ---- a number of one digit or of two at a place
-module _ (s : List ℕ) (a : ℕ) (h : a + 1 < length s) (p : 48 ≤ get_or s a 0) (q : get_or s a 0 ≤ 57) where
-  pub entry-one : Stands (spell (get_or s a 0 - 48)) a (a + 1) s
-  entry-one =
-      rw (spell-low (get_or s a 0 - 48) [] (omega arith)) (byte-stands s a _ (omega arith) (omega arith))
+module _ (s : List ℕ) (a : ℕ) (start : a ≤ length s) where
+  -- what is left of s, as a slice of it reads
+  abbrev left : List ℕ
+  left = take (length s - a) (drop a s)
 
-  pub entry-two : 48 ≤ get_or s (a + 1) 0 → get_or s (a + 1) 0 ≤ 57 → (get_or s a 0 ≡ 48 → ⊥)
-      → Stands (spell ((get_or s a 0 - 48) * 10 + (get_or s (a + 1) 0 - 48))) a (a + 2) s
-  entry-two t u n =
-      let v : ℕ = (get_or s a 0 - 48) * 10 + (get_or s (a + 1) 0 - 48) in
-      let m : a + 1 + 1 ≡ a + 2 = omega arith in
-      let w : spell v ≡ (48 + v / 10) ∷ (48 + v % 10) ∷ [] =
-      spell_high v [] (omega arith) ∙ spell-low (v / 10) ((48 + v % 10) ∷ []) (omega arith) in
-      rw (w, ← m) (stands-then (byte-stands s a _ (omega arith) (omega arith)) (byte-stands s (a + 1) _ h (omega arith)))
+  rest : left ≡ drop a s
+  rest = take_all (length s - a) (drop a s) (omega (arith, length-drop a s))
+
+  left_at : (k : ℕ) → get_or left k 0 ≡ get_or s (a + k) 0
+  left_at k = ap (λ (l : List ℕ). get_or l k 0) rest ∙ get_or-drop a s k 0
+
+  module _ (long : 2 ≤ length left) (p : 48 ≤ get_or left 0 0) (q : get_or left 0 0 ≤ 57) (v : ℕ) (is : v ≡ get_or left 0 0 - 48) where
+    room : a + 2 ≤ length s
+    room = omega (arith, ap length rest, length-drop a s)
+
+    first : get_or s a 0 ≡ get_or left 0 0
+    first = let z : a + 0 ≡ a = omega arith in ap (λ (i : ℕ). get_or s i 0) (sym z) ∙ sym (left_at 0)
+
+    pub entry-one : (v < 100) × Stands (spell v) a (a + 1) s
+    entry-one = (
+      omega arith,
+      rw (spell-low v [] (omega arith)) (byte-stands s a _ (omega (arith, room)) (omega (arith, first))),
+    )
+
+    pub entry-two : 48 ≤ get_or left 1 0 → get_or left 1 0 ≤ 57 → (w : ℕ) → w ≡ get_or left 1 0 - 48 → (v ≡ 0 → ⊥)
+        → (v * 10 + w < 100) × Stands (spell (v * 10 + w)) a (a + 2) s
+    entry-two t u w second n =
+        let m : a + 1 + 1 ≡ a + 2 = omega arith in
+        let e : spell (v * 10 + w) ≡ (48 + (v * 10 + w) / 10) ∷ (48 + (v * 10 + w) % 10) ∷ [] =
+        spell_high (v * 10 + w) [] (omega arith) ∙ spell-low ((v * 10 + w) / 10) ((48 + (v * 10 + w) % 10) ∷ []) (omega arith) in (
+          omega arith,
+          rw (e, ← m)
+              (stands-then (byte-stands s a _ (omega (arith, room)) (omega (arith, first)))
+              (byte-stands s (a + 1) _ (omega (arith, room)) (omega (arith, left_at 1)))),
+        )
 
 -- ---- a past with one entry more
 rising-more : (xs : List ℕ) (v w : ℕ) → rising (xs ++ v ∷ []) ≡ true → v < w → rising (xs ++ v ∷ w ∷ []) ≡ true

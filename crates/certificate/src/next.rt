@@ -29,15 +29,13 @@ fn quick_entry(text: &[u8], from: usize) -> Option<At<usize>>
     requires { from ≤ length text.now }
     ensures { IfSome result (λ n. (n.value < 100) × Stands (spell n.value) from n.end text.now) }
 {
-    if text.len() - from < 2 {
+    let [b, c, ..] = &text[from..] else {
         return None;
-    }
-    let b = text[from];
-    let c = text[from + 1];
+    };
     if !b.is_ascii_digit() {
         return None;
     }
-    let first = usize::from(b - b'0');
+    let first = usize::from(*b - b'0');
     if !c.is_ascii_digit() {
         return Some(At {
             value: first,
@@ -48,7 +46,7 @@ fn quick_entry(text: &[u8], from: usize) -> Option<At<usize>>
         return None;
     }
     Some(At {
-        value: first * 10 + usize::from(c - b'0'),
+        value: first * 10 + usize::from(*c - b'0'),
         end: from + 2,
     })
 }

@@ -7,6 +7,7 @@ use crate::record::Criterion;
 use history::record::{Event, ProcessNo};
 
 // The first `count` of the numbers.
+// Kept: no heap, fixed memory.
 #[derive(Clone, Copy)]
 pub struct ViewNumbers {
     pub count: usize,

@@ -13,6 +13,7 @@ pub enum Criterion {
 }
 
 // The first `count` of the events.
+// Kept: no heap, fixed memory, and the definitions, `fits` and `certificate_text` among them, speak of this record.
 #[derive(Clone, Copy)]
 pub struct EventList {
     pub count: usize,

@@ -365,11 +365,6 @@ six (a ∷ b ∷ c ∷ d ∷ e ∷ []) n = absurd (omega arith)
 six (a ∷ b ∷ c ∷ d ∷ e ∷ f ∷ []) n = refl
 six (a ∷ b ∷ c ∷ d ∷ e ∷ f ∷ g ∷ l) n = absurd (omega arith)
 
--- the values of the answer of a list are that list
-pub values_of : (xs : List ℕ) → values_in (answer_of xs) ≡ xs
-unfolding answer_of
-values_of xs = take-pad 8 0 xs
-
 -- six fields without a fault
 module _ (own : ℕ) (os : List Object) (a p o w v s : List ℕ)
     (i : InOrder (event_layout own a p o w v s) (event_limits own (length os) p o v s) (event_fits (object_named os o) w v)
