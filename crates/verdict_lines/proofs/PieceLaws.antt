@@ -5,10 +5,9 @@ use mathlib.Core.Path.{◌≡◌, refl, sym, ap, ap₂, ◌∙◌}
 use mathlib.Core.List.{List, [], ◌∷◌, ◌++◌, map, append_assoc}
 use mathlib.Core.Option.{Option, none, some}
 use lib.ListN.{length, drop, replicate, length-append}
-use borrow.Author.Tests.{eq-eqb, ne_eqb}
 use Rattle.layout.specs.Number.{spell}
 use Rattle.layout.specs.Fill.{fill}
-use Rattle.layout.specs.Steps.Line.{pieces_text}
+use Rattle.layout.specs.Fields.{pieces_text}
 use Rattle.layout.proofs.SpellLaws.{spell-short}
 use Rattle.history.specs.Record.{pad}
 use Rattle.certificate.specs.declared.record.Criterion.{Criterion}
@@ -19,12 +18,11 @@ use Rattle.criteria.specs.Check.{answer_of}
 use Rattle.faults.specs.Finding.{finding_of}
 use Rattle.checker.specs.declared.check.Checked.{Checked}
 use Rattle.checker.specs.CheckText.{Verdict}
-use Rattle.checker.specs.Verdict.{verdict_of}
 use Rattle.verdict_lines.specs.declared.line.Field.{Field}
-use Rattle.verdict_lines.specs.declared.line.Field.TheVariants.{Dash, Number, CriterionWord, TextWord}
+use Rattle.verdict_lines.specs.declared.line.Field.TheVariants.{Number}
 use Rattle.verdict_lines.specs.declared.print.Printed.{Printed}
 use Rattle.verdict_lines.specs.Printed.{text_word, criterion_word, number_word, names, values, printed, printed_in}
-use Rattle.verdict_lines.specs.Steps.{field_text, number_field, criterion_field, fields_of}
+use Rattle.verdict_lines.specs.Steps.{field_text, number_field, criterion_field, text_field, fields_of}
 
 -- ---- no field is longer than eleven bytes
 pub number_short : (n : ℕ) → n < 4294967296 → length (spell n) ≤ 11
@@ -74,6 +72,11 @@ criterion-is : (o : Option Criterion) → field_text (criterion_field o) ≡ cri
 criterion-is none = refl
 criterion-is (some c) = refl
 
+text_is : (t : Text) → field_text (text_field t) ≡ text_word t
+text_is Neither = refl
+text_is HistoryText = refl
+text_is CertificateText = refl
+
 six-are : (a b c d e f : List ℕ)
     → pieces_text (a ∷ b ∷ c ∷ d ∷ e ∷ f ∷ []) ≡ a ++ 32 ∷ b ++ 32 ∷ c ++ 32 ∷ d ++ 32 ∷ e ++ 32 ∷ f ++ 10 ∷ []
 unfolding pieces_text
@@ -92,7 +95,7 @@ six-are a b c d e f =
 pub fields-are : (v : Verdict) → pieces_text (map field_text (fields_of v)) ≡ values v
 unfolding fields_of values
 fields-are v =
-    rw (criterion-is v.criterion, number_is (line_of v.place), number_is v.view, number_is v.event)
+    rw (criterion-is v.criterion, text_is v.place.text, number_is (line_of v.place), number_is v.view, number_is v.event)
     (six-are (spell v.number) (criterion_word v.criterion) (text_word v.place.text) (number_word (line_of v.place)) (number_word v.view)
     (number_word v.event))
 
@@ -101,28 +104,18 @@ unfolding printed
 printed-is v fields e = ap (λ (l : List ℕ). names ++ l) (sym (ap (λ (l : List Field). pieces_text (map field_text l)) e ∙ fields-are v))
 
 -- ---- the fields that the code makes are those of the verdict, and they are short
-module _ (v : Checked) (line : Field) (el : line ≡ number_field (line_of v.place)) (ll : length (field_text line) ≤ 11) where
-  pub found-fields : v.fault ≡ 0 → (n : ℕ) → n ≡ (answer_of (finding_of v.finding)).number → n < 4294967296
-      → (view : Field) → view ≡ number_field (answer_of (finding_of v.finding)).view → length (field_text view) ≤ 11
-      → (event : Field) → event ≡ number_field (answer_of (finding_of v.finding)).event → length (field_text event) ≤ 11
-      → (Number n ∷ CriterionWord v.criterion ∷ TextWord v.place.text ∷ line ∷ view ∷ event ∷ [] ≡ fields_of (verdict_of v))
-      × (length (pieces_text (map field_text (Number n ∷ CriterionWord v.criterion ∷ TextWord v.place.text ∷ line ∷ view ∷ event ∷ []))) ≤ 90)
-  unfolding fields_of
-  found-fields z n en ln view ev lv event ee le = (
-    rw (eq-eqb v.fault 0 z, en, ev, ee, el),
-    six-long (spell n) (word_of v.criterion) (text_word v.place.text) (field_text line) (field_text view) (field_text event)
-        (number_short n ln) (criterion-short v.criterion) (text-short v.place.text) ll lv le,
-  )
-
-  pub refused-fields : (v.fault ≡ 0 → ⊥) → v.fault < 4294967296
-      → (Number v.fault ∷ Dash ∷ TextWord v.place.text ∷ line ∷ Dash ∷ Dash ∷ [] ≡ fields_of (verdict_of v))
-      × (length (pieces_text (map field_text (Number v.fault ∷ Dash ∷ TextWord v.place.text ∷ line ∷ Dash ∷ Dash ∷ []))) ≤ 90)
-  unfolding fields_of
-  refused-fields z small = (
-    rw (ne_eqb v.fault 0 z, el),
-    six-long (spell v.fault) (field_text Dash) (text_word v.place.text) (field_text line) (field_text Dash) (field_text Dash)
-        (number_short v.fault small) (omega arith) (text-short v.place.text) ll (omega arith) (omega arith),
-  )
+pub six_fields : (v : Verdict) (number criterion text line view event : Field)
+    → number ≡ Number v.number → criterion ≡ criterion_field v.criterion → text ≡ text_field v.place.text
+    → line ≡ number_field (line_of v.place) → view ≡ number_field v.view → event ≡ number_field v.event
+    → length (field_text number) ≤ 11 → length (field_text criterion) ≤ 11 → length (field_text text) ≤ 11
+    → length (field_text line) ≤ 11 → length (field_text view) ≤ 11 → length (field_text event) ≤ 11
+    → (number ∷ criterion ∷ text ∷ line ∷ view ∷ event ∷ [] ≡ fields_of v)
+    × (length (pieces_text (map field_text (number ∷ criterion ∷ text ∷ line ∷ view ∷ event ∷ []))) ≤ 90)
+unfolding fields_of
+six_fields v number criterion text line view event n c t l w e ln lc lt ll lw le = (
+  rw (n, c, t, l, w, e) refl,
+  six-long (field_text number) (field_text criterion) (field_text text) (field_text line) (field_text view) (field_text event) ln lc lt ll lw le,
+)
 
 -- ---- the lines in an array of zeros
 drop-zeros : (n k : ℕ) → drop {A = ℕ} n (replicate k 0) ≡ replicate (k - n) 0

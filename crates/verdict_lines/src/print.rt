@@ -7,6 +7,7 @@ use crate::line::put_verdict;
 use checker::check::check;
 
 // The first `length` of the bytes; those behind them are 0.
+// Kept: no heap, fixed memory, so the lines are an array and their length.
 #[derive(Clone, Copy)]
 pub struct Printed {
     pub length: usize,
@@ -17,8 +18,7 @@ pub struct Printed {
 pub fn print_check(history: &[u8], text: &[u8]) -> Printed
     ensures { result ≡ printed_in (check_text history.now text.now) }
 {
-    let v = check(history, text);
     let mut bytes = [0u8; 128];
-    let length = put_verdict(&mut bytes, v);
+    let length = put_verdict(&mut bytes, check(history, text));
     Printed { length, bytes }
 }

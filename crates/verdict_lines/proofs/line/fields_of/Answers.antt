@@ -1,18 +1,23 @@
--- `fields_of` meets its contract: the fields of what was found, and those of a reading refusal. Assumes nothing.
-use mathlib.Core.Path.{ap, ◌∙◌}
-use borrow.Author.Rules.{rules}
-use Rattle.verdict_lines.specs.Steps.{number_field}
-use Rattle.verdict_lines.proofs.PieceLaws.{found-fields, refused-fields}
+-- `fields_of` meets its contract: each field is the verdict's, and short. Assumes nothing.
+use Rattle.std.proofs.Common.{◌≡◌, ap, ◌∙◌, rules}
+use Rattle.layout.specs.Options.{option_in}
+use Rattle.history_reader.specs.Place as places
+use Rattle.checker.specs.CheckText.{Verdict}
+use Rattle.checker.specs.Verdict.{verdict_of}
+use Rattle.verdict_lines.specs.declared.line.Field.TheVariants.{Number}
+use Rattle.verdict_lines.specs.Steps.{number_field, criterion_field, text_field}
+use Rattle.verdict_lines.proofs.PieceLaws.{six_fields}
 use Rattle.verdict_lines.proofs.line.fields_of.Goals as goal
-
-pub returns-then-fault-eq0 : goal.returns-then-fault-eq0
-returns-then-fault-eq0 c =
-    found-fields c.args.v _ (c.number_or_dash-line.ensures.0 ∙ ap number_field c.line_of.ensures) c.number_or_dash-line.ensures.1
-    c.if-fault-eq0.true _ c.number_of-number.ensures (search rules)
-    _ (c.number_or_dash-view.ensures.0 ∙ ap number_field c.view_of.ensures) c.number_or_dash-view.ensures.1
-    _ (c.number_or_dash-event.ensures.0 ∙ ap number_field c.event_of.ensures) c.number_or_dash-event.ensures.1
 
 pub returns : goal.returns
 returns c =
-    refused-fields c.args.v _ (c.number_or_dash-line.ensures.0 ∙ ap number_field c.line_of.ensures) c.number_or_dash-line.ensures.1
-    c.if-fault-eq0.false (search rules)
+    let v : Verdict = verdict_of c.args.answer in
+    let view : option_in c.map.result ≡ v.view = ? in
+    let event : option_in c.map-2.result ≡ v.event = ? in
+    six_fields v _ _ _ _ _ _ (c.number_field-number.ensures.0 ∙ ap Number c.number_in.ensures)
+    (c.criterion_field-criterion.ensures.0 ∙ ap criterion_field c.criterion_in.ensures)
+    (c.text_field.ensures.0 ∙ ap (λ (p : places.Place). text_field p.text) c.place_in-place.ensures)
+    (c.line_field.ensures.0 ∙ ap (λ (p : places.Place). number_field (places.line_of p)) c.place_in-place.ensures)
+    (c.number_field-view.ensures.0 ∙ ap number_field view) (c.number_field-event.ensures.0 ∙ ap number_field event)
+    c.number_field-number.ensures.1 c.criterion_field-criterion.ensures.1 c.text_field.ensures.1 c.line_field.ensures.1
+    c.number_field-view.ensures.1 c.number_field-event.ensures.1
