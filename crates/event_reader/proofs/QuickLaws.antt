@@ -12,7 +12,7 @@ use Rattle.layout.specs.declared.at.At.{At}
 use Rattle.layout.specs.Word.{dash}
 use Rattle.layout.specs.Number.{spell}
 use Rattle.layout.specs.List.{list_text}
-use Rattle.layout.specs.Steps.Line.{pieces_text}
+use Rattle.layout.specs.Fields.{pieces_text}
 use Rattle.layout.specs.Steps.Stands.{Stands}
 use Rattle.layout.proofs.SplitLaws.{find-append}
 use Rattle.layout.proofs.LineLaws.{pieces-join}
