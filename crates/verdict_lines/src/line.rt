@@ -4,6 +4,7 @@ ghost use Rattle.layout.specs.Fields.{pieces_text};
 ghost use Rattle.layout.specs.Fill.{fill};
 ghost use Rattle.layout.specs.Options.{option_in};
 ghost use Rattle.history_reader.specs.Place.{text_in, place_in, line_of};
+ghost use Rattle.replays.specs.Replay.{found_event};
 ghost use Rattle.checker.specs.Verdict.{verdict_of};
 ghost use Rattle.verdict_lines.specs.Printed.{text_word, printed};
 ghost use Rattle.verdict_lines.specs.Steps.{field_text, number_field, criterion_field, text_field, fields_of};
@@ -12,6 +13,7 @@ use certificate::record::Criterion;
 use certificate::word::criterion_word;
 use checker::answer::{criterion_in, event_in, number_in, place_in, view_in};
 use checker::check::Checked;
+use history::record::EventNo;
 use history_reader::place::{Place, Text};
 use history_reader::read::Refusal;
 use layout::fields;
@@ -61,6 +63,20 @@ fn number_field(n: Option<u32>) -> Field
     }
 }
 
+// The number of a view, or a dash for none.
+fn view_field(view: Option<u8>) -> Field
+    ensures { (result ≡ number_field (option_in view)) × (length (field_text result) ≤ 11) }
+{
+    number_field(view.map(|v| u32::from(v)))
+}
+
+// The number of an event, or a dash for none.
+fn event_field(event: Option<EventNo>) -> Field
+    ensures { (result ≡ number_field (found_event event)) × (length (field_text result) ≤ 11) }
+{
+    number_field(event.map(|e| u32::from(e.0)))
+}
+
 // A criterion, or a dash for none.
 fn criterion_field(c: Option<Criterion>) -> Field
     ensures { (result ≡ criterion_field (option_in c)) × (length (field_text result) ≤ 11) }
@@ -100,8 +116,8 @@ fn fields_of(answer: Result<Checked, Refusal>) -> [Field; 6]
     let number = number_field(Some(number_in(answer)));
     let criterion = criterion_field(criterion_in(answer));
     let place = place_in(answer);
-    let view = number_field(view_in(answer).map(|v| u32::from(v)));
-    let event = number_field(event_in(answer).map(|e| u32::from(e.0)));
+    let view = view_field(view_in(answer));
+    let event = event_field(event_in(answer));
     [
         number,
         criterion,
