@@ -8,7 +8,7 @@ use mathlib.Core.List.{List, [], ◌∷◌, ◌++◌}
 use lib.ListN.{length, get_or, length-map}
 use lib.Dec.{eqb, leb}
 use borrow.Author.Tests.{leb-true, eqb-true}
-use Rattle.layout.specs.declared.list.ListRead.TheVariants.{Listed}
+use Rattle.std.specs.Prelude.{Ok}
 use Rattle.layout.specs.Split.{split, on_first, join}
 use Rattle.layout.specs.Word.{same, criterion_word, pram_word, weak_word, causal_word, converge_word, sequential_word, strict_word}
 use Rattle.layout.specs.Number.{value, spell}
@@ -24,6 +24,7 @@ use Rattle.certificate.specs.declared.record.Criterion.TheVariants.{Pram, Weak, 
 use Rattle.certificate.specs.Criteria.{word_of, is_criterion, criterion_of}
 use Rattle.certificate.specs.Faults.{rising, criterion_line, list_layout, list_limits, pair_fault, list_fault, list_said}
 use Rattle.certificate.specs.CertificateText.{list_line, criterion_text}
+use Rattle.certificate.proofs.CriterionLaws.{word-criterion}
 use Rattle.certificate.proofs.LineTextLaws.{good-fault}
 
 -- ---- written and read back
@@ -96,7 +97,7 @@ fields past count own line z =
     (λ n. let t : ◌≡◌ {A = ℕ} 2 0 = rw n at z in absurd (omega arith))
 
 module _ {past : Bool} {count own : ℕ} {a s : List ℕ} (p : Pair past count own a s) where
-  pair-listed : list_of count count s ≡ Listed (length (items_of s))
+  pair-listed : list_of count count s ≡ Ok (length (items_of s))
   unfolding list_of judged
   pair-listed = rw (p.numbers, p.small, p.few)
 
