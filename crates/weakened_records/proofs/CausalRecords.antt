@@ -1,12 +1,13 @@
 -- From causal to weak and to pram: what a certificate that passed gives to the makers, and the records that are made. Assumes nothing.
 use Prim.Native.Nat.{ℕ, zero, suc, ◌<◌}
 use native.Mathlib.Omega.{arith}
-use mathlib.Core.Path.{◌≡◌, refl, sym, ap, ap₂, ◌∙◌}
+use mathlib.Core.Path.{◌≡◌, refl, sym, ap, ap₂, subst, ◌∙◌}
 use mathlib.Core.Bool.{Bool}
 use mathlib.Core.List.{List, []}
 use mathlib.Core.Option.{some}
 use lib.Dec.{eqb}
-use lib.ListN.{get_or, take, replicate, get_or-map}
+use lib.ListN.{length, get_or, take, replicate, get_or-map}
+use lib.Seq.{get_or-take, length-take-le}
 use Rattle.layout.proofs.Cases.{by-lt}
 use Rattle.history.specs.declared.record.Event as WrittenEvent
 use Rattle.history.specs.declared.record.History as WrittenHistory
@@ -28,11 +29,13 @@ use Rattle.criteria.specs.Records.{history_of, certificate_of}
 use Rattle.criteria.proofs.Lists.{table_below, Once, once-of-count}
 use Rattle.criteria.proofs.RecordLaws.{view-count, view-number}
 use Rattle.orders.specs.Rows.{view_at, EventViews}
-use Rattle.weakened.specs.Steps.{lengths_of, last_in}
+use Rattle.weakened.specs.declared.views.ViewRows.{ViewRows}
+use Rattle.weakened.specs.Steps.{lengths_of, view_rows_of, last_in}
+use Rattle.weakened_records.specs.declared.records.ViewedRecord.{ViewedRecord}
 use Rattle.weakened.proofs.CausalLaws.{last-below}
-use Rattle.faults.proofs.CheckLaws.{process-of, event-views, view-same, number-count, number_at}
+use Rattle.faults.proofs.CheckLaws.{process-of, event-views, view-same}
 use Rattle.weakened_records.proofs.PassedLaws.{size-passed, few-passed, few-numbers, pasts-passed, lengths-passed, rows-passed, good-passed}
-use Rattle.weakened_records.proofs.RecordLaws.{record-parts, is-record, same-criterion}
+use Rattle.weakened_records.proofs.RecordLaws.{record-made, named-list, same-criterion}
 use Rattle.weakened_records.specs.Steps.{Passed, IsRecordOf}
 
 -- ---- searches of what agrees below n
@@ -41,9 +44,9 @@ highest-below zero f g h = refl
 highest-below (suc n) f g h = rw (highest-below n f g (λ k l. h k (omega arith)), h n (omega arith))
 
 -- ---- no process has events where there are none
-pub no-views : (n : ℕ) (events : List WrittenEvent.Event) (x : ViewNumbers) → x ≡ view_numbers_of (view_numbers Pram (take n events)) → n ≡ 0 → x.count ≡ 0
+no-views : (n : ℕ) (events : List WrittenEvent.Event) → n ≡ 0 → length (view_numbers Pram (take n events)) ≡ 0
 unfolding view_numbers processes_from has_events
-no-views n events x e q = number-count x _ e ∙ rw q refl
+no-views n events q = rw q refl
 
 -- ---- the weakened certificates
 causal-weak : (h : History) (c : Certificate) → c.criterion ≡ Causal → weakened Weak h c ≡ some record { criterion = Weak; pasts = c.pasts; views = c.views }
@@ -60,10 +63,11 @@ causal-pram h c q = ap (λ (w : Criterion). weakened_from w Pram h c) q
 
 module _ (h : WrittenHistory.History) (c : WrittenCertificate.Certificate) (rows : List (List ℕ)) (q : c.criterion ≡ Causal) (p : Passed h c rows) where
   -- ---- to weak
-  pub weak-record : IsRecordOf (weakened Weak (history_of h) (certificate_of h c rows)) (record { criterion = Weak; pasts = c.pasts; lengths = c.lengths }) rows
-  weak-record =
-      is-record _ Weak _ _ _ rows (causal-weak (history_of h) (certificate_of h c rows) (same-criterion h c rows Causal q))
-      (record-parts Weak _ _ _ _ (pasts-passed h c rows p) (lengths-passed h c rows p)) (rows-passed h c rows p)
+  pub weak-record : (r : ViewedRecord) (made : ViewRows) → (r.certificate ≡ record { criterion = Weak; pasts = c.pasts; lengths = made.lengths }) × (r.views ≡ made.rows)
+      → made.rows ≡ rows → made.lengths ≡ c.lengths → IsRecordOf (weakened Weak (history_of h) (certificate_of h c rows)) r.certificate r.views
+  weak-record r made built a b =
+      record-made _ Weak _ _ r c.pasts made built (causal-weak (history_of h) (certificate_of h c rows) (same-criterion h c rows Causal q))
+      (pasts-passed h c rows p) (a ∙ rows-passed h c rows p) (b ∙ lengths-passed h c rows p)
 
   -- ---- the views are one an event, and none of their events stands twice
   count-is : view_count c.criterion (history_of h) ≡ h.count
@@ -87,41 +91,66 @@ module _ (h : WrittenHistory.History) (c : WrittenCertificate.Certificate) (rows
   lists-once k l = rw (view-is k l) (view-once k l)
 
   -- ---- to pram
-  module _ (numbers : ViewNumbers) (numbered : numbers ≡ view_numbers_of (view_numbers Pram (events_in h)))
-      (ps : List ℕ) (agree : (e : ℕ) → e < 64 → get_or ps e 0 ≡ (get_or h.events e no_event).process.0) where
-    last-is : (k : ℕ) → last_in h.count ps k ≡ last_of (history_of h) k
+  module _ (named : ViewNumbers) (numbered : named ≡ view_numbers_of (view_numbers Pram (events_in h)))
+      (ps : List ℕ) (long : length ps ≡ 64) (agree : (e : ℕ) → e < 64 → get_or ps e 0 ≡ (get_or h.events e no_event).process.0) where
+    abbrev ns : List ℕ
+    ns = take named.count named.numbers
+
+    abbrev qs : List ℕ
+    qs = take h.count ps
+
+    named-is : ns ≡ view_numbers Pram (events_in h)
+    named-is = named-list named _ numbered
+
+    events-long : length qs ≡ h.count
+    events-long = length-take-le h.count ps (omega (arith, long, few-passed h c rows p))
+
+    pub none-without : length qs ≡ 0 → length ns ≡ 0
+    none-without z = ap length named-is ∙ no-views h.count h.events (omega (arith, z, events-long))
+
+    pub listed-events : EventViews rows c.lengths (length qs) (length qs)
+    listed-events = subst (λ (n : ℕ). EventViews rows c.lengths n n) (sym events-long) lists-events
+
+    pub listed-once : (k : ℕ) → k < length qs → Once (view_at rows c.lengths k)
+    listed-once k l = lists-once k (omega (arith, l, events-long))
+
+    last-is : (k : ℕ) → last_in h.count qs k ≡ last_of (history_of h) k
     unfolding last_of
     last-is k =
-        highest-below h.count (λ e. eqb (get_or ps e 0) k) (own (history_of h) k)
-        (λ e l. ap (λ (x : ℕ). eqb x k) (agree e (omega (arith, l, few-passed h c rows p)) ∙ sym (process-of h p.history e l) ∙ get_or-map (λ (x : Event). x.process) (history_of h).events e _))
+        highest-below h.count (λ e. eqb (get_or qs e 0) k) (own (history_of h) k)
+        (λ e l.
+        ap (λ (x : ℕ). eqb x k)
+        (get_or-take h.count ps e 0 l ∙ agree e (omega (arith, l, few-passed h c rows p)) ∙ sym (process-of h p.history e l) ∙ get_or-map (λ (x : Event). x.process) (history_of h).events e _))
         ∙ ap (λ (n : ℕ). highest n (own (history_of h) k)) (sym (size-passed h c rows p))
 
-    views-count : numbers.count ≡ view_count Pram (history_of h)
-    views-count = number-count numbers _ numbered ∙ sym (view-count Pram h)
+    views-count : length ns ≡ view_count Pram (history_of h)
+    views-count = ap length named-is ∙ sym (view-count Pram h)
 
-    some-events : 0 < numbers.count → 0 < h.count
-    some-events l = by-lt 0 h.count (λ m. m) (λ m. absurd (omega (arith, l, no-views h.count h.events numbers numbered (omega (arith, m)))))
+    some-events : 0 < length ns → 0 < h.count
+    some-events l = by-lt 0 h.count (λ m. m) (λ m. absurd (omega (arith, l, none-without (omega (arith, m, events-long)))))
 
     abbrev made_at : ℕ → List ℕ
-    made_at k = completed h.count (view_at rows c.lengths (last_in h.count ps (get_or numbers.numbers k 0)))
+    made_at k = completed (length qs) (view_at rows c.lengths (last_in (length qs) qs (get_or ns k 0)))
 
-    made-is : (k : ℕ) → k < numbers.count → made_at k ≡ last_view (history_of h) (certificate_of h c rows).views k
+    made-is : (k : ℕ) → k < length ns → made_at k ≡ last_view (history_of h) (certificate_of h c rows).views k
     made-is k l =
-        let n : get_or numbers.numbers k 0 ≡ get_or (processes (history_of h)) k 0 =
-        number_at numbers _ numbered k ∙ sym (view-number Pram h k (omega (arith, l, views-count))) in
-        let b = last-below h.count (λ e. eqb (get_or ps e 0) (get_or numbers.numbers k 0)) (some-events (omega (arith, l))) in
-        ap₂ completed (sym (size-passed h c rows p))
-        (view-is (last_in h.count ps (get_or numbers.numbers k 0)) b
-        ∙ ap (λ (e : ℕ). get_or (certificate_of h c rows).views e []) (last-is (get_or numbers.numbers k 0) ∙ ap (last_of (history_of h)) n))
+        let n : get_or ns k 0 ≡ get_or (processes (history_of h)) k 0 =
+        ap (λ (x : List ℕ). get_or x k 0) named-is ∙ sym (view-number Pram h k (omega (arith, l, views-count))) in
+        let b = last-below h.count (λ e. eqb (get_or qs e 0) (get_or ns k 0)) (some-events (omega (arith, l))) in
+        ap (λ (m : ℕ). completed m (view_at rows c.lengths (last_in m qs (get_or ns k 0)))) events-long
+        ∙ ap₂ completed (sym (size-passed h c rows p))
+        (view-is (last_in h.count qs (get_or ns k 0)) b
+        ∙ ap (λ (e : ℕ). get_or (certificate_of h c rows).views e []) (last-is (get_or ns k 0) ∙ ap (last_of (history_of h)) n))
 
-    views-are : table numbers.count made_at ≡ table (view_count Pram (history_of h)) (last_view (history_of h) (certificate_of h c rows).views)
+    views-are : table (length ns) made_at ≡ table (view_count Pram (history_of h)) (last_view (history_of h) (certificate_of h c rows).views)
     views-are =
-        table_below numbers.count made_at (last_view (history_of h) (certificate_of h c rows).views) made-is
+        table_below (length ns) made_at (last_view (history_of h) (certificate_of h c rows).views) made-is
         ∙ ap (λ (n : ℕ). table n (last_view (history_of h) (certificate_of h c rows).views)) views-count
 
-    pub pram-record : (pasts : List EventList) (lengths : List ℕ) (out : List (List ℕ)) → pasts ≡ replicate 64 no_list
-        → out ≡ rows_of (table numbers.count made_at) → lengths ≡ lengths_of (table numbers.count made_at)
-        → IsRecordOf (weakened Pram (history_of h) (certificate_of h c rows)) (record { criterion = Pram; pasts = pasts; lengths = lengths }) out
-    pram-record pasts lengths out e a b =
-        is-record _ Pram [] _ _ out (causal-pram (history_of h) (certificate_of h c rows) (same-criterion h c rows Causal q))
-        (record-parts Pram pasts lengths [] _ (e ∙ sym (pad-none 64 no_list)) (b ∙ ap lengths_of views-are)) (a ∙ ap rows_of views-are)
+    pub pram-record : (r : ViewedRecord) (pasts : List EventList) (made : ViewRows)
+        → (r.certificate ≡ record { criterion = Pram; pasts = pasts; lengths = made.lengths }) × (r.views ≡ made.rows)
+        → pasts ≡ replicate 64 no_list → made ≡ view_rows_of (table (length ns) made_at)
+        → IsRecordOf (weakened Pram (history_of h) (certificate_of h c rows)) r.certificate r.views
+    pram-record r pasts made built e m =
+        record-made _ Pram [] _ r pasts made built (causal-pram (history_of h) (certificate_of h c rows) (same-criterion h c rows Causal q))
+        (e ∙ sym (pad-none 64 no_list)) (ap (λ (x : ViewRows). x.rows) m ∙ ap rows_of views-are) (ap (λ (x : ViewRows). x.lengths) m ∙ ap lengths_of views-are)

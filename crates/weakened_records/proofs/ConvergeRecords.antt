@@ -17,9 +17,11 @@ use Rattle.criteria.specs.Certificate.{Certificate, listed, order}
 use Rattle.criteria.specs.Weaken.{weakened_from, weakened}
 use Rattle.criteria.specs.Records.{history_of, certificate_of}
 use Rattle.orders.specs.Rows.{in_rows, IsOrder}
-use Rattle.weakened.specs.Steps.{lengths_of}
+use Rattle.weakened.specs.declared.views.ViewRows.{ViewRows}
+use Rattle.weakened.specs.Steps.{lengths_of, view_rows_of}
+use Rattle.weakened_records.specs.declared.records.ViewedRecord.{ViewedRecord}
 use Rattle.weakened_records.proofs.PassedLaws.{size-passed, pasts-passed, one-begins}
-use Rattle.weakened_records.proofs.RecordLaws.{record-parts, is-record, same-criterion, pasts-order}
+use Rattle.weakened_records.proofs.RecordLaws.{record-made, same-criterion, pasts-order}
 use Rattle.weakened_records.specs.Steps.{Passed, IsRecordOf}
 
 -- ---- the weakened certificate
@@ -39,10 +41,10 @@ module _ (h : WrittenHistory.History) (c : WrittenCertificate.Certificate) (rows
         ap (λ (n : ℕ). cut_views n (in_rows rows_of_lem) (take h.count (get_or rows 0 []))) (sym (size-passed h c rows p))
         ∙ ap₂ (cut_views (size (history_of h))) (pasts-order h c rows p.history (ap has_pasts q) rows_of_lem o) (one-begins h c rows p Converge q refl)
 
-    pub converge-record : (lengths : List ℕ) (out : List (List ℕ))
-        → out ≡ rows_of (cut_views h.count (in_rows rows_of_lem) (take h.count (get_or rows 0 [])))
-        → lengths ≡ lengths_of (cut_views h.count (in_rows rows_of_lem) (take h.count (get_or rows 0 [])))
-        → IsRecordOf (weakened Weak (history_of h) (certificate_of h c rows)) (record { criterion = Weak; pasts = c.pasts; lengths = lengths }) out
-    converge-record lengths out a b =
-        is-record _ Weak _ _ _ out (converge-weak (history_of h) (certificate_of h c rows) (same-criterion h c rows Converge q))
-        (record-parts Weak _ lengths _ _ (pasts-passed h c rows p) (b ∙ ap lengths_of views-are)) (a ∙ ap rows_of views-are)
+    pub converge-record : (r : ViewedRecord) (made : ViewRows)
+        → (r.certificate ≡ record { criterion = Weak; pasts = c.pasts; lengths = made.lengths }) × (r.views ≡ made.rows)
+        → made ≡ view_rows_of (cut_views h.count (in_rows rows_of_lem) (take h.count (get_or rows 0 [])))
+        → IsRecordOf (weakened Weak (history_of h) (certificate_of h c rows)) r.certificate r.views
+    converge-record r made built m =
+        record-made _ Weak _ _ r c.pasts made built (converge-weak (history_of h) (certificate_of h c rows) (same-criterion h c rows Converge q))
+        (pasts-passed h c rows p) (ap (λ (x : ViewRows). x.rows) m ∙ ap rows_of views-are) (ap (λ (x : ViewRows). x.lengths) m ∙ ap lengths_of views-are)

@@ -6,6 +6,7 @@ use mathlib.Core.Bool.{Bool, true, false, false≢true}
 use mathlib.Core.List.{List, [], map}
 use lib.ListN.{length, get_or, take}
 use lib.Dec.{ltb}
+use lib.Seq.{get_or-take}
 use borrow.Author.Tests.{lt-ltb}
 use Rattle.history.specs.declared.record.Event.{Event}
 use Rattle.history.specs.declared.record.History.{History}
@@ -130,11 +131,21 @@ module _ (h : History) (c : WrittenCertificate.Certificate) (rows : List (List �
         ap (λ (n : ℕ). take n (get_or rows 0 [])) (sym one-length)
         ∙ view-same h p.history c rows p.certificate (few-numbers c.criterion) 1 (sym one_number) 0 (omega arith)
 
-    pub one-entries : (k : ℕ) → k < h.count → get_or (get_or rows 0 []) k 0 < 64
-    one-entries k l =
-        let e = (event-views h p.history c rows p.certificate (few-numbers c.criterion) 1 (omega arith)).entries 0 (omega arith) k (omega (arith, l, one-length)) in
-        omega (arith, e, few-passed)
+    -- all events stand in it
+    pub one-long : length (take h.count (get_or rows 0 [])) ≡ h.count
+    one-long = ap length one-begins ∙ all-length h.count (get_or (certificate_of h c rows).views 0 []) one-view
 
-    pub one_holds : (e : ℕ) → e < h.count → mem e (take h.count (get_or rows 0 [])) ≡ true
+    pub one-few : length (take h.count (get_or rows 0 [])) ≤ 64
+    one-few = omega (arith, one-long, few-passed)
+
+    pub one-entries : (k : ℕ) → k < length (take h.count (get_or rows 0 [])) → get_or (take h.count (get_or rows 0 [])) k 0 < 64
+    one-entries k i =
+        let l : k < h.count = omega (arith, i, one-long) in
+        let e = (event-views h p.history c rows p.certificate (few-numbers c.criterion) 1 (omega arith)).entries 0 (omega arith) k (omega (arith, l, one-length)) in
+        rw (get_or-take h.count (get_or rows 0 []) k 0 l) (omega (arith, e, few-passed))
+
+    pub one_holds : (e : ℕ) → e < length (take h.count (get_or rows 0 [])) → mem e (take h.count (get_or rows 0 [])) ≡ true
     unfolding IsView
-    one_holds e l = rw one-begins (mem-of-count e (get_or (certificate_of h c rows).views 0 []) (ltb e h.count) (one-view e) ∙ lt-ltb e h.count l)
+    one_holds e i =
+        let l : e < h.count = omega (arith, i, one-long) in
+        rw one-begins (mem-of-count e (get_or (certificate_of h c rows).views 0 []) (ltb e h.count) (one-view e) ∙ lt-ltb e h.count l)

@@ -4,11 +4,11 @@ use mathlib.Core.Path.{◌≡◌, refl, sym, ap, ap₂, ◌∙◌, subst, fun_ex
 use mathlib.Core.Bool.{Bool, true, false, cond, false≢true}
 use mathlib.Core.List.{List, [], map}
 use mathlib.Core.Option.{Option, none, some}
-use lib.ListN.{length, get_or, take, replicate}
+use lib.ListN.{length, get_or, take}
 use Rattle.history.specs.declared.record.History as WrittenHistory
 use Rattle.history.specs.Record.{events_in, pad}
 use Rattle.history.specs.Readable.{within}
-use Rattle.history.proofs.PadLaws.{pad-none}
+use Rattle.history.proofs.PadLaws.{take-pad}
 use Rattle.certificate.specs.declared.record.Criterion.{Criterion}
 use Rattle.certificate.specs.declared.record.Criterion.TheVariants.{Pram, Weak, Causal, Converge, Sequential, Strict}
 use Rattle.certificate.specs.declared.record.EventList.{EventList}
@@ -17,18 +17,22 @@ use Rattle.certificate.specs.Record.{no_list, event_list_of, entries_in, rows_of
 use Rattle.certificate.specs.Record as TextRecord
 use Rattle.criteria.specs.Tests.{table}
 use Rattle.criteria.specs.History.{History, size}
-use Rattle.certificate.specs.Criteria.{has_pasts}
+use Rattle.certificate.specs.Criteria.{has_pasts, view_numbers}
 use Rattle.criteria.specs.Certificate.{Certificate, view_count, listed, order_by, order}
 use Rattle.criteria.specs.Weaken.{precedes, pasts_of, up_to_in, is_pair, from_sequential, weakened_from, weakened}
 use Rattle.criteria.specs.Records.{history_of, certificate_of}
-use Rattle.criteria.proofs.RecordLaws.{size_is}
+use Rattle.criteria.proofs.RecordLaws.{size_is, view-count}
 use Rattle.criteria.proofs.Weaken.{is_some, pair-weakened, weakened-itself}
-use Rattle.certificate.specs.Steps.Numbers.{event_each}
+use Rattle.certificate.specs.declared.numbers.ViewNumbers.{ViewNumbers}
+use Rattle.certificate.specs.Steps.Numbers.{view_numbers_of, event_each}
 use Rattle.orders.specs.Rows.{in_rows, IsOrder}
 use Rattle.faults.proofs.CheckLaws.{size_of}
-use Rattle.weakened.specs.Steps.{lengths_of}
+use Rattle.faults.proofs.RecordFacts.{number-count}
+use Rattle.weakened.specs.declared.views.ViewRows.{ViewRows}
+use Rattle.weakened.specs.Steps.{lengths_of, view_rows_of}
+use Rattle.weakened_records.specs.declared.records.ViewedRecord.{ViewedRecord}
 use Rattle.weakened_records.specs.Steps.{Passed, IsRecordOf}
-use Rattle.weakened_records.proofs.PassedLaws.{size-passed, fits-passed, rows-passed, one-begins}
+use Rattle.weakened_records.proofs.PassedLaws.{size-passed, fits-passed, rows-passed, one-begins, one-long}
 
 -- ---- the record of lists
 pub record-parts : (w : Criterion) (ps : List EventList) (ls : List ℕ) (pasts views : List (List ℕ))
@@ -40,6 +44,19 @@ record-parts w ps ls pasts views p q = rw (p, q)
 pub is-record : (o : Option Certificate) (w : Criterion) (pasts views : List (List ℕ)) (x : WrittenCertificate.Certificate) (rows : List (List ℕ))
     → o ≡ some record { criterion = w; pasts = pasts; views = views } → x ≡ TextRecord.certificate_of w pasts views → rows ≡ rows_of views → IsRecordOf o x rows
 is-record o w pasts views x rows q a b = subst (λ (y : Option Certificate). IsRecordOf y x rows) (sym q) (a, b)
+
+-- the record that was built of a criterion, pasts and views
+pub record-made : (o : Option Certificate) (w : Criterion) (pasts views : List (List ℕ)) (r : ViewedRecord) (ps : List EventList) (made : ViewRows)
+    → (r.certificate ≡ record { criterion = w; pasts = ps; lengths = made.lengths }) × (r.views ≡ made.rows)
+    → o ≡ some record { criterion = w; pasts = pasts; views = views } → ps ≡ pad 64 no_list (map event_list_of pasts)
+    → made.rows ≡ rows_of views → made.lengths ≡ lengths_of views → IsRecordOf o r.certificate r.views
+record-made o w pasts views r ps made built q p a b =
+    is-record o w pasts views r.certificate r.views q (built.0 ∙ record-parts w ps made.lengths pasts views p b) (built.1 ∙ a)
+
+-- the numbers of views in a list
+pub named-list : (x : ViewNumbers) (ns : List ℕ) → x ≡ view_numbers_of ns → take x.count x.numbers ≡ ns
+unfolding view_numbers_of
+named-list x ns q = ap (λ (y : ViewNumbers). take y.count y.numbers) q ∙ take-pad 64 0 ns
 
 -- ---- the order of a record with pasts
 pub pasts-order : (h : WrittenHistory.History) (c : WrittenCertificate.Certificate) (rows : List (List ℕ)) → within h ≡ true → has_pasts c.criterion ≡ true
@@ -57,61 +74,96 @@ from-sequential : (w : Criterion) (h : History) (c : Certificate) → c.criterio
 unfolding weakened
 from-sequential w h c q = ap (λ (x : Criterion). weakened_from x w h c) q
 
-pram-lists : (h : History) (c : Certificate) (v : List ℕ) (m : ℕ) → c.criterion ≡ Sequential → v ≡ get_or c.views 0 [] → m ≡ view_count Pram h
-    → weakened Pram h c ≡ some record { criterion = Pram; pasts = []; views = table m (λ _. v) }
-pram-lists h c v m q b k =
-    from-sequential Pram h c q
-    ∙ ap₂ (λ (n : ℕ) (u : List ℕ). some record { criterion = Pram; pasts = []; views = table n (λ _. u) }) (sym k) (sym b)
-
-event-lists : (w : Criterion) (h : History) (c : Certificate) (v : List ℕ) (n : ℕ) → event_each w ≡ true → c.criterion ≡ Sequential → v ≡ get_or c.views 0 [] → n ≡ size h
-    → weakened w h c ≡ some record { criterion = w; pasts = pasts_of n (precedes v); views = table n (up_to_in v) }
-event-lists w h c v n t q b k =
+-- to any other criterion: pasts where it has them, and a view an event or a process
+other-lists : (w : Criterion) → (w ≡ Sequential → ⊥) → (h : History) (c : Certificate) (v : List ℕ) (n m : ℕ) → c.criterion ≡ Sequential → v ≡ get_or c.views 0 []
+    → n ≡ size h → m ≡ view_count w h
+    → weakened w h c
+    ≡ some record {
+      criterion = w;
+      pasts = cond (has_pasts w) (pasts_of n (precedes v)) [];
+      views = cond (event_each w) (table n (up_to_in v)) (table m (λ _. v));
+    }
+other-lists w other h c v n m q b k l =
     from-sequential w h c q
-    ∙ go w t
-    ∙ ap₂ (λ (i : ℕ) (u : List ℕ). some record { criterion = w; pasts = pasts_of i (precedes u); views = table i (up_to_in u) }) (sym k) (sym b)
+    ∙ go w other (get_or c.views 0 [])
+    ∙ ap₂
+    (λ (i : ℕ) (u : List ℕ).
+    some
+    record {
+      criterion = w;
+      pasts = cond (has_pasts w) (pasts_of i (precedes u)) [];
+      views = cond (event_each w) (table i (up_to_in u)) (table (view_count w h) (λ _. u));
+    }) (sym k) (sym b)
+    ∙ ap
+    (λ (i : ℕ).
+    some
+    record {
+      criterion = w;
+      pasts = cond (has_pasts w) (pasts_of n (precedes v)) [];
+      views = cond (event_each w) (table n (up_to_in v)) (table i (λ _. v));
+    }) (sym l)
   where
-    go : (w : Criterion) → event_each w ≡ true
-        → from_sequential w h c (get_or c.views 0 [])
-        ≡ some record { criterion = w; pasts = pasts_of (size h) (precedes (get_or c.views 0 [])); views = table (size h) (up_to_in (get_or c.views 0 [])) }
-    go Pram e = absurd (false≢true e)
-    go Weak e = refl
-    go Causal e = refl
-    go Converge e = absurd (false≢true e)
-    go Sequential e = absurd (false≢true e)
-    go Strict e = absurd (false≢true e)
-
-converge-lists : (h : History) (c : Certificate) (v : List ℕ) (n : ℕ) → c.criterion ≡ Sequential → v ≡ get_or c.views 0 [] → n ≡ size h
-    → weakened Converge h c ≡ some record { criterion = Converge; pasts = pasts_of n (precedes v); views = table 1 (λ _. v) }
-converge-lists h c v n q b k =
-    from-sequential Converge h c q
-    ∙ ap₂ (λ (i : ℕ) (u : List ℕ). some record { criterion = Converge; pasts = pasts_of i (precedes u); views = table 1 (λ _. u) }) (sym k) (sym b)
-
-strict-lists : (h : History) (c : Certificate) (v : List ℕ) (n m : ℕ) → c.criterion ≡ Sequential → v ≡ get_or c.views 0 [] → n ≡ size h → m ≡ view_count Strict h
-    → weakened Strict h c ≡ some record { criterion = Strict; pasts = pasts_of n (precedes v); views = table m (λ _. v) }
-strict-lists h c v n m q b k l =
-    from-sequential Strict h c q
-    ∙ ap₂ (λ (i : ℕ) (u : List ℕ). some record { criterion = Strict; pasts = pasts_of i (precedes u); views = table (view_count Strict h) (λ _. u) }) (sym k) (sym b)
-    ∙ ap (λ (i : ℕ). some record { criterion = Strict; pasts = pasts_of n (precedes v); views = table i (λ _. v) }) (sym l)
+    go : (w : Criterion) → (w ≡ Sequential → ⊥) → (u : List ℕ)
+        → from_sequential w h c u
+        ≡ some record {
+          criterion = w;
+          pasts = cond (has_pasts w) (pasts_of (size h) (precedes u)) [];
+          views = cond (event_each w) (table (size h) (up_to_in u)) (table (view_count w h) (λ _. u));
+        }
+    go Pram e u = refl
+    go Weak e u = refl
+    go Causal e u = refl
+    go Converge e u = refl
+    go Sequential e u = absurd (e refl)
+    go Strict e u = refl
 
 -- ---- to itself
-pub not-a-pair : (named wanted : Criterion) → is_pair named wanted ≡ false → is_pair named wanted ≡ true → wanted ≡ named
-not-a-pair named wanted n t = absurd (false≢true (sym n ∙ t))
+pub sequential-stays : (w : Criterion) → w ≡ Sequential → is_pair Sequential w ≡ true → w ≡ Sequential
+sequential-stays w e t = e
 
-pub pram-pair : (w : Criterion) → is_pair Pram w ≡ true → w ≡ Pram
-pram-pair Pram t = refl
-pram-pair Weak t = absurd (false≢true t)
-pram-pair Causal t = absurd (false≢true t)
-pram-pair Converge t = absurd (false≢true t)
-pram-pair Sequential t = absurd (false≢true t)
-pram-pair Strict t = absurd (false≢true t)
+pub causal-stays : (w : Criterion) → (w ≡ Pram → ⊥) → (w ≡ Weak → ⊥) → is_pair Causal w ≡ true → w ≡ Causal
+causal-stays Pram a b t = absurd (a refl)
+causal-stays Weak a b t = absurd (b refl)
+causal-stays Causal a b t = refl
+causal-stays Converge a b t = absurd (false≢true t)
+causal-stays Sequential a b t = absurd (false≢true t)
+causal-stays Strict a b t = absurd (false≢true t)
 
-pub weak-pair : (w : Criterion) → is_pair Weak w ≡ true → w ≡ Weak
-weak-pair Pram t = absurd (false≢true t)
-weak-pair Weak t = refl
-weak-pair Causal t = absurd (false≢true t)
-weak-pair Converge t = absurd (false≢true t)
-weak-pair Sequential t = absurd (false≢true t)
-weak-pair Strict t = absurd (false≢true t)
+pub converge-stays : (w : Criterion) → (w ≡ Weak → ⊥) → is_pair Converge w ≡ true → w ≡ Converge
+converge-stays Pram a t = absurd (false≢true t)
+converge-stays Weak a t = absurd (a refl)
+converge-stays Causal a t = absurd (false≢true t)
+converge-stays Converge a t = refl
+converge-stays Sequential a t = absurd (false≢true t)
+converge-stays Strict a t = absurd (false≢true t)
+
+pub strict-stays : (w : Criterion) → (w ≡ Pram → ⊥) → (w ≡ Weak → ⊥) → (w ≡ Causal → ⊥) → is_pair Strict w ≡ true → w ≡ Strict
+strict-stays Pram a b d t = absurd (a refl)
+strict-stays Weak a b d t = absurd (b refl)
+strict-stays Causal a b d t = absurd (d refl)
+strict-stays Converge a b d t = absurd (false≢true t)
+strict-stays Sequential a b d t = absurd (false≢true t)
+strict-stays Strict a b d t = refl
+
+-- pram and weak go to themselves only
+pub others-stay : (named w : Criterion) → (named ≡ Causal → ⊥) → (named ≡ Converge → ⊥) → (named ≡ Sequential → ⊥) → (named ≡ Strict → ⊥)
+    → is_pair named w ≡ true → w ≡ named
+others-stay Pram Pram a b d e t = refl
+others-stay Pram Weak a b d e t = absurd (false≢true t)
+others-stay Pram Causal a b d e t = absurd (false≢true t)
+others-stay Pram Converge a b d e t = absurd (false≢true t)
+others-stay Pram Sequential a b d e t = absurd (false≢true t)
+others-stay Pram Strict a b d e t = absurd (false≢true t)
+others-stay Weak Pram a b d e t = absurd (false≢true t)
+others-stay Weak Weak a b d e t = refl
+others-stay Weak Causal a b d e t = absurd (false≢true t)
+others-stay Weak Converge a b d e t = absurd (false≢true t)
+others-stay Weak Sequential a b d e t = absurd (false≢true t)
+others-stay Weak Strict a b d e t = absurd (false≢true t)
+others-stay Causal w a b d e t = absurd (a refl)
+others-stay Converge w a b d e t = absurd (b refl)
+others-stay Sequential w a b d e t = absurd (d refl)
+others-stay Strict w a b d e t = absurd (e refl)
 
 -- the criterion wanted is the one named, or the two are no pair
 pub only-itself : (named wanted : Criterion) (h : History) (c : Certificate) → c.criterion ≡ named → (is_pair named wanted ≡ true → wanted ≡ named)
@@ -141,44 +193,29 @@ module _ (h : WrittenHistory.History) (c : WrittenCertificate.Certificate) (rows
   unfolding certificate_of
   own-record = ((fits-passed h c rows passed).record_is, rows-passed h c rows passed)
 
-  pub itself-is : (o : Option Certificate) → ((d : Certificate) → o ≡ some d → d ≡ certificate_of h c rows) → IsRecordOf o c rows
+  itself-is : (o : Option Certificate) → ((d : Certificate) → o ≡ some d → d ≡ certificate_of h c rows) → IsRecordOf o c rows
   itself-is none f = tt
   itself-is (some d) f = subst (λ (x : Certificate). IsRecordOf (some x) c rows) (sym (f d refl)) own-record
 
-  module _ (is : c.criterion ≡ Sequential) (made : List (List ℕ)) (lengths : List ℕ) where
-    pub pram-is : (pasts : List EventList) (m : ℕ) → pasts ≡ replicate 64 no_list → m ≡ view_count Pram (history_of h)
-        → made ≡ rows_of (table m (λ _. take h.count (get_or rows 0 []))) → lengths ≡ lengths_of (table m (λ _. take h.count (get_or rows 0 [])))
-        → IsRecordOf (weakened Pram (history_of h) (certificate_of h c rows)) (record { criterion = Pram; pasts = pasts; lengths = lengths }) made
-    pram-is pasts m p k a b =
-        is-record _ Pram [] (table m (λ _. take h.count (get_or rows 0 []))) _ made
-        (pram-lists (history_of h) (certificate_of h c rows) _ m (same-criterion h c rows Sequential is) (one-begins h c rows passed Sequential is refl) k)
-        (record-parts Pram pasts lengths [] _ (p ∙ sym (pad-none 64 no_list)) b)
-        a
+  -- the same record, where the criterion wanted is the one named or the two are no pair
+  pub stays-record : (named w : Criterion) → c.criterion ≡ named → (is_pair named w ≡ true → w ≡ named)
+      → IsRecordOf (weakened w (history_of h) (certificate_of h c rows)) c rows
+  stays-record named w q same =
+      itself-is (weakened w (history_of h) (certificate_of h c rows))
+      (only-itself named w (history_of h) (certificate_of h c rows) (same-criterion h c rows named q) same)
 
-    pub events-is : (w : Criterion) (pasts : List EventList) → event_each w ≡ true → pasts ≡ pad 64 no_list (map event_list_of (pasts_of h.count (precedes (take h.count (get_or rows 0 [])))))
-        → made ≡ rows_of (table h.count (up_to_in (take h.count (get_or rows 0 [])))) → lengths ≡ lengths_of (table h.count (up_to_in (take h.count (get_or rows 0 []))))
-        → IsRecordOf (weakened w (history_of h) (certificate_of h c rows)) (record { criterion = w; pasts = pasts; lengths = lengths }) made
-    events-is w pasts t p a b =
-        is-record _ w _ _ _ made
-        (event-lists w (history_of h) (certificate_of h c rows) _ h.count t (same-criterion h c rows Sequential is) (one-begins h c rows passed Sequential is refl) (sym (size-passed h c rows passed)))
-        (record-parts w pasts lengths _ _ p b)
-        a
+  module _ (is : c.criterion ≡ Sequential) (w : Criterion) (other : w ≡ Sequential → ⊥) (named : ViewNumbers)
+      (numbered : named ≡ view_numbers_of (view_numbers w (events_in h))) (r : ViewedRecord) (ps : List EventList) (made : ViewRows)
+      (built : (r.certificate ≡ record { criterion = w; pasts = ps; lengths = made.lengths }) × (r.views ≡ made.rows)) where
+    abbrev order-line : List ℕ
+    order-line = take h.count (get_or rows 0 [])
 
-    pub converge-is : (pasts : List EventList) → pasts ≡ pad 64 no_list (map event_list_of (pasts_of h.count (precedes (take h.count (get_or rows 0 [])))))
-        → made ≡ rows_of (table 1 (λ _. take h.count (get_or rows 0 []))) → lengths ≡ lengths_of (table 1 (λ _. take h.count (get_or rows 0 [])))
-        → IsRecordOf (weakened Converge (history_of h) (certificate_of h c rows)) (record { criterion = Converge; pasts = pasts; lengths = lengths }) made
-    converge-is pasts p a b =
-        is-record _ Converge _ _ _ made
-        (converge-lists (history_of h) (certificate_of h c rows) _ h.count (same-criterion h c rows Sequential is) (one-begins h c rows passed Sequential is refl) (sym (size-passed h c rows passed)))
-        (record-parts Converge pasts lengths _ _ p b)
-        a
-
-    pub strict-is : (pasts : List EventList) (m : ℕ) → pasts ≡ pad 64 no_list (map event_list_of (pasts_of h.count (precedes (take h.count (get_or rows 0 [])))))
-        → m ≡ view_count Strict (history_of h)
-        → made ≡ rows_of (table m (λ _. take h.count (get_or rows 0 []))) → lengths ≡ lengths_of (table m (λ _. take h.count (get_or rows 0 [])))
-        → IsRecordOf (weakened Strict (history_of h) (certificate_of h c rows)) (record { criterion = Strict; pasts = pasts; lengths = lengths }) made
-    strict-is pasts m p k a b =
-        is-record _ Strict _ _ _ made
-        (strict-lists (history_of h) (certificate_of h c rows) _ h.count m (same-criterion h c rows Sequential is) (one-begins h c rows passed Sequential is refl) (sym (size-passed h c rows passed)) k)
-        (record-parts Strict pasts lengths _ _ p b)
-        a
+    pub other-record : ps ≡ pad 64 no_list (map event_list_of (cond (has_pasts w) (pasts_of (length order-line) (precedes order-line)) []))
+        → made ≡ view_rows_of (cond (event_each w) (table (length order-line) (up_to_in order-line)) (table named.count (λ _. order-line)))
+        → IsRecordOf (weakened w (history_of h) (certificate_of h c rows)) r.certificate r.views
+    other-record p e =
+        record-made _ w _ _ r ps made built
+        (other-lists w other (history_of h) (certificate_of h c rows) order-line (length order-line) named.count (same-criterion h c rows Sequential is)
+        (one-begins h c rows passed Sequential is refl) (one-long h c rows passed Sequential is refl ∙ sym (size-passed h c rows passed))
+        (number-count named _ numbered ∙ sym (view-count w h)))
+        p (ap (λ (m : ViewRows). m.rows) e) (ap (λ (m : ViewRows). m.lengths) e)

@@ -6,9 +6,10 @@ use mathlib.Core.Bool.{true, false≢true}
 use mathlib.Core.List.{List, []}
 use mathlib.Core.Option.{some}
 use lib.ListN.{length, get_or, take, replicate}
+use lib.Seq.{get_or-take, length-take-le}
 use Rattle.history.specs.declared.record.History as WrittenHistory
 use Rattle.history.specs.Record.{no_event, events_in}
-use Rattle.history.proofs.PadLaws.{pad-none, take-pad}
+use Rattle.history.proofs.PadLaws.{pad-none}
 use Rattle.certificate.specs.declared.record.Criterion.{Criterion}
 use Rattle.certificate.specs.declared.record.Criterion.TheVariants.{Pram, Weak, Causal, Converge, Sequential, Strict}
 use Rattle.certificate.specs.declared.record.EventList.{EventList}
@@ -26,11 +27,13 @@ use Rattle.criteria.proofs.Lists.{table_below, place_in}
 use Rattle.criteria.proofs.Meeting.{process-listed}
 use Rattle.criteria.proofs.RecordLaws.{processes-are, view-count}
 use Rattle.orders.specs.Rows.{view_at}
-use Rattle.faults.proofs.CheckLaws.{process-at, event-views, view-same, number-count}
-use Rattle.weakened.specs.Steps.{lengths_of}
+use Rattle.faults.proofs.CheckLaws.{few-of, process-at, event-views, view-same}
+use Rattle.weakened.specs.declared.views.ViewRows.{ViewRows}
+use Rattle.weakened.specs.Steps.{lengths_of, view_rows_of}
+use Rattle.weakened_records.specs.declared.records.ViewedRecord.{ViewedRecord}
 use Rattle.weakened_records.specs.Steps.{Passed, IsRecordOf}
 use Rattle.weakened_records.proofs.PassedLaws.{size-passed, few-numbers, processes-passed, pasts-passed, lengths-passed, rows-passed}
-use Rattle.weakened_records.proofs.RecordLaws.{record-parts, is-record, same-criterion}
+use Rattle.weakened_records.proofs.RecordLaws.{record-made, named-list, same-criterion}
 
 -- ---- the weakened certificates
 strict-pram : (h : History) (c : Certificate) → c.criterion ≡ Strict → weakened Pram h c ≡ some record { criterion = Pram; pasts = []; views = c.views }
@@ -55,62 +58,74 @@ module _ (h : WrittenHistory.History) (c : WrittenCertificate.Certificate) (rows
   vs = (certificate_of h c rows).views
 
   -- ---- to pram
-  pub pram-record : (pasts : List EventList) → pasts ≡ replicate 64 no_list
-      → IsRecordOf (weakened Pram (history_of h) (certificate_of h c rows)) (record { criterion = Pram; pasts = pasts; lengths = c.lengths }) rows
-  pram-record pasts e =
-      is-record _ Pram [] _ _ rows (strict-pram (history_of h) (certificate_of h c rows) (same-criterion h c rows Strict q))
-      (record-parts Pram pasts _ [] _ (e ∙ sym (pad-none 64 no_list)) (lengths-passed h c rows p)) (rows-passed h c rows p)
+  pub pram-record : (r : ViewedRecord) (pasts : List EventList) (made : ViewRows)
+      → (r.certificate ≡ record { criterion = Pram; pasts = pasts; lengths = made.lengths }) × (r.views ≡ made.rows)
+      → pasts ≡ replicate 64 no_list → made.rows ≡ rows → made.lengths ≡ c.lengths
+      → IsRecordOf (weakened Pram (history_of h) (certificate_of h c rows)) r.certificate r.views
+  pram-record r pasts made built e a b =
+      record-made _ Pram [] _ r pasts made built (strict-pram (history_of h) (certificate_of h c rows) (same-criterion h c rows Strict q))
+      (e ∙ sym (pad-none 64 no_list)) (a ∙ rows-passed h c rows p) (b ∙ lengths-passed h c rows p)
 
   -- ---- to weak and causal
-  module _ (numbers : ViewNumbers) (numbered : numbers ≡ view_numbers_of (view_numbers Strict (events_in h)))
-      (ps : List ℕ) (agree : (e : ℕ) → e < 64 → get_or ps e 0 ≡ (get_or h.events e no_event).process.0) where
-    numbers-are : take numbers.count numbers.numbers ≡ processes (history_of h)
-    unfolding view_numbers_of view_numbers
-    numbers-are =
-        ap (λ (x : ViewNumbers). take x.count x.numbers) numbered
-        ∙ take-pad 64 0 (view_numbers Strict (events_in h))
-        ∙ sym (processes-are h)
+  module _ (named : ViewNumbers) (numbered : named ≡ view_numbers_of (view_numbers Strict (events_in h)))
+      (ps : List ℕ) (long : length ps ≡ 64) (agree : (e : ℕ) → e < 64 → get_or ps e 0 ≡ (get_or h.events e no_event).process.0) where
+    abbrev ns : List ℕ
+    ns = take named.count named.numbers
 
-    views-count : numbers.count ≡ view_count Strict (history_of h)
-    views-count = number-count numbers _ numbered ∙ sym (view-count Strict h)
+    abbrev qs : List ℕ
+    qs = take h.count ps
+
+    events-long : length qs ≡ h.count
+    events-long = length-take-le h.count ps (omega (arith, long, few-of h p.history))
+
+    numbers-are : ns ≡ processes (history_of h)
+    unfolding view_numbers
+    numbers-are = named-list named _ numbered ∙ sym (processes-are h)
+
+    views-count : length ns ≡ view_count Strict (history_of h)
+    views-count = ap length (named-list named _ numbered) ∙ sym (view-count Strict h)
 
     -- the place of the view of e's process
     abbrev slot_at : ℕ → ℕ
-    slot_at e = place (get_or ps e 0) (take numbers.count numbers.numbers)
+    slot_at e = place (get_or qs e 0) ns
 
     slot_is : (e : ℕ) → e < h.count → slot_at e ≡ place (process (history_of h) e) (processes (history_of h))
-    slot_is e l = ap₂ place (process-at h p.history ps agree e (omega (arith, l, size-passed h c rows p))) numbers-are
+    slot_is e l = ap₂ place (get_or-take h.count ps e 0 l ∙ process-at h p.history ps agree e (omega (arith, l, size-passed h c rows p))) numbers-are
 
-    pub slot_small : (e : ℕ) → e < h.count → slot_at e < numbers.count
-    slot_small e l =
+    pub slot_small : (e : ℕ) → e < length qs → slot_at e < length ns
+    slot_small e i =
+        let l : e < h.count = omega (arith, i, events-long) in
         let z = place_in (process (history_of h) e) (processes (history_of h))
         (process-listed (history_of h) e (processes-passed h c rows p) (omega (arith, l, size-passed h c rows p))) in
         omega (arith, z.0, slot_is e l, views-count)
 
-    pub sizes-small : (k : ℕ) → k < numbers.count → get_or c.lengths k 0 ≤ 64
+    pub sizes-small : (k : ℕ) → k < length ns → get_or c.lengths k 0 ≤ 64
     sizes-small k l =
-        (event-views h p.history c rows p.certificate (few-numbers h c rows p c.criterion) numbers.count
-        (omega (arith, number-count numbers _ numbered, few-numbers h c rows p Strict))).few k l
+        (event-views h p.history c rows p.certificate (few-numbers h c rows p c.criterion) (length ns)
+        (omega (arith, ap length (named-list named _ numbered), few-numbers h c rows p Strict))).few k l
 
-    view-is : (k : ℕ) → k < numbers.count → view_at rows c.lengths k ≡ get_or vs k []
+    view-is : (k : ℕ) → k < length ns → view_at rows c.lengths k ≡ get_or vs k []
     unfolding certificate_of
     view-is =
-        view-same h p.history c rows p.certificate (few-numbers h c rows p c.criterion) numbers.count
-        (number-count numbers _ numbered ∙ ap (λ (w : Criterion). length (view_numbers w (events_in h))) (sym q))
+        view-same h p.history c rows p.certificate (few-numbers h c rows p c.criterion) (length ns)
+        (ap length (named-list named _ numbered) ∙ ap (λ (w : Criterion). length (view_numbers w (events_in h))) (sym q))
 
     abbrev made_at : ℕ → List ℕ
     made_at e = up_to_in (view_at rows c.lengths (slot_at e)) e
 
-    views-are : table h.count made_at ≡ table (size (history_of h)) (own_part (history_of h) vs)
+    views-are : table (length qs) made_at ≡ table (size (history_of h)) (own_part (history_of h) vs)
     unfolding own_part
     views-are =
-        table_below h.count made_at (own_part (history_of h) vs)
-        (λ e l. ap (λ (v : List ℕ). up_to_in v e) (view-is (slot_at e) (slot_small e l) ∙ ap (λ (k : ℕ). get_or vs k []) (slot_is e l)))
-        ∙ ap (λ (n : ℕ). table n (own_part (history_of h) vs)) (sym (size-passed h c rows p))
+        table_below (length qs) made_at (own_part (history_of h) vs)
+        (λ e l.
+        ap (λ (v : List ℕ). up_to_in v e)
+        (view-is (slot_at e) (slot_small e l) ∙ ap (λ (k : ℕ). get_or vs k []) (slot_is e (omega (arith, l, events-long)))))
+        ∙ ap (λ (n : ℕ). table n (own_part (history_of h) vs)) (events-long ∙ sym (size-passed h c rows p))
 
-    pub events-record : (w : Criterion) → event_each w ≡ true → (lengths : List ℕ) (out : List (List ℕ))
-        → out ≡ rows_of (table h.count made_at) → lengths ≡ lengths_of (table h.count made_at)
-        → IsRecordOf (weakened w (history_of h) (certificate_of h c rows)) (record { criterion = w; pasts = c.pasts; lengths = lengths }) out
-    events-record w t lengths out a b =
-        is-record _ w _ _ _ out (strict-event w (history_of h) (certificate_of h c rows) t (same-criterion h c rows Strict q))
-        (record-parts w _ lengths _ _ (pasts-passed h c rows p) (b ∙ ap lengths_of views-are)) (a ∙ ap rows_of views-are)
+    pub events-record : (w : Criterion) → event_each w ≡ true → (r : ViewedRecord) (made : ViewRows)
+        → (r.certificate ≡ record { criterion = w; pasts = c.pasts; lengths = made.lengths }) × (r.views ≡ made.rows)
+        → made ≡ view_rows_of (table (length qs) made_at)
+        → IsRecordOf (weakened w (history_of h) (certificate_of h c rows)) r.certificate r.views
+    events-record w t r made built m =
+        record-made _ w _ _ r c.pasts made built (strict-event w (history_of h) (certificate_of h c rows) t (same-criterion h c rows Strict q))
+        (pasts-passed h c rows p) (ap (λ (x : ViewRows). x.rows) m ∙ ap rows_of views-are) (ap (λ (x : ViewRows). x.lengths) m ∙ ap lengths_of views-are)

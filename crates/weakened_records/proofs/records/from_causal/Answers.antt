@@ -1,45 +1,17 @@
--- `from_causal` meets its contract: to weak and to pram by their makers, else the same record. Assumes nothing.
-use mathlib.Core.Path.{ap}
-use Rattle.certificate.specs.declared.record.Criterion.TheVariants.{Pram, Weak, Causal}
-use Rattle.criteria.specs.Weaken.{is_pair}
+-- `from_causal` meets its contract: each criterion wanted has its maker. Assumes nothing.
+use Rattle.certificate.specs.declared.record.Criterion.TheVariants.{Weak, Causal}
 use Rattle.criteria.specs.Records.{history_of, certificate_of}
-use Rattle.weakened_records.proofs.RecordLaws.{not-a-pair, only-itself, same-criterion, wanted-as}
+use Rattle.weakened_records.proofs.RecordLaws.{stays-record, causal-stays, wanted-as}
+use Rattle.weakened_records.proofs.CausalRecords.{weak-record}
 use Rattle.weakened_records.proofs.records.from_causal.Goals as goal
-
-pub itself-requires : goal.itself-requires
-itself-requires c = (
-  c.requires.1,
-  only-itself Causal c.args.wanted (history_of c.args.h) (certificate_of c.args.h c.args.c c.args.views)
-      (same-criterion c.args.h c.args.c c.args.views Causal c.requires.0) (λ _. c.in-Causal.is),
-)
-
-pub itself-requires-in-Converge : goal.itself-requires-in-Converge
-itself-requires-in-Converge c = (
-  c.requires.1,
-  only-itself Causal c.args.wanted (history_of c.args.h) (certificate_of c.args.h c.args.c c.args.views)
-      (same-criterion c.args.h c.args.c c.args.views Causal c.requires.0) (not-a-pair Causal _ (ap (is_pair Causal) c.in-Converge.is)),
-)
-
-pub itself-requires-in-Sequential : goal.itself-requires-in-Sequential
-itself-requires-in-Sequential c = (
-  c.requires.1,
-  only-itself Causal c.args.wanted (history_of c.args.h) (certificate_of c.args.h c.args.c c.args.views)
-      (same-criterion c.args.h c.args.c c.args.views Causal c.requires.0) (not-a-pair Causal _ (ap (is_pair Causal) c.in-Sequential.is)),
-)
-
-pub itself-requires-in-Strict : goal.itself-requires-in-Strict
-itself-requires-in-Strict c = (
-  c.requires.1,
-  only-itself Causal c.args.wanted (history_of c.args.h) (certificate_of c.args.h c.args.c c.args.views)
-      (same-criterion c.args.h c.args.c c.args.views Causal c.requires.0) (not-a-pair Causal _ (ap (is_pair Causal) c.in-Strict.is)),
-)
-
-pub returns-in-Pram : goal.returns-in-Pram
-returns-in-Pram c =
-    wanted-as c.args.wanted Pram (history_of c.args.h) (certificate_of c.args.h c.args.c c.args.views) _ _
-    c.in-Pram.is c.causal_to_pram.ensures
 
 pub returns-in-Weak : goal.returns-in-Weak
 returns-in-Weak c =
-    wanted-as c.args.wanted Weak (history_of c.args.h) (certificate_of c.args.h c.args.c c.args.views) _ _
-    c.in-Weak.is c.causal_to_weak.ensures
+    wanted-as c.args.wanted Weak (history_of c.args.h.now) (certificate_of c.args.h.now c.args.of.now.certificate c.args.of.now.views) _ _ c.in-Weak.is
+    (weak-record c.args.h.now c.args.of.now.certificate c.args.of.now.views c.requires.0 c.requires.1 c.record_of.result c.views_of.result c.record_of.ensures
+    c.views_of.ensures.0 c.views_of.ensures.1)
+
+pub returns-in_default : goal.returns-in_default
+returns-in_default c =
+    stays-record c.args.h.now c.args.of.now.certificate c.args.of.now.views c.requires.1 Causal c.args.wanted c.requires.0
+    (causal-stays c.args.wanted c.in_default.not-Pram c.in_default.not-Weak)

@@ -1,19 +1,9 @@
--- `weakened_record` meets its contract: each criterion of the record has its makers. Assumes nothing.
-use Rattle.certificate.specs.declared.record.Criterion.TheVariants.{Pram, Weak}
-use Rattle.criteria.specs.Records.{history_of, certificate_of}
-use Rattle.weakened_records.proofs.RecordLaws.{pram-pair, weak-pair, only-itself, same-criterion}
+-- `weakened_record` meets its contract: pram and weak go to themselves only. Assumes nothing.
+use Rattle.std.proofs.Common.{refl}
+use Rattle.weakened_records.proofs.RecordLaws.{stays-record, others-stay}
 use Rattle.weakened_records.proofs.records.weakened_record.Goals as goal
 
-pub itself-requires : goal.itself-requires
-itself-requires c = (
-  c.requires,
-  only-itself Pram c.args.wanted (history_of c.args.h) (certificate_of c.args.h c.args.c c.args.views)
-      (same-criterion c.args.h c.args.c c.args.views Pram c.in-Pram.is) (pram-pair c.args.wanted),
-)
-
-pub itself-requires-in-Weak : goal.itself-requires-in-Weak
-itself-requires-in-Weak c = (
-  c.requires,
-  only-itself Weak c.args.wanted (history_of c.args.h) (certificate_of c.args.h c.args.c c.args.views)
-      (same-criterion c.args.h c.args.c c.args.views Weak c.in-Weak.is) (weak-pair c.args.wanted),
-)
+pub returns-in_default : goal.returns-in_default
+returns-in_default c =
+    stays-record c.args.h.now c.args.of.now.certificate c.args.of.now.views c.requires c.args.of.now.certificate.criterion c.args.wanted refl
+    (others-stay c.args.of.now.certificate.criterion c.args.wanted c.in_default.not-Causal c.in_default.not-Converge c.in_default.not-Sequential c.in_default.not-Strict)
