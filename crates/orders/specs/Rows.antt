@@ -1,6 +1,5 @@
 -- Orders and sets of events as rows of 64 bits.
-use Rattle.std.specs.Prelude.{ℕ, ◌/◌, ◌%◌, ◌^◌, ◌≤◌, ◌<◌, ◌≡◌, Bool, cond, ◌&&◌, List, [], get_or, take, eqb, ltb}
-use Rattle.std.proofs.Math.Option.{Option, none, some}
+use Rattle.std.specs.Prelude.{ℕ, ◌/◌, ◌%◌, ◌^◌, ◌≤◌, ◌<◌, ◌≡◌, Bool, ◌&&◌, List, [], get_or, take, eqb, ltb}
 use Rattle.certificate.specs.declared.record.EventList.{EventList}
 
 -- The set of a row: event e is in it where bit e is 1. The order of rows: row b says which events come before b.
@@ -9,10 +8,6 @@ in_row row e = eqb (row / 2 ^ e % 2) 1
 
 abbrev pub in_rows : List ℕ → ℕ → ℕ → Bool
 in_rows rows a b = in_row (get_or rows b 0) a
-
--- The number found below n, or n where none is.
-abbrev pub found_at : ℕ → ℕ → Option ℕ
-found_at n k = cond (ltb k n) (some k) none
 
 -- A list of at most 64 numbers, each below 64.
 pub record ShortList (l : EventList) : Type 0 where
