@@ -18,9 +18,10 @@ use Rattle.history.specs.Record.{events_in}
 use Rattle.history.specs.Readable.{within}
 use Rattle.history.specs.Faults.{fault_number}
 use Rattle.history.proofs.WithinLaws.{within-limits}
+use Rattle.history_reader.specs.declared.place.Text as code-text
 use Rattle.history_reader.specs.declared.place.Place as code-place
 use Rattle.history_reader.specs.declared.read.Refusal.{Refusal}
-use Rattle.history_reader.specs.Place.{Place, nowhere, event_place, place_in, part_at}
+use Rattle.history_reader.specs.Place.{Place, nowhere, event_place, text_in, line_place, place_in, bytes_at, text_named, part_at}
 use Rattle.history_reader.specs.ReadHistory.{read_history}
 use Rattle.history_reader.proofs.EventPlaceLaws.{few-declared, few-counted, event-within}
 use Rattle.history_theorems.proofs.Theorems.{no-fault-readable, read-within}
@@ -183,3 +184,19 @@ module _ (history text : List ℕ) (p : Place) (q : p ≡ (check_text history te
 -- where no line is carried
 pub carried_none : (history text : List ℕ) → nowhere ≡ (check_text history text).place → [] ≡ carried_line history text
 carried_none history text q = sym (ap (take 0) (drop-nil 0) ∙ take-nil 0) ∙ carried-part history text nowhere q
+
+-- ---- of a line that an answer carries
+module _ (history text : List ℕ) (p : code-place.Place) (q : line_place p ≡ (check_text history text).place) where
+  pub line-begins : p.start ≤ p.end
+  line-begins = (answer-placed history text (line_place p) q).from
+
+  module _ (t : code-text.Text) (e : p.text ≡ t) where
+    pub line-ends : p.end ≤ length (text_named (text_in t) history text)
+    line-ends =
+        subst (λ (x : code-text.Text). p.end ≤ length (text_named (text_in x) history text)) e
+        (answer-placed history text (line_place p) q).to
+
+    pub line-carried : bytes_at (line_place p) (text_named (text_in t) history text) ≡ carried_line history text
+    line-carried =
+        ap (λ (x : code-text.Text). bytes_at (line_place p) (text_named (text_in x) history text)) (sym e)
+        ∙ carried-part history text (line_place p) q
