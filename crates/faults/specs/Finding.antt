@@ -24,13 +24,10 @@ abbrev pub is_found : Option Fault → Bool
 is_found none = false
 is_found (some f) = true
 
--- A number that may be missing, as a 32-bit number; and the other way.
+-- A number that may be missing, as a 32-bit number.
 abbrev pub or_none : Option ℕ → ℕ
 or_none none = 4294967295
 or_none (some n) = n
-
-abbrev pub number_in : ℕ → Option ℕ
-number_in n = cond (eqb n 4294967295) none (some n)
 
 -- The same with 0 for a number that is missing.
 abbrev pub or_zero : Option ℕ → ℕ

@@ -1,9 +1,9 @@
 -- Laws of the views that are completed: the last event that passes, two lists joined, a list that is completed. Assumes nothing.
-use Rattle.std.proofs.Common.{ℕ, zero, suc, ◌+◌, ◌-◌, ◌≤◌, ◌<◌, ◌≡◌, refl, sym, ap, ap₂, ◌∙◌, ◌⊎◌, inl, inr, Bool, true, false, not, ◌||◌, cond, List, [], ◌∷◌, ◌++◌, append_assoc, length, get_or, take, drop, replicate, length-append, length-take, ltb, arith}
-use Rattle.std.proofs.Math.Seq.{get_or-take, take-append_seam, drop-append-add}
+use Rattle.std.proofs.Common.{ℕ, zero, suc, ◌+◌, ◌-◌, ◌≤◌, ◌<◌, ◌≡◌, refl, sym, ap, ap₂, ◌∙◌, ◌⊎◌, inl, inr, Bool, true, false, not, ◌||◌, cond, List, [], ◌∷◌, ◌++◌, append_assoc, length, get_or, take, drop, replicate, length-append, ltb, arith}
+use Rattle.std.proofs.Math.Seq.{take-append_seam, drop-append-add}
 use Rattle.std.proofs.lemmas.List.{drop-replicate, take-append-drop}
 use Rattle.std.proofs.lemmas.Slice.{take-put_mid, drop-put_mid}
-use native.Mathlib.Nat.{not-suc-le-zero, min-le_left}
+use native.Mathlib.Nat.{not-suc-le-zero}
 use borrow.Rule.Slice.PartMut.{put_mid}
 use Rattle.history.specs.Record.{pad}
 use Rattle.history.proofs.PadLaws.{take-pad}
@@ -12,7 +12,7 @@ use Rattle.certificate.specs.Record.{event_list_of}
 use Rattle.criteria.specs.Tests.{highest, up_to, keep, one, mem, place}
 use Rattle.criteria.specs.Weaken.{completed}
 use Rattle.criteria.proofs.Lists.{by-test, or-true, count-append, count-keep, count-up_to, count-out, mem-append, mem-keep, mem-up_to, keep_append, place_in, Once, length-once}
-use Rattle.orders.specs.Rows.{in_row, EventViews}
+use Rattle.orders.specs.Rows.{in_row}
 
 -- ---- the last number that passes
 pub last-below : (n : ℕ) (f : ℕ → Bool) → 0 < n → highest n f < n
@@ -30,21 +30,6 @@ last-below (suc n) f h = go n (f n)
     go : (n : ℕ) (b : Bool) → cond b n (highest n f) < suc n
     go n true = omega arith
     go n false = omega (arith, few n)
-
--- ---- a view of one of the first m events, each of its entries below n
-module _ (views : List (List ℕ)) (sizes : List ℕ) (m n : ℕ) (s : EventViews views sizes m n) (k size : ℕ) (h : k < m) (q : size ≡ get_or sizes k 0) where
-  pub view-long : length (take size (get_or views k [])) ≤ 64
-  view-long =
-      let a = length-take size (get_or views k []) in
-      let b = min-le_left size (length (get_or views k [])) in
-      omega (arith, a, b, q, s.few k h)
-
-  pub view-small : (i : ℕ) → i < length (take size (get_or views k [])) → get_or (take size (get_or views k [])) i 0 < n
-  view-small i l =
-      let a = length-take size (get_or views k []) in
-      let b = min-le_left size (length (get_or views k [])) in
-      let j : i < size = omega (arith, a, b, l) in
-      rw (get_or-take size (get_or views k []) i 0 j) (s.entries k h i (omega (arith, j, q)))
 
 -- ---- two lists joined in a blank array
 module _ (a b : List ℕ) (few : length a + length b ≤ 64) where

@@ -10,7 +10,7 @@ use crate::list::rising;
 use crate::views::{ViewRows, view_rows};
 use certificate::record::EventList;
 use orders::sets::others;
-use orders::views::marks;
+use orders::views::{marks, view_at};
 
 // The last of the events, by their processes, that is of the process, or 0.
 fn last_of(processes: &[u8], p: u8) -> usize
@@ -56,9 +56,7 @@ fn completed_last(
     requires { (length processes.now ≤ 64) × (0 < length processes.now) × EventViews views.now sizes.now (length processes.now) (length processes.now) × ((k : ℕ) → k < length processes.now → (e : ℕ) → count e (view_at views.now sizes.now k) ≤ 1) }
     ensures { (result ≡ event_list_of (completed (length processes.now) (view_at views.now sizes.now (last_in (length processes.now) processes.now p)))) × (result.count ≤ 64) }
 {
-    let last = last_of(processes, p);
-    let view = &views[last];
-    completed_view(&view[..usize::from(sizes[last])], processes.len())
+    completed_view(view_at(views, sizes, last_of(processes, p)), processes.len())
 }
 
 // The views of the processes, whose numbers these are, of the events of these processes.

@@ -10,6 +10,7 @@ use crate::list::{list_of, place_of, up_to_event};
 use crate::views::{ViewRows, view_rows};
 use certificate::list::no_list;
 use certificate::record::EventList;
+use orders::views::view_at;
 
 // The part up to and with event e of the view whose number is p.
 fn own_part(
@@ -23,10 +24,7 @@ fn own_part(
     ensures { (result ≡ event_list_of (up_to_in (view_at views.now sizes.now (place p numbers.now)) e)) × (result.count ≤ 64) }
 {
     match place_of(numbers, p) {
-        Some(at) => {
-            let view = &views[at];
-            list_of(up_to_event(&view[..usize::from(sizes[at])], e))
-        }
+        Some(at) => list_of(up_to_event(view_at(views, sizes, at), e)),
         None => no_list(),
     }
 }

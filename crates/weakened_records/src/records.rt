@@ -183,8 +183,7 @@ fn from_strict(h: &History, of: &ViewedRecord, wanted: Criterion) -> ViewedRecor
 {
     match wanted {
         Criterion::Pram => record_of(Criterion::Pram, no_pasts(), views_of(of)),
-        Criterion::Weak => strict_to_events(h, of, wanted),
-        Criterion::Causal => strict_to_events(h, of, wanted),
+        Criterion::Weak | Criterion::Causal => strict_to_events(h, of, wanted),
         _ => *of,
     }
 }

@@ -1,7 +1,6 @@
 -- `own_part` meets its contract. Assumes nothing.
-use Rattle.std.proofs.Common.{rules, arith, ◌≡◌, ◌<◌, ◌≤◌, length, sym, ap, ◌∙◌, ℕ, take, get_or, []}
+use Rattle.std.proofs.Common.{arith, sym, ap, ◌∙◌, ℕ, List}
 use Rattle.certificate.specs.Record.{event_list_of}
-use Rattle.criteria.specs.Tests.{place}
 use Rattle.criteria.specs.Weaken.{up_to_in}
 use Rattle.orders.specs.Rows.{view_at}
 use Rattle.weakened.proofs.ListLaws.{place-some, place-none}
@@ -13,8 +12,7 @@ returns-in-Some c =
       c.list_of.ensures.0
       ∙ ap event_list_of
       (c.up_to_event.ensures.0
-      ∙ ap (λ (n : ℕ). up_to_in (take n (get_or c.args.views.now c.in-Some.at [])) c.args.e) c.from.ensures
-      ∙ ap (λ (k : ℕ). up_to_in (view_at c.args.views.now c.args.sizes.now k) c.args.e) at),
+      ∙ ap (λ (v : List ℕ). up_to_in v c.args.e) (c.view_at.ensures ∙ ap (view_at c.args.views.now c.args.sizes.now) at)),
       c.list_of.ensures.1,
     )
 
