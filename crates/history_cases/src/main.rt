@@ -6,92 +6,75 @@
 
 ghost use Rattle.std.specs.Prelude.{◌<◌};
 
-use history::record::{Answer, Event, History, Kind, Object, Op, ProcessNo, Value};
+use history::record::{
+    Answer, Event, History, Kind, Object, Op, ProcessNo, Value, no_event, no_object,
+};
 use history_reader::read::{faulty_line, read_history};
-use history_writer::write::write_history;
-use layout::word::is_word;
+use history_writer::write::{WriteFault, write_history};
 use std::io;
 use std::io::Write;
 
-fn say<W: Write>(out: &mut W, bytes: &[u8]) -> io::Result<()> {
-    out.write_all(bytes)
+// Writes a record back into a buffer with room for 2,048 bytes, and compares with the text that it was read from.
+fn say_back<W: Write>(out: &mut W, h: History, text: &[u8]) -> io::Result<()> {
+    let mut buffer = [b'.'; 2048];
+    match write_history(&mut buffer, h) {
+        Ok(n) => {
+            let same = buffer.get(..n) == Some(text);
+            let bytes = if same { "the same" } else { "other" };
+            writeln!(out, ", written back 0 as {bytes} bytes")
+        }
+        Err(fault) => write!(out, ", written back {}", fault.number()),
+    }
 }
 
-fn say_number<W: Write>(out: &mut W, n: u64) -> io::Result<()> {
-    write!(out, "{n}")
-}
-
-fn say_buffer<W: Write>(out: &mut W, buffer: &[u8; 64]) -> io::Result<()> {
-    let all: &[u8] = buffer;
-    say(out, all)
-}
-
-fn say_larger_buffer<W: Write>(out: &mut W, buffer: &[u8; 96]) -> io::Result<()> {
-    let all: &[u8] = buffer;
-    say(out, all)
-}
-
-// Writes the record of a text back into a buffer with room for 2,048 bytes, and compares.
-fn say_back<W: Write>(out: &mut W, text: &[u8]) -> io::Result<()> {
-    let r = read_history(text);
-    let h = r.history;
-    let mut buffer = [46u8; 2048];
-    let w = write_history(&mut buffer, h);
-    let n = w.length;
-    say(out, b", written back ")?;
-    say_number(out, w.number as u64)?;
-    if n <= 2048 {
-        if is_word(&buffer[0..n], text) {
-            say(out, b" as the same bytes\n")?;
-        } else {
-            say(out, b" as other bytes\n")?;
+fn case<W: Write>(out: &mut W, name: &str, text: &[u8]) -> io::Result<()> {
+    match read_history(text) {
+        Ok(h) => {
+            write!(
+                out,
+                "{name}: read, objects {}, events {}",
+                h.declared, h.count
+            )?;
+            say_back(out, h, text)
+        }
+        Err(refusal) => {
+            write!(
+                out,
+                "{name}: refused {}, line {}: [",
+                refusal.fault.number(),
+                refusal.place.line
+            )?;
+            out.write_all(faulty_line(text))?;
+            writeln!(out, "]")
         }
     }
-    Ok(())
 }
 
-fn case<W: Write>(out: &mut W, name: &[u8], text: &[u8]) -> io::Result<()> {
-    say(out, name)?;
-    say(out, b": ")?;
-    let r = read_history(text);
-    let fault = r.fault;
-    if fault == 0 {
-        let h = r.history;
-        say(out, b"read, objects ")?;
-        say_number(out, h.declared as u64)?;
-        say(out, b", events ")?;
-        say_number(out, h.count as u64)?;
-        say_back(out, text)?;
-    } else {
-        say(out, b"refused ")?;
-        say_number(out, fault as u64)?;
-        say(out, b", line ")?;
-        say_number(out, r.place.line as u64)?;
-        say(out, b": [")?;
-        say(out, faulty_line(text))?;
-        say(out, b"]\n")?;
+// Says what a writer answered and shows the whole buffer.
+fn say_answer<W: Write>(
+    out: &mut W,
+    answer: Result<usize, WriteFault>,
+    buffer: &[u8],
+) -> io::Result<()> {
+    match answer {
+        Ok(n) => write!(out, ": 0, length {n}: [")?,
+        Err(fault) => write!(out, ": {}, length 0: [", fault.number())?,
     }
-    Ok(())
+    out.write_all(buffer)?;
+    writeln!(out, "]")
 }
 
-// Writes the record of a text into the first n bytes of a buffer of 64, and shows the whole buffer.
-fn say_written<W: Write>(out: &mut W, text: &[u8], n: usize) -> io::Result<()> {
-    let r = read_history(text);
-    let h = r.history;
-    let mut buffer = [46u8; 64];
-    if n <= 64 {
-        let w = write_history(&mut buffer[0..n], h);
-        say(out, b"write into ")?;
-        say_number(out, n as u64)?;
-        say(out, b": ")?;
-        say_number(out, w.number as u64)?;
-        say(out, b", length ")?;
-        say_number(out, w.length as u64)?;
-        say(out, b": [")?;
-        say_buffer(out, &buffer)?;
-        say(out, b"]\n")?;
-    }
-    Ok(())
+// Writes the record of a text into the first n bytes of a buffer of 64.
+fn say_written<W: Write>(out: &mut W, text: &[u8], n: usize) -> io::Result<()>
+    requires { n < 65 }
+{
+    let Ok(h) = read_history(text) else {
+        return writeln!(out, "refused");
+    };
+    let mut buffer = [b'.'; 64];
+    let answer = write_history(&mut buffer[..n], h);
+    write!(out, "write into {n}")?;
+    say_answer(out, answer, &buffer)
 }
 
 // An answer with two numbers in its eight places.
@@ -117,24 +100,16 @@ fn pop(process: u8, object: u8, answer: Answer) -> Event {
 // What stands in the place of an event that is not used, but for the answer.
 fn unused(answer: Answer) -> Event {
     Event {
-        process: ProcessNo(0),
-        object: 0,
-        op: Op::Write,
-        value: 0,
         answer,
+        ..no_event()
     }
 }
 
 // The record of one object and one event; `next` stands in the place of the second event, which is not used.
 fn record_of(object: Object, event: Event, next: Event) -> History {
-    let no_object = Object {
-        kind: Kind::Register,
-        width: 0,
-    };
-    let mut objects = [no_object; 16];
+    let mut objects = [no_object(); 16];
     objects[0] = object;
-    let no_event = unused(answer(false, 0, 0, 0));
-    let mut events = [no_event; 64];
+    let mut events = [no_event(); 64];
     events[0] = event;
     events[1] = next;
     History {
@@ -157,35 +132,27 @@ fn record(event: Event, next: Event) -> History {
 // The record of an object of this kind and width, from which 7 was popped.
 fn record_with(kind: Kind, width: u8) -> History {
     let object = Object { kind, width };
-    let none = unused(answer(false, 0, 0, 0));
-    record_of(object, pop(7, 0, answer(false, 1, 7, 0)), none)
+    record_of(object, pop(7, 0, answer(false, 1, 7, 0)), no_event())
 }
 
-// Writes a record into a buffer of 96, and shows the whole buffer.
-fn say_record<W: Write>(out: &mut W, name: &[u8], h: History) -> io::Result<()> {
-    let mut buffer = [46u8; 96];
-    let w = write_history(&mut buffer, h);
-    say(out, b"write ")?;
-    say(out, name)?;
-    say(out, b": ")?;
-    say_number(out, w.number as u64)?;
-    say(out, b", length ")?;
-    say_number(out, w.length as u64)?;
-    say(out, b": [")?;
-    say_larger_buffer(out, &buffer)?;
-    say(out, b"]\n")
+// Writes a record into a buffer of 96.
+fn say_record<W: Write>(out: &mut W, name: &str, h: History) -> io::Result<()> {
+    let mut buffer = [b'.'; 96];
+    let answer = write_history(&mut buffer, h);
+    write!(out, "write {name}")?;
+    say_answer(out, answer, &buffer)
 }
 
 // A record that a text stands for, and three that differ from it in one number and that none stands for.
 fn records<W: Write>(out: &mut W) -> io::Result<()> {
     let seven = answer(false, 1, 7, 0);
-    let none = unused(answer(false, 0, 0, 0));
-    say_record(out, b"process 7", record(pop(7, 0, seven), none))?;
-    say_record(out, b"process 8", record(pop(8, 0, seven), none))?;
-    say_record(out, b"an undeclared object", record(pop(7, 1, seven), none))?;
+    let none = no_event();
+    say_record(out, "process 7", record(pop(7, 0, seven), none))?;
+    say_record(out, "process 8", record(pop(8, 0, seven), none))?;
+    say_record(out, "an undeclared object", record(pop(7, 1, seven), none))?;
     say_record(
         out,
-        b"a value in a place that is not used",
+        "a value in a place that is not used",
         record(pop(7, 0, answer(false, 1, 7, 1)), none),
     )
 }
@@ -195,51 +162,51 @@ fn records<W: Write>(out: &mut W) -> io::Result<()> {
 fn records_with_lost_answers<W: Write>(out: &mut W) -> io::Result<()> {
     let seven = answer(false, 1, 7, 0);
     let lost = answer(true, 0, 0, 0);
-    let none = unused(answer(false, 0, 0, 0));
-    say_record(out, b"a lost answer", record(pop(7, 0, lost), none))?;
+    let none = no_event();
+    say_record(out, "a lost answer", record(pop(7, 0, lost), none))?;
     say_record(
         out,
-        b"a lost answer of one value",
+        "a lost answer of one value",
         record(pop(7, 0, answer(true, 1, 7, 0)), none),
     )?;
     say_record(
         out,
-        b"a number beside a lost answer",
+        "a number beside a lost answer",
         record(pop(7, 0, answer(true, 0, 7, 0)), none),
     )?;
     say_record(
         out,
-        b"a lost answer in an event that is not used",
+        "a lost answer in an event that is not used",
         record(pop(7, 0, seven), unused(lost)),
     )
 }
 
 // A channel with the most slots, and with one more, with none, and a queue with a width.
 fn records_with_channels<W: Write>(out: &mut W) -> io::Result<()> {
-    say_record(out, b"a channel of 64", record_with(Kind::Channel, 64))?;
-    say_record(out, b"a channel of 65", record_with(Kind::Channel, 65))?;
-    say_record(out, b"a channel of 0", record_with(Kind::Channel, 0))?;
-    say_record(out, b"a queue of 8", record_with(Kind::Queue, 8))
+    say_record(out, "a channel of 64", record_with(Kind::Channel, 64))?;
+    say_record(out, "a channel of 65", record_with(Kind::Channel, 65))?;
+    say_record(out, "a channel of 0", record_with(Kind::Channel, 0))?;
+    say_record(out, "a queue of 8", record_with(Kind::Queue, 8))
 }
 
 // Texts of line feeds alone: as many as a history may have bytes, and one more.
 fn long_texts<W: Write>(out: &mut W) -> io::Result<()> {
     let longest = [10u8; 16384];
-    case(out, b"16384 bytes", &longest)?;
+    case(out, "16384 bytes", &longest)?;
     let longer = [10u8; 16385];
-    case(out, b"16385 bytes", &longer)
+    case(out, "16385 bytes", &longer)
 }
 
 // As many objects as a history may have, and one more.
 fn objects_to_the_limit<W: Write>(out: &mut W) -> io::Result<()> {
     case(
         out,
-        b"16 objects",
+        "16 objects",
         b"object kind width\n0 queue -\n1 queue -\n2 queue -\n3 queue -\n4 queue -\n5 queue -\n6 queue -\n7 queue -\n8 queue -\n9 queue -\n10 queue -\n11 queue -\n12 queue -\n13 queue -\n14 queue -\n15 queue -\nevent process object op value answer\n",
     )?;
     case(
         out,
-        b"17 objects",
+        "17 objects",
         b"object kind width\n0 queue -\n1 queue -\n2 queue -\n3 queue -\n4 queue -\n5 queue -\n6 queue -\n7 queue -\n8 queue -\n9 queue -\n10 queue -\n11 queue -\n12 queue -\n13 queue -\n14 queue -\n15 queue -\n16 queue -\nevent process object op value answer\n",
     )
 }
@@ -256,23 +223,18 @@ fn push_byte(i: usize) -> u8
         return first[i];
     }
     let e = (i - 55) / 16;
-    let k = (i - 55) % 16;
-    if k == 0 {
-        return 48 + (e / 10) as u8;
+    match (i - 55) % 16 {
+        0 => b'0' + (e / 10) as u8,
+        1 => b'0' + (e % 10) as u8,
+        k => line[k],
     }
-    if k == 1 {
-        return 48 + (e % 10) as u8;
-    }
-    line[k]
 }
 
 // The text of one queue and 65 events.
 fn push_text() -> [u8; 1095] {
     let mut text = [0u8; 1095];
-    let mut i = 0;
-    while i < 1095 {
-        text[i] = push_byte(i);
-        i += 1;
+    for (i, byte) in text.iter_mut().enumerate() {
+        *byte = push_byte(i);
     }
     text
 }
@@ -280,50 +242,50 @@ fn push_text() -> [u8; 1095] {
 // As many events as a history may have, and one more: the text of 65 events without its last line, and all of it.
 fn events_to_the_limit<W: Write>(out: &mut W) -> io::Result<()> {
     let text = push_text();
-    case(out, b"64 events", &text[0..1079])?;
-    case(out, b"65 events", &text)
+    case(out, "64 events", &text[0..1079])?;
+    case(out, "65 events", &text)
 }
 
 // Histories that are read, and the widths of objects.
 fn of_objects<W: Write>(out: &mut W) -> io::Result<()> {
     case(
         out,
-        b"Q",
+        "Q",
         b"object kind width\n0 queue -\nevent process object op value answer\n0 0 0 push 7 -\n1 1 0 pop - 7\n",
     )?;
     case(
         out,
-        b"empty history",
+        "empty history",
         b"object kind width\nevent process object op value answer\n",
     )?;
     case(
         out,
-        b"width 8",
+        "width 8",
         b"object kind width\n0 window 8\nevent process object op value answer\n0 7 0 read - 0,0,0,0,0,0,0,0\n",
     )?;
     case(
         out,
-        b"width 9",
+        "width 9",
         b"object kind width\n0 window 9\nevent process object op value answer\n",
     )?;
     case(
         out,
-        b"width 0",
+        "width 0",
         b"object kind width\n0 window 0\nevent process object op value answer\n",
     )?;
     case(
         out,
-        b"width of a register",
+        "width of a register",
         b"object kind width\n0 register 1\nevent process object op value answer\n",
     )?;
     case(
         out,
-        b"width 9 of a register",
+        "width 9 of a register",
         b"object kind width\n0 register 9\nevent process object op value answer\n",
     )?;
     case(
         out,
-        b"window without a width",
+        "window without a width",
         b"object kind width\n0 window -\nevent process object op value answer\n",
     )
 }
@@ -332,42 +294,42 @@ fn of_objects<W: Write>(out: &mut W) -> io::Result<()> {
 fn of_channels<W: Write>(out: &mut W) -> io::Result<()> {
     case(
         out,
-        b"channel of 64",
+        "channel of 64",
         b"object kind width\n0 channel 64\nevent process object op value answer\n0 0 0 push 5 -\n1 0 0 push 6 6\n2 1 0 pop - 5\n",
     )?;
     case(
         out,
-        b"channel of 65",
+        "channel of 65",
         b"object kind width\n0 channel 65\nevent process object op value answer\n",
     )?;
     case(
         out,
-        b"channel of 0",
+        "channel of 0",
         b"object kind width\n0 channel 0\nevent process object op value answer\n",
     )?;
     case(
         out,
-        b"channel without a width",
+        "channel without a width",
         b"object kind width\n0 channel -\nevent process object op value answer\n",
     )?;
     case(
         out,
-        b"width 9 of a queue",
+        "width 9 of a queue",
         b"object kind width\n0 queue 9\nevent process object op value answer\n",
     )?;
     case(
         out,
-        b"width 8 of a queue",
+        "width 8 of a queue",
         b"object kind width\n0 queue 8\nevent process object op value answer\n",
     )?;
     case(
         out,
-        b"two values of a push",
+        "two values of a push",
         b"object kind width\n0 channel 1\nevent process object op value answer\n0 0 0 push 5 5,5\n",
     )?;
     case(
         out,
-        b"value of a push on a queue",
+        "value of a push on a queue",
         b"object kind width\n0 queue -\nevent process object op value answer\n0 0 0 push 5 5\n",
     )
 }
@@ -376,37 +338,37 @@ fn of_channels<W: Write>(out: &mut W) -> io::Result<()> {
 fn of_events<W: Write>(out: &mut W) -> io::Result<()> {
     case(
         out,
-        b"process 7",
+        "process 7",
         b"object kind width\n0 stack -\nevent process object op value answer\n0 7 0 pop - -\n",
     )?;
     case(
         out,
-        b"process 8",
+        "process 8",
         b"object kind width\n0 stack -\nevent process object op value answer\n0 8 0 pop - -\n",
     )?;
     case(
         out,
-        b"value 65535",
+        "value 65535",
         b"object kind width\n0 register -\nevent process object op value answer\n0 0 0 write 65535 -\n",
     )?;
     case(
         out,
-        b"value 65536",
+        "value 65536",
         b"object kind width\n0 register -\nevent process object op value answer\n0 0 0 write 65536 -\n",
     )?;
     case(
         out,
-        b"undeclared object",
+        "undeclared object",
         b"object kind width\n0 register -\nevent process object op value answer\n0 0 1 write 1 -\n",
     )?;
     case(
         out,
-        b"op that the kind lacks",
+        "op that the kind lacks",
         b"object kind width\n0 register -\nevent process object op value answer\n0 0 0 push 1 -\n",
     )?;
     case(
         out,
-        b"value where none belongs",
+        "value where none belongs",
         b"object kind width\n0 register -\nevent process object op value answer\n0 0 0 read 1 1\n",
     )
 }
@@ -415,37 +377,37 @@ fn of_events<W: Write>(out: &mut W) -> io::Result<()> {
 fn of_lost_answers<W: Write>(out: &mut W) -> io::Result<()> {
     case(
         out,
-        b"lost answers of every op",
+        "lost answers of every op",
         b"object kind width\n0 register -\n1 queue -\n2 window 8\nevent process object op value answer\n0 0 0 write 1 ?\n1 0 0 read - ?\n2 1 1 push 2 ?\n3 1 1 pop - ?\n4 2 1 peek - ?\n5 2 2 read - ?\n",
     )?;
     case(
         out,
-        b"lost before a value",
+        "lost before a value",
         b"object kind width\n0 queue -\nevent process object op value answer\n0 0 0 pop - ?,7\n",
     )?;
     case(
         out,
-        b"lost behind a value",
+        "lost behind a value",
         b"object kind width\n0 queue -\nevent process object op value answer\n0 0 0 pop - 7,?\n",
     )?;
     case(
         out,
-        b"lost twice",
+        "lost twice",
         b"object kind width\n0 queue -\nevent process object op value answer\n0 0 0 pop - ??\n",
     )?;
     case(
         out,
-        b"lost value",
+        "lost value",
         b"object kind width\n0 queue -\nevent process object op value answer\n0 0 0 push ? -\n",
     )?;
     case(
         out,
-        b"lost answer of process 8",
+        "lost answer of process 8",
         b"object kind width\n0 queue -\nevent process object op value answer\n0 8 0 pop - ?\n",
     )?;
     case(
         out,
-        b"lost answer of an op that the kind lacks",
+        "lost answer of an op that the kind lacks",
         b"object kind width\n0 register -\nevent process object op value answer\n0 0 0 pop - ?\n",
     )
 }
@@ -454,45 +416,45 @@ fn of_lost_answers<W: Write>(out: &mut W) -> io::Result<()> {
 fn of_answers_and_layout<W: Write>(out: &mut W) -> io::Result<()> {
     case(
         out,
-        b"answer of two values",
+        "answer of two values",
         b"object kind width\n0 register -\nevent process object op value answer\n0 0 0 read - 1,2\n",
     )?;
     case(
         out,
-        b"window's answers of no value to two",
+        "window's answers of no value to two",
         b"object kind width\n0 window 2\nevent process object op value answer\n0 0 0 read - -\n1 0 0 read - 4\n2 0 0 read - 4,9\n",
     )?;
     case(
         out,
-        b"window's answer of three values",
+        "window's answer of three values",
         b"object kind width\n0 window 2\nevent process object op value answer\n0 0 0 read - 4,9,7\n",
     )?;
     case(
         out,
-        b"answer of nine values",
+        "answer of nine values",
         b"object kind width\n0 window 8\nevent process object op value answer\n0 0 0 read - 1,2,3,4,5,6,7,8,9\n",
     )?;
     case(
         out,
-        b"layout before limits",
+        "layout before limits",
         b"object kind width\n0 register -\nevent process object op value answer\n0 8 0 write 01 -\n",
     )?;
     case(
         out,
-        b"wrong own number",
+        "wrong own number",
         b"object kind width\n1 register -\nevent process object op value answer\n",
     )?;
     case(
         out,
-        b"no final line feed",
+        "no final line feed",
         b"object kind width\nevent process object op value answer",
     )?;
     case(
         out,
-        b"no heading of the events",
+        "no heading of the events",
         b"object kind width\n0 queue -\n",
     )?;
-    case(out, b"empty text", b"")
+    case(out, "empty text", b"")
 }
 
 // One record into buffers of several lengths.
