@@ -4,134 +4,83 @@
 
 #![tactic(auto)]
 
-ghost use Rattle.std.specs.Prelude.{◌<◌};
-
-use layout::fill::Written;
-use layout::list::ListRead;
-use layout::number::Number;
+use layout::list::{ListFault, read_list, write_list};
+use layout::number::{NumberFault, read_number};
 use std::io;
 use std::io::Write;
 
-fn say<W: Write>(out: &mut W, bytes: &[u8]) -> io::Result<()> {
-    out.write_all(bytes)
-}
-
-fn say_buffer<W: Write>(out: &mut W, buffer: &[u8; 8]) -> io::Result<()> {
-    let all: &[u8] = buffer;
-    say(out, all)
-}
-
 fn say_number<W: Write>(out: &mut W, field: &[u8]) -> io::Result<()> {
-    let n = layout::number::read_number(field, 65536);
-    match n {
-        Number::NotNumber => say(out, b"no number"),
-        Number::Value(v) => {
-            say(out, b"number ")?;
-            write!(out, "{v}")
-        }
-        Number::Over => say(out, b"over the limit"),
+    match read_number(field, 65536) {
+        Ok(v) => write!(out, "number {v}"),
+        Err(NumberFault::NotNumber) => out.write_all(b"no number"),
+        Err(NumberFault::Over) => out.write_all(b"over the limit"),
     }
 }
 
-fn say_answer<W: Write>(out: &mut W, w: Written) -> io::Result<()> {
-    match w {
-        Written::Wrote(n) => {
-            say(out, b", written in ")?;
-            write!(out, "{}", n as u64)?;
-            say(out, b" bytes: ")
-        }
-        Written::Short => say(out, b", no room: "),
+fn say_answer<W: Write>(out: &mut W, written: Option<usize>) -> io::Result<()> {
+    match written {
+        Some(n) => write!(out, ", written in {n} bytes: "),
+        None => out.write_all(b", no room: "),
     }
 }
 
 // Writes a list back into a part of the buffer with room for six bytes, and shows the buffer.
 fn say_written<W: Write>(out: &mut W, items: &[u32]) -> io::Result<()> {
-    let mut buffer = [46u8; 8];
-    let w = layout::list::write_list(&mut buffer[1..7], items);
-    say_answer(out, w)?;
-    say_buffer(out, &buffer)
+    let mut buffer = [b'.'; 8];
+    let written = write_list(&mut buffer[1..7], items);
+    say_answer(out, written)?;
+    out.write_all(&buffer)
 }
 
 fn say_list<W: Write>(out: &mut W, field: &[u8]) -> io::Result<()> {
     let mut items = [0u32; 4];
-    let r = layout::list::read_list(field, 4, 4, &mut items);
-    match r {
-        ListRead::NotList => say(out, b"no list"),
-        ListRead::Over => say(out, b"an entry over the limit"),
-        ListRead::Many => say(out, b"too many entries"),
-        ListRead::Listed(n) => {
-            say(out, b"list of ")?;
-            write!(out, "{}", n as u64)?;
-            if n <= 4 {
-                say_written(out, &items[0..n])?;
-            }
-            Ok(())
+    match read_list(field, 4, &mut items) {
+        Ok(n) => {
+            write!(out, "list of {n}")?;
+            say_written(out, &items[..n.min(4)])
         }
+        Err(ListFault::NotList) => out.write_all(b"no list"),
+        Err(ListFault::Over) => out.write_all(b"an entry over the limit"),
+        Err(ListFault::Many) => out.write_all(b"too many entries"),
     }
 }
 
 fn case<W: Write>(out: &mut W, field: &[u8]) -> io::Result<()> {
-    say(out, field)?;
-    say(out, b": ")?;
+    out.write_all(field)?;
+    out.write_all(b": ")?;
     say_number(out, field)?;
-    say(out, b"; ")?;
+    out.write_all(b"; ")?;
     say_list(out, field)?;
-    say(out, b"\n")
-}
-
-// The sum of bytes that Adler-32 keeps, after one byte more.
-fn next_sum(a: u64, byte: u8) -> u64
-    requires { a < 65521 }
-    ensures { result < 65521 }
-{
-    (a + byte as u64) % 65521
+    out.write_all(b"\n")
 }
 
 // Adler-32 (RFC 1950): a checksum in which every byte and its place count.
 fn adler(bytes: &[u8]) -> u64 {
     let mut a: u64 = 1;
     let mut b: u64 = 0;
-    let mut i = 0;
-    while i < bytes.len() {
-        a = next_sum(a, bytes[i]);
+    for byte in bytes {
+        a = (a + u64::from(*byte)) % 65521;
         b = (b + a) % 65521;
-        i += 1;
     }
     b * 65536 + a
 }
 
-// Shows the checksum of the first n bytes of a buffer.
-fn say_checksum<W: Write>(out: &mut W, buffer: &[u8; 8192], n: usize) -> io::Result<()> {
-    let all: &[u8] = buffer;
-    if n <= 8192 {
-        write!(out, "{}", adler(&all[0..n]))?;
-    }
-    Ok(())
-}
-
 // Writes a list into a part of so many bytes, and shows the checksum of that part with the byte before it and the one behind it.
 fn say_part<W: Write>(out: &mut W, items: &[u32], n: usize) -> io::Result<()> {
-    let mut buffer = [46u8; 8192];
-    if n <= 8190 {
-        say(out, b"list of ")?;
-        write!(out, "{}", items.len() as u64)?;
-        say(out, b", part of ")?;
-        write!(out, "{}", n as u64)?;
-        say(out, b" bytes")?;
-        let w = layout::list::write_list(&mut buffer[1..1 + n], items);
-        say_answer(out, w)?;
-        say_checksum(out, &buffer, n + 2)?;
-        say(out, b"\n")?;
+    let mut buffer = [b'.'; 8192];
+    if n > 8190 {
+        return Ok(());
     }
-    Ok(())
+    write!(out, "list of {}, part of {n} bytes", items.len())?;
+    let written = write_list(&mut buffer[1..1 + n], items);
+    say_answer(out, written)?;
+    write!(out, "{}\n", adler(&buffer[..n + 2]))
 }
 
 // Writes a list into a part of every length from one up to another, which is left out.
 fn parts<W: Write>(out: &mut W, items: &[u32], from: usize, to: usize) -> io::Result<()> {
-    let mut n = from;
-    while n < to {
+    for n in from..to {
         say_part(out, items, n)?;
-        n += 1;
     }
     Ok(())
 }
@@ -139,16 +88,10 @@ fn parts<W: Write>(out: &mut W, items: &[u32], from: usize, to: usize) -> io::Re
 // A thousand numbers, with every count of digits among them: the largest, its half, and so on down to 0, over and over.
 fn thousand() -> [u32; 1000] {
     let mut items = [0u32; 1000];
-    let mut v: u32 = 4294967295;
-    let mut i = 0;
-    while i < 1000 {
-        items[i] = v;
-        if v == 0 {
-            v = 4294967295;
-        } else {
-            v = v / 2;
-        }
-        i += 1;
+    let mut v = u32::MAX;
+    for item in items.iter_mut() {
+        *item = v;
+        v = if v == 0 { u32::MAX } else { v / 2 };
     }
     items
 }
@@ -164,37 +107,41 @@ fn lists<W: Write>(out: &mut W) -> io::Result<()> {
     parts(out, &items, 6394, 6401)
 }
 
+// Fields, good and damaged.
+const FIELDS: [&[u8]; 27] = [
+    b"0",
+    b"7",
+    b"65535",
+    b"65536",
+    b"4294967297",
+    b"18446744073709551617",
+    b"100000000000000000000000000000000000000000000000000000000000000000000000000000000000000000001",
+    b"00",
+    b"01",
+    b"+1",
+    b"1x",
+    b"",
+    b"-",
+    b"3,1,2",
+    b"3,1,2,0",
+    b"0,0,0,0",
+    b"0,1,2,3,0",
+    b"0,1,2,3,9",
+    b"0,4",
+    b"0,4294967296",
+    b"0,4,x",
+    b"0,,1",
+    b",1",
+    b"1,",
+    b"1,-",
+    b"01,2",
+    b"1 2",
+];
+
 fn main(rt: HostRuntime) -> io::Result<()> {
     let mut out = io::writer(&rt);
-    case(&mut out, b"0")?;
-    case(&mut out, b"7")?;
-    case(&mut out, b"65535")?;
-    case(&mut out, b"65536")?;
-    case(&mut out, b"4294967297")?;
-    case(&mut out, b"18446744073709551617")?;
-    case(
-        &mut out,
-        b"100000000000000000000000000000000000000000000000000000000000000000000000000000000000000000001",
-    )?;
-    case(&mut out, b"00")?;
-    case(&mut out, b"01")?;
-    case(&mut out, b"+1")?;
-    case(&mut out, b"1x")?;
-    case(&mut out, b"")?;
-    case(&mut out, b"-")?;
-    case(&mut out, b"3,1,2")?;
-    case(&mut out, b"3,1,2,0")?;
-    case(&mut out, b"0,0,0,0")?;
-    case(&mut out, b"0,1,2,3,0")?;
-    case(&mut out, b"0,1,2,3,9")?;
-    case(&mut out, b"0,4")?;
-    case(&mut out, b"0,4294967296")?;
-    case(&mut out, b"0,4,x")?;
-    case(&mut out, b"0,,1")?;
-    case(&mut out, b",1")?;
-    case(&mut out, b"1,")?;
-    case(&mut out, b"1,-")?;
-    case(&mut out, b"01,2")?;
-    case(&mut out, b"1 2")?;
+    for field in FIELDS {
+        case(&mut out, field)?;
+    }
     lists(&mut out)
 }
