@@ -9,8 +9,7 @@ use mathlib.Core.Option as math
 use Rattle.std.specs.Prelude.{Option, Some, None}
 use lib.ListN.{length, get_or, length-map}
 use lib.Dec.{eqb}
-use borrow.Author.Tests.{eqb-true, eq-eqb}
-use Rattle.layout.proofs.Cases.{and_right}
+use borrow.Author.Tests.{eq-eqb}
 use Rattle.history.specs.declared.record.EventNo.{EventNo}
 use Rattle.criteria.specs.Tests.{lowest, keep_if, keep, mem, place}
 use Rattle.criteria.specs.History.{Event, event, only}
@@ -61,16 +60,6 @@ module _ {h : LightHistory} {start : State} {view : List ℕ} {e : ℕ} (row : �
 module _ {h : LightHistory} {starts : List State} {view : List ℕ} {e o : ℕ} (row : ℕ) (r : Ready h starts view) (below : e < h.size)
     (on : o ≡ (get_or h.events e no_light).object) (g : ℕ → Bool)
     (is_row : (f : ℕ) → f < h.size → in_row row f ≡ g f && eqb (get_or h.events f no_light).object o) where
-  pub row-ready : ReadyKept h (get_or starts o no_state) view (in_row row) e
-  row-ready = record {
-    parts = r.parts;
-    short = r.short;
-    event = r.event;
-    own = below;
-    same = λ f l t. eqb-true _ _ (and_right (g f) _ (sym (is_row f l) ∙ t)) ∙ on;
-    start = rw on (r.start (get_or h.events e no_light).object (r.parts.object e below));
-  }
-
   -- the replay of the events that pass is that of those in the row
   row-wrong : length starts ≡ 16
       → first_wrong (history_in h) (only e) (contents_in h.values starts) (keep g view)

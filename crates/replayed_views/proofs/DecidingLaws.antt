@@ -1,5 +1,5 @@
 -- Laws of a view that goes on from another: only the answers that are visible in the rest can be wrong. Assumes nothing.
-use Prim.Native.Nat.{ℕ, zero, suc, ◌+◌, ◌≤◌, ◌<◌}
+use Prim.Native.Nat.{ℕ, zero, suc, ◌+◌, ◌<◌}
 use native.Mathlib.Omega.{arith}
 use mathlib.Core.Path.{◌≡◌, refl, ap, sym, ◌∙◌}
 use mathlib.Core.Bool.{Bool, true, false, not, ◌&&◌, false≢true}
@@ -9,7 +9,6 @@ use lib.ListN.{length, get_or, drop, replicate}
 use lib.Seq.{get_or-drop}
 use Rattle.std.proofs.Common.{length-drop, None, MatchOption}
 use Rattle.std.specs.Prelude as std
-use lib.Dec.{eqb}
 use borrow.Author.Tests.{eq-eqb, eqb-true}
 use Rattle.history.specs.declared.record.EventNo.{EventNo}
 use Rattle.history.specs.declared.record.ProcessNo.{ProcessNo}

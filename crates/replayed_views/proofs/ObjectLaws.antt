@@ -1,17 +1,16 @@
 -- Laws of the replay of one object: where one answer is visible, the other objects' events do not count. Assumes nothing.
 use Prim.Native.Nat.{ℕ, ◌+◌, ◌≤◌, ◌<◌}
-use native.Mathlib.Numerals.{add-one}
 use native.Mathlib.Omega.{arith}
 use mathlib.Core.Path.{◌≡◌, refl, ap, sym, subst, ◌∙◌}
-use mathlib.Core.Bool.{Bool, true, false, not, ◌&&◌, ◌||◌, or-false}
+use mathlib.Core.Bool.{Bool, true, false, not, ◌&&◌}
 use mathlib.Core.List.{List, [], ◌∷◌}
 use mathlib.Core.Option.{Option, none, some}
 use lib.ListN.{length, get_or, drop, set, length-set}
 use lib.Seq.{get_or-set_same, get_or-set_other}
 use Rattle.std.proofs.lemmas.List.{drop_more, drop_all}
 use lib.Dec.{eqb, ltb}
-use borrow.Author.Tests.{eqb-true, eqb-false, eq-eqb, ne_eqb, lt-ltb, le-ltb}
-use Rattle.layout.proofs.Cases.{by-lt, by-eq, and-false}
+use borrow.Author.Tests.{eqb-true, eqb-false, eq-eqb, ne_eqb}
+use Rattle.layout.proofs.Cases.{and-false}
 use Rattle.history.specs.declared.record.Object.{Object}
 use Rattle.history.specs.Record.{no_object, recorded_in}
 use Rattle.criteria.specs.Tests.{or, found_if, keep_if, keep, mem}
@@ -177,40 +176,6 @@ module _ {h : LightHistory} {start : State} {view : List ℕ} {kept : ℕ → Bo
       (λ q. rw q rest)
 
 -- ---- the rows of the objects
-module _ (of : ℕ → ℕ) (f e o : ℕ) where
-  next-below : (f ≡ e → ⊥) → ltb f (e + 1) ≡ ltb f e
-  next-below ne =
-      by-lt f e
-      (λ l. lt-ltb f (e + 1) (omega arith) ∙ sym (lt-ltb f e l))
-      (λ l. le-ltb f (e + 1) (omega (arith, ne)) ∙ sym (le-ltb f e l))
-
-  -- event e is of the object, or of another one
-  pub row_here : of e ≡ o → (ltb f e && eqb (of f) o) || eqb f e ≡ ltb f (e + 1) && eqb (of f) o
-  row_here its =
-      by-eq f e
-      (λ q. rw (q, le-ltb e e (omega arith), lt-ltb e (e + 1) (omega arith), eq-eqb e e refl, eq-eqb (of e) o its))
-      (λ ne. rw (next-below ne, ne_eqb f e ne) (or-false (ltb f e && eqb (of f) o)))
-
-  pub row-there : (of e ≡ o → ⊥) → ltb f e && eqb (of f) o ≡ ltb f (e + 1) && eqb (of f) o
-  row-there other =
-      by-eq f e
-      (λ q. rw (q, le-ltb e e (omega arith), lt-ltb e (e + 1) (omega arith), ne_eqb (of e) o other))
-      (λ ne. rw (next-below ne))
-
 -- the rows of the events before e
 abbrev pub RowsOf : List Light → List ℕ → ℕ → Type 0
 RowsOf ls rows e = (o : ℕ) → o < 16 → (f : ℕ) → in_row (get_or rows o 0) f ≡ ltb f e && eqb (get_or ls f no_light).object o
-
-module _ (ls : List Light) (rows : List ℕ) (e : ℕ) (made : RowsOf ls rows e) where
-  pub rows_on : (row : ℕ) → (get_or ls e no_light).object < length rows
-      → ((f : ℕ) → in_row row f ≡ in_row (get_or rows (get_or ls e no_light).object 0) f || eqb f e)
-      → RowsOf ls (set rows (get_or ls e no_light).object row) (e + 1)
-  rows_on row l more o lo f =
-      let x = (get_or ls e no_light).object in
-      let of : ℕ → ℕ = λ k. (get_or ls k no_light).object in
-      by-eq o x
-      (λ q. rw (q, get_or-set_same rows x row 0 l, more f, made x (rw q at lo) f) (row_here of f e x refl))
-      (λ ne. rw (get_or-set_other rows x o row 0 ne, made o lo f) (row-there of f e o (λ q. ne (sym q))))
-
-  pub rows-still : 16 ≤ (get_or ls e no_light).object → RowsOf ls rows (e + 1)
-  rows-still l o lo f = made o lo f ∙ row-there (λ k. (get_or ls k no_light).object) f e o (omega arith)

@@ -1,19 +1,13 @@
 -- Laws of the search for the lowest view with a wrong answer. Assumes nothing.
 use Prim.Native.Nat.{ℕ, ◌+◌, ◌≤◌, ◌<◌}
 use native.Mathlib.Omega.{arith}
-use mathlib.Core.Path.{◌≡◌, refl, sym, ap, ◌∙◌}
+use mathlib.Core.Path.{◌≡◌, sym}
 use mathlib.Core.Option.{Option, none, some}
 use Rattle.layout.proofs.Cases.{by-eq}
 use Rattle.criteria.specs.Tests.{lowest}
 use Rattle.criteria.proofs.Lists.{none-lowest}
 use Rattle.criteria.proofs.Loops.{lowest-found}
 use Rattle.replayed_views.specs.declared.search.Place.{Place}
-use Rattle.replayed_views.specs.Search.{at_view}
-
--- the replay of view k found nothing
-pub not-placed : (k : ℕ) (o : Option ℕ) → at_view k o ≡ none → o ≡ none
-not-placed k none q = refl
-not-placed k (some e) q = cc
 
 -- nothing was found up to k, nor at k
 pub none-on : {A : Type 0} {f : ℕ → Option A} {k : ℕ} → ((i : ℕ) → i < k → f i ≡ none) → f k ≡ none → (i : ℕ) → i < k + 1 → f i ≡ none

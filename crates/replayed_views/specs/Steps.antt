@@ -1,7 +1,6 @@
 -- How the searches do it: the replay of one object, and the one event that decides a view. Assumes nothing.
 use Rattle.std.specs.Prelude.{ℕ, ◌≤◌, ◌<◌, ◌≡◌, Bool, true, false, not, ◌&&◌, List, [], ◌∷◌, ◌++◌, length, get_or, drop, eqb}
 use Rattle.std.proofs.Math.Option.{Option, none}
-use Rattle.history.specs.declared.record.Object.{Object}
 use Rattle.history.specs.Record.{no_object}
 use Rattle.criteria.specs.Object.{after, gives}
 use Rattle.criteria.specs.Tests.{or, found_if, mem}

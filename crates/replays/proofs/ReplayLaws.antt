@@ -1,6 +1,5 @@
 -- Laws of the replay: one event's test, and one turn of the loop. Assumes nothing.
 use Prim.Native.Nat.{ℕ, zero, suc, ◌+◌, ◌≤◌, ◌<◌}
-use native.Mathlib.Numerals.{add-one}
 use native.Mathlib.Omega.{arith}
 use native.Mathlib.Decide.{ℕ_discrete}
 use mathlib.Core.Path.{◌≡◌, refl, ap, ap₂, sym, subst, ◌∙◌}
@@ -41,12 +40,6 @@ use Rattle.replays.specs.declared.light.LightHistory.{LightHistory}
 use Rattle.replays.specs.declared.replay.Light.{Light}
 use Rattle.replays.specs.declared.replay.Visible.{Visible}
 use Rattle.replays.specs.declared.replay.Visible.TheVariants.{All, Of, Only}
-
--- there is no value past the last
-pub past_end : (vs : List ℕ) (k : ℕ) → length vs ≤ k → get_or vs k 0 ≡ 0
-past_end [] k le = refl
-past_end (x ∷ xs) zero le = absurd (omega (arith, le))
-past_end (x ∷ xs) (suc k) le = past_end xs k (omega (arith, le))
 
 pub same-decides : {b : Bool} {xs ys : List ℕ} → Decides b (xs ≡ ys) → b ≡ same_list xs ys
 same-decides {b} {xs} {ys} d = same_from_decides b (same_list xs ys) d (list-decides xs ys)
@@ -182,9 +175,6 @@ module _ (h : LightHistory) where
 
   -- event x, of the object o
   module _ (parts : SoundParts h) {x o : ℕ} (lt : x < h.size) (on : o ≡ (get_or h.events x no_light).object) where
-    pub place-of : x < 64
-    place-of = omega (arith, parts.small)
-
     pub object-of : o < 16
     object-of = rw on (parts.object x lt)
 

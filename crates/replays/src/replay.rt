@@ -3,7 +3,6 @@ ghost use Rattle.std.specs.Prelude.{◌≡◌, ◌≤◌, false, not, ◌&&◌, 
 ghost use Rattle.history.specs.Record.{recorded_in};
 ghost use Rattle.criteria.specs.Check.{fits, first_wrong};
 ghost use Rattle.criteria.specs.OneLine.{is_update};
-ghost use Rattle.criteria.specs.Tests.{same_list};
 ghost use Rattle.objects.specs.State.{value_in, given_of};
 ghost use Rattle.replays.specs.Replay.{history_in, contents_in, is_visible, found_event, Ready};
 ghost use Rattle.replays.specs.Steps.{sees_of};

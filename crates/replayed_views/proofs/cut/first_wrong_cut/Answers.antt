@@ -3,14 +3,12 @@ use native.Mathlib.Omega.{arith}
 use Prim.Native.Nat.{ℕ, ◌<◌}
 use mathlib.Core.Path.{◌≡◌, ap₂, ◌∙◌}
 use mathlib.Core.Bool.{◌&&◌}
-use mathlib.Core.Option.{Option}
 use lib.ListN.{length, get_or}
 use lib.Dec.{eqb}
 use borrow.Author.Rules.{rules}
 use Rattle.criteria.specs.History.{past_with}
 use Rattle.orders.specs.Rows.{in_row, in_rows}
-use Rattle.replays.specs.Replay.{no_light, history_in, contents_in, found_event}
-use Rattle.replayed_views.specs.Cut.{wrong_cut}
+use Rattle.replays.specs.Replay.{no_light}
 use Rattle.replays.proofs.ReplayLaws.{object-of}
 use Rattle.replayed_views.proofs.SearchLaws.{none-on}
 use Rattle.replayed_views.proofs.CutLaws.{row-found, found-some, found-none, event-found, event-none}

@@ -1,5 +1,5 @@
 -- What stands in the tables is earlier.
-use Rattle.std.proofs.Common.{ℕ, ◌<◌, get_or, length, ◌≡◌, None, MatchOption}
+use Rattle.std.proofs.Common.{ℕ, ◌<◌, get_or, None, MatchOption}
 use Rattle.replayed_views.proofs.deciding.earlier_views.Given as goal
 
 abbrev pub invariant-loop-k : goal.invariant-loop-k

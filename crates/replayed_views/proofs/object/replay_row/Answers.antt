@@ -1,10 +1,8 @@
 -- The view is cut down to the row, and the part is replayed; a silent event is never wrong.
 use native.Mathlib.Omega.{arith}
-use Prim.Native.Nat.{ℕ, ◌≤◌}
 use mathlib.Core.Path.{◌≡◌, ap, ◌∙◌}
 use mathlib.Core.Bool.{true}
-use mathlib.Core.List.{List}
-use lib.ListN.{length, get_or, length-take}
+use lib.ListN.{get_or, length-take}
 use Rattle.objects.specs.State.{contents_of}
 use Rattle.replays.specs.Replay.{no_light, history_in}
 use Rattle.replayed_views.specs.Steps.{one_wrong}

@@ -1,6 +1,6 @@
 -- Nothing is wrong in the views before view k, so the one before it is right.
 use native.Mathlib.Omega.{arith}
-use mathlib.Core.Path.{◌≡◌, ap, sym, ◌∙◌}
+use mathlib.Core.Path.{ap, sym}
 use Rattle.replays.specs.Replay.{history_in, contents_in}
 use Rattle.replayed_views.specs.Search.{at_view}
 use Rattle.replayed_views.proofs.CutLaws.{found-some, found-none}
