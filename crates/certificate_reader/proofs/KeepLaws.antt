@@ -4,7 +4,7 @@ use native.Mathlib.Omega.{arith}
 use mathlib.Core.Path.{◌≡◌, refl, sym, ap, subst, ◌∙◌}
 use mathlib.Core.Bool.{Bool, true, false, ◌&&◌}
 use mathlib.Core.List.{List, [], ◌∷◌, ◌++◌, map, map-append}
-use lib.ListN.{length, get_or, take, drop, set, replicate, length-map, length-append, length-drop, drop_of_length-le}
+use lib.ListN.{length, get_or, take, drop, set, replicate, length-map, length-append, drop_of_length-le}
 use Rattle.std.proofs.Common.{get_or-set_other, get_or-set_same}
 use Rattle.std.proofs.lemmas.List.{take_more_set}
 use lib.Seq.{take-length}
@@ -27,7 +27,6 @@ use Rattle.history_reader.proofs.ReadLaws.{fault-some}
 use Rattle.certificate.specs.declared.record.Criterion.{Criterion}
 use Rattle.certificate.specs.declared.record.Criterion.TheVariants.{Weak}
 use Rattle.certificate.specs.declared.record.EventList.{EventList}
-use Rattle.certificate.specs.declared.record.Certificate.{Certificate}
 use Rattle.certificate.specs.Record.{no_list, no_row, event_list_of, row_of, certificate_of, rows_of}
 use Rattle.certificate.specs.Criteria.{has_pasts, count_from, view_numbers}
 use Rattle.certificate.specs.Faults.{list_layout, list_limits, pair_fault, list_fault, list_said}
@@ -108,15 +107,6 @@ module _ (line : ℕ) (s : List ℕ) (a : ℕ) (from : a ≤ length s) (x : Next
   list-more z =
       let k = read_short past count n s a from x q found z in
       lists-more line s a x.end found from to past count next n ns ls k x.fault (read-fault past count n s a from x q found k) z
-
--- ---- numbers that are left
-count_next : (i n : ℕ) → i < n → count_from i (n - i) ≡ i ∷ count_from (i + 1) (n - (i + 1))
-unfolding count_from
-count_next i n h = let k : n - i ≡ suc (n - (i + 1)) = omega arith in rw k
-
-count-end : (i n : ℕ) → n ≤ i → count_from i (n - i) ≡ []
-unfolding count_from
-count-end i n h = let k : n - i ≡ 0 = omega arith in rw k
 
 -- ---- the lists that are kept in an array: what the rest of the text will say
 pub record Reading (past : Bool) (count : ℕ) (numbers : List ℕ) (line : Line) (text : List ℕ) (lists : List EventList) (i : ℕ) (now : Line) : Type 0 where
@@ -266,9 +256,6 @@ module _ (c : Criterion) (es : List Event) (line : Line) (text : List ℕ) where
 
 -- ---- the views
 module _ (c : Criterion) (es : List Event) (line : Line) (text : List ℕ) where
-  abbrev of_views : List (List ℕ) → LinesSay
-  of_views pasts = views_from c (length es) (view_numbers c es) pasts
-
   pub views-unheaded : (r : Refusal) → ((next : LinesSay) → lines_at (heading_from view_heading next) line text ≡ refused r)
       → (pasts : List (List ℕ)) → lines_at (views_from c (length es) (view_numbers c es) pasts) line text ≡ refused r
   unfolding views_from

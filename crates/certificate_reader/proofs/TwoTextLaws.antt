@@ -3,13 +3,13 @@ use Prim.Native.Nat.{ℕ, ◌≤◌}
 use native.Mathlib.Omega.{arith}
 use mathlib.Core.Path.{◌≡◌, sym, ap, ◌∙◌}
 use mathlib.Core.Bool.{cond}
-use mathlib.Core.List.{List, []}
+use mathlib.Core.List.{List}
 use lib.ListN.{length}
 use lib.Dec.{eqb}
 use borrow.Author.Tests.{eq-eqb, ne_eqb}
 use Rattle.std.specs.Prelude.{Ok, Err}
 use Rattle.layout.proofs.Cases.{by-eq}
-use Rattle.history.specs.Record.{pad, no_history, events_in}
+use Rattle.history.specs.Record.{pad, events_in}
 use Rattle.history.specs.Faults.{fault_number}
 use Rattle.history.specs.declared.record.History.{History}
 use Rattle.history_reader.specs.declared.read.Refusal.{Refusal}
@@ -17,10 +17,9 @@ use Rattle.history_reader.specs.Place.{Place, nowhere, line_place, text_named}
 use Rattle.history_reader.specs.ReadHistory.{HistoryRead, history_read, read_history}
 use Rattle.history_reader.proofs.PlaceLaws.{placed-history}
 use Rattle.history_reader.proofs.ReadLaws.{fault-some}
-use Rattle.certificate.specs.declared.record.Criterion.TheVariants.{Pram}
 use Rattle.certificate.specs.declared.record.Certificate.{Certificate}
-use Rattle.certificate.specs.Record.{no_certificate, certificate_of, rows_of}
-use Rattle.certificate_reader.specs.ReadCertificate.{Lines, CertificateRead, accepted, read_lines, history_refused, certificate_read, texts_read, read_certificate, rows_after, rows_read}
+use Rattle.certificate.specs.Record.{no_certificate, certificate_of}
+use Rattle.certificate_reader.specs.ReadCertificate.{Lines, CertificateRead, read_lines, history_refused, certificate_read, texts_read, read_certificate, rows_after, rows_read}
 use Rattle.certificate_reader.specs.Steps.Lines.{refused, AllDone}
 use Rattle.certificate_reader.proofs.PlaceLaws.{placed-text}
 

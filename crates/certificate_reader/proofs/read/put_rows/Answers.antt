@@ -1,9 +1,7 @@
 -- `put_rows` meets its contract: the first places hold what is made of the first views. Assumes nothing.
 use native.Mathlib.Omega.{arith}
 use borrow.Author.Rules.{rules}
-use Prim.Native.Nat.{ℕ, ◌≤◌}
 use mathlib.Core.Path.{◌≡◌, ◌∙◌}
-use mathlib.Core.List.{[]}
 use lib.ListN.{length, length-set}
 use Rattle.certificate.specs.declared.record.EventList.{EventList}
 use Rattle.certificate_reader.proofs.KeepLaws.{set-mapped, all-mapped}

@@ -1,5 +1,4 @@
 -- `read_end` meets its contract: no line is left. Assumes nothing.
-use native.Mathlib.Omega.{arith}
 use mathlib.Core.Path.{sym, ◌∙◌}
 use Rattle.history_reader.proofs.EventPlaceLaws.{line-end}
 use Rattle.certificate_reader.proofs.ReadLaws.{end-here, end-bad}

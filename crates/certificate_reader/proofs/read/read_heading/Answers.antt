@@ -1,6 +1,6 @@
 -- `read_heading` meets its contract: a line that is the heading, whatever follows. Assumes nothing.
 use native.Mathlib.Omega.{arith}
-use Prim.Native.Nat.{ℕ, ◌+◌}
+use Prim.Native.Nat.{◌+◌}
 use mathlib.Core.Path.{◌≡◌, sym, ◌∙◌}
 use lib.ListN.{length, drop, length-drop}
 use Rattle.layout.specs.Split.{find}

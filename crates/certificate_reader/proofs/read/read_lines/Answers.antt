@@ -1,6 +1,6 @@
 -- `read_lines` meets its contract: the first line names the criterion. Assumes nothing.
 use native.Mathlib.Omega.{arith}
-use Prim.Native.Nat.{ℕ, ◌+◌}
+use Prim.Native.Nat.{◌+◌}
 use mathlib.Core.Path.{◌≡◌, refl, sym, ◌∙◌}
 use lib.ListN.{length, drop}
 use Rattle.std.proofs.lemmas.Result.{err_from_is_err_and}

@@ -1,7 +1,7 @@
 -- `read_lists` meets its contract: what the lines say is what those that are left say, after the lists that are kept. Assumes nothing.
 use native.Mathlib.Omega.{arith}
 use borrow.Author.Rules.{rules}
-use Prim.Native.Nat.{ℕ, ◌<◌, ◌≤◌, ◌-◌}
+use Prim.Native.Nat.{ℕ, ◌-◌}
 use mathlib.Core.Path.{◌≡◌, sym, ap, ◌∙◌}
 use lib.ListN.{get_or, drop}
 use Rattle.std.proofs.lemmas.Result.{err_from_is_err_and}

@@ -1,15 +1,15 @@
 -- `read_objects` meets its contract: the answer for all lines is the answer for the lines that are left. Assumes nothing.
 use native.Mathlib.Omega.{arith}
-use Prim.Native.Nat.{ℕ, ◌<◌, ◌-◌, ◌+◌}
+use Prim.Native.Nat.{◌<◌, ◌-◌, ◌+◌}
 use mathlib.Core.Path.{◌≡◌, refl, sym, ap, ◌∙◌}
 use mathlib.Core.List.{List}
-use lib.ListN.{length, take, drop, length-drop}
-use Rattle.std.specs.Prelude.{Ok, Err}
+use lib.ListN.{length, drop, length-drop}
+use Rattle.std.specs.Prelude.{Err}
 use borrow.Author.Rules.{rules}
 use Rattle.std.proofs.lemmas.Result.{err_from_is_err_and}
 use Rattle.layout.specs.Split.{find, split}
 use Rattle.history.specs.declared.record.Object.{Object}
-use Rattle.history.specs.Faults.{fault_number, object_line}
+use Rattle.history.specs.Faults.{fault_number}
 use Rattle.history.specs.Record.{no_object}
 use Rattle.history_reader.specs.ReadHistory.{refusal, history_read, objects_from}
 use Rattle.history.proofs.PadLaws.{filled_none, filled-count, filled-take, filled_more}
