@@ -86,9 +86,9 @@ impl State {
     }
 
     // Whether the object holds as many values as it can.
-    fn is_full(self) -> bool
-        requires { self.head ≤ self.tail }
-        ensures { result ≡ leb self.limit (self.tail - self.head) }
+    fn is_full(&self) -> bool
+        requires { self.now.head ≤ self.now.tail }
+        ensures { result ≡ leb self.now.limit (self.now.tail - self.now.head) }
     {
         self.limit <= self.tail - self.head
     }
