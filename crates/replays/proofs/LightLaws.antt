@@ -8,7 +8,7 @@ use lib.Seq.{get_or-set_same, get_or-set_other}
 use lib.ListN.{take, length-set}
 use denote.Param.Members.{Mut}
 use Rattle.std.specs.Fn.{Called}
-use Rattle.core.specs.Array.{IsFromFnResultFrom}
+use Rattle.std.specs.Array.{IsFromFnResultFrom}
 use lib.Seq.{get_or-take}
 use Rattle.layout.proofs.Cases.{by-eq}
 use Rattle.history.specs.declared.record.Answer.{Answer}

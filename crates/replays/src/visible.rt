@@ -5,7 +5,7 @@ ghost use Rattle.replays.specs.Visible.{no_visible};
 
 use crate::replay::{Light, Visible};
 use certificate::record::Criterion;
-use core::array;
+use std::array;
 use history::record::{EventNo, ProcessNo};
 
 // Of the view at the place k: its number is `number`, and `process` is the process of event k.
