@@ -13,8 +13,6 @@ use Rattle.layout.specs.Fill.{fill}
 use Rattle.layout.specs.Pieces.{pieces_from}
 use Rattle.layout.specs.Word.{object_heading, event_heading}
 use Rattle.layout.proofs.FillLaws.{after-fits, after-short}
-use Rattle.history.specs.declared.record.Object.{Object}
-use Rattle.history.specs.declared.record.Event.{Event}
 use Rattle.history.specs.declared.record.History.{History}
 use Rattle.history.specs.Record.{no_object, no_event, objects_in, events_in}
 use Rattle.history.specs.HistoryText.{lines_text, object_text, event_text, object_lines, event_lines, text_of, history_text}
@@ -22,7 +20,7 @@ use Rattle.history.specs.Readable.{within}
 use Rattle.history.proofs.WithinLaws.{within-limits}
 use Rattle.history_writer.specs.declared.write.WriteFault.TheVariants.{OutsideLimits, TooShort}
 use Rattle.history_writer.specs.WriteHistory.{written_of, history_written, history_after}
-use Rattle.history_writer.specs.Steps.Lines.{object_piece, event_piece, objects_bytes, events_bytes, text_bytes}
+use Rattle.history_writer.specs.Steps.Lines.{objects_bytes, events_bytes, text_bytes}
 
 -- ---- lines
 lines_none : lines_text [] ≡ []

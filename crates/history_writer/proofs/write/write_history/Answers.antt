@@ -1,5 +1,5 @@
 -- `write_history` meets its contract: the limits and the room are known before the first byte is written. Assumes nothing.
-use Rattle.std.proofs.Common.{sym, ◌∙◌, arith}
+use Rattle.std.proofs.Common.{sym, arith}
 use Rattle.history_writer.proofs.WriteLaws.{counts_few, answer_refused, answer_short, answer_fits}
 use Rattle.history_writer.proofs.write.write_history.Goals as goal
 
