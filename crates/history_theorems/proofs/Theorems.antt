@@ -10,7 +10,7 @@ use borrow.Author.Tests.{le-leb, leb-true}
 use Rattle.layout.specs.Split.{split}
 use Rattle.layout.proofs.Cases.{by_bool}
 use Rattle.history.specs.declared.record.History.{History}
-use Rattle.history_reader.specs.declared.read.HistoryRead.{HistoryRead}
+use Rattle.history_reader.specs.ReadHistory.{HistoryRead}
 use Rattle.history.specs.Record.{history_of, objects_in, events_in}
 use Rattle.history_reader.specs.Place.{nowhere}
 use Rattle.history_reader.specs.ReadHistory.{lines_from, read_history}

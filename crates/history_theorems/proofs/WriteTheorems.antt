@@ -13,7 +13,7 @@ use Rattle.layout.proofs.FillLaws.{after-fits}
 use Rattle.history.specs.declared.record.History.{History}
 use Rattle.history.specs.HistoryText.{history_text}
 use Rattle.history.specs.Readable.{within}
-use Rattle.history_reader.specs.declared.read.HistoryRead.{HistoryRead}
+use Rattle.history_reader.specs.ReadHistory.{HistoryRead}
 use Rattle.history_reader.specs.ReadHistory.{read_history}
 use Rattle.history_writer.specs.WriteHistory.{history_written, history_after}
 use Rattle.history_theorems.proofs.Theorems.{written_read, read-written, read-within}
