@@ -11,7 +11,7 @@ use Rattle.layout.specs.Word.{dash, question}
 use Rattle.layout.specs.List.{list_text}
 use Rattle.layout.proofs.Cases.{by-lt}
 use Rattle.layout.specs.Number.{spell}
-use Rattle.layout.specs.Steps.Line.{pieces_text}
+use Rattle.layout.specs.Fields.{pieces_text}
 use Rattle.layout.proofs.LineLaws.{pieces-join}
 use Rattle.history_writer.specs.declared.line.Field.{Field}
 use Rattle.history_writer.specs.declared.line.Field.TheVariants.{Dash, Number}

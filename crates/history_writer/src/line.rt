@@ -1,16 +1,16 @@
-// Writing a line: fields with a space between each two, and a line feed at the end.
-ghost use Rattle.std.specs.Prelude.{◌≡◌, ◌≤◌, [], ◌∷◌, ◌++◌, map, length};
+// The fields of a line.
+ghost use Rattle.std.proofs.Common.{lit<};
+ghost use Rattle.std.specs.Prelude.{◌≡◌, ◌≤◌, length};
 ghost use Rattle.layout.specs.Fill.{fill};
 ghost use Rattle.layout.specs.List.{list_text};
 ghost use Rattle.history.specs.Record.{values_in};
 ghost use Rattle.history.specs.Kinds.{kind_word, op_word};
 ghost use Rattle.history.specs.HistoryText.{answer_text};
-ghost use Rattle.layout.specs.Steps.Line.{pieces_text};
 ghost use Rattle.history_writer.specs.Steps.Lines.{field_text};
 
 use history::record::{Answer, Kind, Op, Value};
+use layout::fields;
 use layout::fill::put_bytes;
-use layout::line::byte_behind;
 use layout::list::{list_len, put_list};
 use layout::number::{number_len, put_number};
 
@@ -109,36 +109,20 @@ fn put_field(part: &mut [u8], field: Field) -> usize
     }
 }
 
-// Writes a field and the byte behind it.
-fn put_piece(part: &mut [u8], field: Field, behind: u8) -> usize
-    requires { length (field_text field ++ behind ∷ []) ≤ length part.old }
-    ensures { (result ≡ length (field_text field ++ behind ∷ [])) × (part.new ≡ fill (field_text field ++ behind ∷ []) part.old) }
-{
-    let k = put_field(part, field);
-    part[k] = behind;
-    k + 1
+impl fields::Field for Field {
+    ghost text = { field_text };
+
+    fn put(&self, part: &mut [u8]) -> usize {
+        put_field(part, *self)
+    }
 }
 
-// How many bytes the line of the fields has, its line feed too.
-pub(crate) fn line_len(fields: &[Field]) -> usize
-    requires { length fields.now ≤ 6 }
-    ensures { (result ≡ length (pieces_text (map field_text fields.now))) × (result ≤ 4230) }
-{
-    let mut total = 0;
-    for field in fields {
-        total += field_len(*field) + 1;
-    }
-    total
-}
+impl fields::CountedField for Field {
+    ghost longest = { 704 };
 
-// Writes the line of the fields, its line feed too, into a part that has room.
-pub(crate) fn put_line(part: &mut [u8], fields: &[Field]) -> usize
-    requires { length (pieces_text (map field_text fields.now)) ≤ length part.old }
-    ensures { (result ≡ length (pieces_text (map field_text fields.now))) × (part.new ≡ fill (pieces_text (map field_text fields.now)) part.old) }
-{
-    let mut at = 0;
-    for (i, field) in fields.iter().enumerate() {
-        at += put_piece(&mut part[at..], *field, byte_behind(i, fields.len()));
+    fn text_len(&self) -> usize {
+        field_len(*self)
     }
-    at
+
+    ghost short = { lit< tt };
 }

@@ -5,9 +5,10 @@ ghost use Rattle.history_writer.specs.Steps.Lines.{object_fields_of, event_field
 ghost use Rattle.history_writer.specs.WriteHistory.{write_fault_number, written_of, history_written, history_after};
 
 use crate::limits::is_within;
-use crate::line::{Field, line_len, put_line};
+use crate::line::Field;
 use history::record::{Event, History, Object};
 use history::word::{has_width, takes_value};
+use layout::fields::{fields_len, put_fields};
 use layout::pieces::{CountedPieces, Pieces, pieces_len, put_headed};
 
 const OBJECT_HEADING: &[u8] = b"object kind width\n";
@@ -85,7 +86,7 @@ impl Pieces for ObjectLines<'_> {
     ghost stands = { λ s i. (i < length s.objects.now) × (i < 64) };
 
     fn put_piece(&self, part: &mut [u8], i: usize) -> usize {
-        put_line(part, &object_fields(i as u32, self.objects[i]))
+        put_fields(part, &object_fields(i as u32, self.objects[i]))
     }
 }
 
@@ -93,7 +94,7 @@ impl CountedPieces for ObjectLines<'_> {
     ghost most = { 4230 };
 
     fn piece_len(&self, i: usize) -> usize {
-        line_len(&object_fields(i as u32, self.objects[i]))
+        fields_len(&object_fields(i as u32, self.objects[i]))
     }
 }
 
@@ -109,7 +110,7 @@ impl Pieces for EventLines<'_> {
     ghost stands = { λ s i. (i < length s.events.now) × (i < 64) };
 
     fn put_piece(&self, part: &mut [u8], i: usize) -> usize {
-        put_line(part, &event_fields(i as u32, self.events[i]))
+        put_fields(part, &event_fields(i as u32, self.events[i]))
     }
 }
 
@@ -117,7 +118,7 @@ impl CountedPieces for EventLines<'_> {
     ghost most = { 4230 };
 
     fn piece_len(&self, i: usize) -> usize {
-        line_len(&event_fields(i as u32, self.events[i]))
+        fields_len(&event_fields(i as u32, self.events[i]))
     }
 }
 
