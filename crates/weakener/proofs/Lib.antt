@@ -1,3 +1,2 @@
 pub mod MadeLaws
 pub mod TextLaws
-pub mod WantedLaws

@@ -31,8 +31,7 @@ use Rattle.weakener.specs.declared.made.Wanted.TheVariants.{Named, OneLine}
 use Rattle.weakener.specs.declared.made.Unmade.{Unmade}
 use Rattle.weakener.specs.declared.made.Unmade.TheVariants.{Refused}
 use Rattle.weakener.specs.Made.{verdict_made, length_of}
-use Rattle.weakener.proofs.WantedLaws.{wanted_in}
-use Rattle.weakener.specs.Steps.{IsMade, lists_wanted, crosses_wanted, text_wanted, crossing_wanted}
+use Rattle.weakener.specs.Steps.{IsMade, wanted_in, lists_wanted, crosses_wanted, text_wanted, crossing_wanted}
 
 -- ---- the answer of two texts
 module _ (wanted : code.Option Wanted) (history text buffer : List ℕ) where
@@ -99,12 +98,13 @@ module _ (wanted : code.Option Wanted) (history text buffer : List ℕ) where
           made = text_if_some (events_in r.history) (lists_wanted wanted (history_of r.history) (certificate_of r.history r.certificate rows))
 
 -- ---- weakening: what is wanted is the criterion of a number, if there is one
-pub weakens-to : (history text : List ℕ) (wanted : ℕ) (buffer : List ℕ) (k : Result Made Unmade) (then : List ℕ)
-    → AnswersTexts (wanted_in (wanted_of wanted)) history text buffer k then
+pub weakens-to : (history text : List ℕ) (wanted : ℕ) (buffer : List ℕ) (w : code.Option Wanted) → w ≡ wanted_in (wanted_of wanted)
+    → (k : Result Made Unmade) (then : List ℕ) → AnswersTexts w history text buffer k then
     → (verdict_made k ≡ weaken_answer history text wanted buffer) × (is_ok k ≡ eqb (weaken_answer history text wanted buffer).number 0)
     × (length_of k ≡ weaken_length history text wanted buffer) × (then ≡ weaken_bytes history text wanted buffer)
 unfolding weaken_answer weaken_length weaken_bytes weakened_text
-weakens-to history text wanted buffer k then p = go (wanted_of wanted) p
+weakens-to history text wanted buffer w q k then p =
+    go (wanted_of wanted) (subst (λ (x : code.Option Wanted). AnswersTexts x history text buffer k then) q p)
   where
     go : (o : Option Criterion) → AnswersTexts (wanted_in o) history text buffer k then
         → let v = made_verdict history text false (weakened_wanted history text o) buffer in

@@ -1,7 +1,7 @@
 -- What is wanted of a certificate, and an answer and a buffer that are those of a verdict.
 use Rattle.std.specs.Prelude as code
 use Rattle.std.specs.Prelude.{ℕ, ◌≡◌, Bool, false, List, Result, is_ok, eqb}
-use Rattle.std.proofs.Math.Option.{Option, none}
+use Rattle.std.proofs.Math.Option.{Option, none, some}
 use Rattle.history.specs.declared.record.History as WrittenHistory
 use Rattle.history.specs.Record.{events_in}
 use Rattle.history_reader.specs.ReadHistory.{read_history}
@@ -20,6 +20,11 @@ use Rattle.weakener.specs.declared.made.Wanted.{Wanted}
 use Rattle.weakener.specs.declared.made.Unmade.{Unmade}
 use Rattle.weakener.specs.declared.made.Wanted.TheVariants.{Named, OneLine}
 use Rattle.weakener.specs.Made.{verdict_made, length_of}
+
+-- A weakening wants the criterion of its number, if there is one.
+abbrev pub wanted_in : Option Criterion → code.Option Wanted
+wanted_in none = code.None
+wanted_in (some w) = code.Some (Named w)
 
 -- It can be made of a certificate that names the criterion.
 abbrev pub may_be_made : Criterion → code.Option Wanted → Bool

@@ -1,23 +1,23 @@
 // Weakening on texts.
 ghost use Rattle.std.specs.Prelude.{◌≡◌, is_ok, eqb};
-ghost use Rattle.layout.specs.Options.{option_in};
 ghost use Rattle.checker.specs.WeakenText.{wanted_of, weaken_answer, weaken_length, weaken_bytes};
 ghost use Rattle.weakener.specs.Made.{verdict_made, length_of};
+ghost use Rattle.weakener.specs.Steps.{wanted_in};
 
 use crate::made::{Made, Unmade, Wanted, make};
 use certificate::record::Criterion;
 
-// The criterion wanted, if the number is that of one.
-fn wanted_of(number: u32) -> Option<Criterion>
-    ensures { option_in result ≡ wanted_of number }
+// What a number wants: to be weakened to the criterion of the number, if it is that of one.
+fn wanted_of(number: u32) -> Option<Wanted>
+    ensures { result ≡ wanted_in (wanted_of number) }
 {
     match number {
-        0 => Some(Criterion::Pram),
-        1 => Some(Criterion::Weak),
-        2 => Some(Criterion::Causal),
-        3 => Some(Criterion::Converge),
-        4 => Some(Criterion::Sequential),
-        5 => Some(Criterion::Strict),
+        0 => Some(Wanted::Named(Criterion::Pram)),
+        1 => Some(Wanted::Named(Criterion::Weak)),
+        2 => Some(Wanted::Named(Criterion::Causal)),
+        3 => Some(Wanted::Named(Criterion::Converge)),
+        4 => Some(Wanted::Named(Criterion::Sequential)),
+        5 => Some(Wanted::Named(Criterion::Strict)),
         _ => None,
     }
 }
@@ -34,5 +34,5 @@ pub fn weaken(
     ensures length { length_of result ≡ weaken_length history.now text.now wanted buffer.old }
     ensures bytes { buffer.new ≡ weaken_bytes history.now text.now wanted buffer.old }
 {
-    make(history, text, wanted_of(wanted).map(Wanted::Named), buffer)
+    make(history, text, wanted_of(wanted), buffer)
 }
