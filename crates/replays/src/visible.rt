@@ -5,8 +5,8 @@ ghost use Rattle.replays.specs.Visible.{no_visible};
 
 use crate::replay::{Light, Visible};
 use certificate::record::Criterion;
-use std::array;
 use history::record::{EventNo, ProcessNo};
+use std::array;
 
 // Of the view at the place k: its number is `number`, and `process` is the process of event k.
 fn visible_in(c: Criterion, number: u8, process: ProcessNo, k: u8) -> Visible
