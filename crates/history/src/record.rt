@@ -35,6 +35,7 @@ pub enum Op {
 }
 
 // A width is 0 but for a window and a channel, whose width is its capacity.
+// Kept: the number and no Option, since `within` of specs/Readable and the records of the C interface have a 0 there.
 #[derive(Clone, Copy)]
 pub struct Object {
     pub kind: Kind,
@@ -42,6 +43,7 @@ pub struct Object {
 }
 
 // The first `count` of the values; or an answer that was lost, which has none.
+// Kept: no heap, fixed memory; and `lost` beside the values, since `values_in` and `recorded_in` of specs/Record speak of both.
 #[derive(Clone, Copy)]
 pub struct Answer {
     pub lost: bool,
@@ -50,6 +52,7 @@ pub struct Answer {
 }
 
 // A value is 0 where the op takes none.
+// Kept: the number and no Option, since `good_value` and `blank_event` of specs/Readable ask for that 0.
 #[derive(Clone, Copy)]
 pub struct Event {
     pub process: ProcessNo,
@@ -60,6 +63,7 @@ pub struct Event {
 }
 
 // The first `declared` of the objects, and the first `count` of the events.
+// Kept: no heap, fixed memory.
 #[derive(Clone, Copy)]
 pub struct History {
     pub objects: [Object; 16],

@@ -6,6 +6,7 @@ use crate::record::{Answer, Kind, Object, Op};
 use layout::word::is_word;
 
 // The kind whose word a field is.
+// Kept: tried as a `match` on the words, and the proof did not close: an arm of it knows only the length of the field.
 #[tactic(auto, unfolding(crate::specs::Kinds::is_kind, crate::specs::Kinds::kind_of))]
 pub fn read_kind(field: &[u8]) -> Option<Kind>
     ensures { result ≡ cond (is_kind field.now) (Some (kind_of field.now)) None }
@@ -26,6 +27,7 @@ pub fn read_kind(field: &[u8]) -> Option<Kind>
 }
 
 // The op whose word a field is.
+// Kept: no `match` on the words, as in `read_kind`.
 #[tactic(auto, unfolding(crate::specs::Kinds::is_op, crate::specs::Kinds::op_of))]
 pub fn read_op(field: &[u8]) -> Option<Op>
     ensures { result ≡ cond (is_op field.now) (Some (op_of field.now)) None }
