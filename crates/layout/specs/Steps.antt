@@ -2,5 +2,4 @@
 pub mod Number
 pub mod List
 pub mod Fill
-pub mod Line
 pub mod Stands

@@ -1,5 +1,5 @@
 -- `pieces_len` meets its contract: the bytes counted and those of the pieces left are all bytes. Assumes nothing.
-use Rattle.std.proofs.Common.{◌≡◌, ◌≤◌, ◌-◌, ◌+◌, ◌*◌, ℕ, arith, rules, length, ap}
+use Rattle.std.proofs.Common.{◌≡◌, ◌≤◌, ◌-◌, ◌+◌, arith, rules, length, ap}
 use Rattle.std.proofs.Math.Nat.{mul-le-mul_left}
 use Rattle.layout.proofs.PiecesLaws.{pieces_long, pieces_end}
 use Rattle.layout.proofs.pieces.pieces_len.Goals as goal
