@@ -11,7 +11,6 @@ use lib.Seq.{get_or-take, length-take-le}
 use borrow.Author.Tests.{lt-ltb, le-ltb}
 use Rattle.layout.proofs.Cases.{and-false}
 use Rattle.history.specs.declared.record.History as WrittenHistory
-use Rattle.history.specs.declared.record.Event as WrittenEvent
 use Rattle.history.specs.Record.{no_event, events_in}
 use Rattle.history.specs.Readable.{within}
 use Rattle.history.proofs.PadLaws.{pad-none}

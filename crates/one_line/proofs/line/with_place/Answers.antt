@@ -1,7 +1,7 @@
 -- `with_place` meets its contract: the line so far has the events of the places below m, and those of the first events that are at m.
 -- Assumes nothing.
 use Rattle.std.proofs.Common.{ℕ, ◌<◌, ◌∙◌, length, get_or, arith}
-use Rattle.one_line.proofs.LineLaws.{place-begins, put-room, put_line, same_line}
+use Rattle.one_line.proofs.LineLaws.{put-room, put_line, same_line}
 use Rattle.one_line.proofs.line.with_place.Goals as goal
 use Rattle.one_line.proofs.line.with_place.Goals.{then-place-m, else-place-m}
 

@@ -1,5 +1,5 @@
 -- `order_of` meets its contract: a history within its limits has at most 64 events. Assumes nothing.
-use Rattle.std.proofs.Common.{◌≤◌, length, take, arith, length-take}
+use Rattle.std.proofs.Common.{arith, length-take}
 use Rattle.faults.proofs.CheckLaws.{few-of}
 use Rattle.orders.proofs.ListedLaws.{short-first}
 use Rattle.one_line.proofs.order.order_of.Goals as goal

@@ -1,5 +1,5 @@
 -- `crosses` meets its contract: the rows are the order of the pasts. Assumes nothing.
-use Rattle.std.proofs.Common.{ℕ, ◌≤◌, ap, ◌∙◌, arith}
+use Rattle.std.proofs.Common.{ℕ, ap, ◌∙◌, arith}
 use Rattle.criteria.specs.Tests.{any}
 use Rattle.criteria.specs.OneLine.{crosses}
 use Rattle.criteria.specs.Records.{history_of}

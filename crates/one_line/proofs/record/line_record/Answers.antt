@@ -1,5 +1,5 @@
 -- `line_record` meets its contract: the record is that of the lists. Assumes nothing.
-use Rattle.std.proofs.Common.{ℕ, ◌≡◌, ◌<◌, ◌≤◌, length, get_or, ap, ◌∙◌, arith, length-take}
+use Rattle.std.proofs.Common.{ℕ, ◌≡◌, ◌<◌, get_or, ap, ◌∙◌, arith, length-take}
 use Rattle.certificate.specs.Record.{event_list_of}
 use Rattle.criteria.specs.OneLine.{one_line}
 use Rattle.criteria.specs.Records.{history_of}
