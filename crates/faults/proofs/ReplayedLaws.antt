@@ -151,7 +151,7 @@ module _ {h : WrittenHistory.History} {l : LightHistory} (t : TakenApart h l) (s
   view-ready k b = (
     asked.3.few k b,
     ready_of h (within-sound h asked.0) l t states (view_at views lengths k) (objects-agree h asked.0) fresh-as (all-keep-few h asked.0)
-      (view-few views lengths named.count h.count asked.3 k b) (view-inside views lengths named.count h.count asked.3 k b),
+        (view-few views lengths named.count h.count asked.3 k b) (view-inside views lengths named.count h.count asked.3 k b),
   )
 
   view-below : (k : ℕ) → k < named.count → (e : ℕ) → mem e (view_at views lengths k) ≡ true → e < h.count

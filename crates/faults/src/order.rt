@@ -38,7 +38,11 @@ pub(crate) fn order_rows(c: Criterion, pasts: &[EventList], program: [u64; 64]) 
     requires { (length pasts.now ≤ 64) × (has_pasts c ≡ true → (k : ℕ) → k < length pasts.now → ShortList (get_or pasts.now k no_list)) }
     ensures { (a b : ℕ) → in_rows result a b ≡ cond (has_pasts c) (listed (map entries_in pasts.now) a b) (in_rows program a b) }
 {
-    if has_pasts(c) { past_rows(pasts) } else { program }
+    if has_pasts(c) {
+        past_rows(pasts)
+    } else {
+        program
+    }
 }
 
 // 11, 12 and 13 of the first n events, in this order; `must` is program order.

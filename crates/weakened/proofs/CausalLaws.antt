@@ -1,5 +1,5 @@
 -- Laws of the views that are completed: the last event that passes, two lists joined, a list that is completed. Assumes nothing.
-use Rattle.std.proofs.Common.{ℕ, zero, suc, ◌+◌, ◌-◌, ◌≤◌, ◌<◌, ◌≡◌, refl, sym, ap, ap₂, ◌∙◌, ◌⊎◌, inl, inr, Bool, true, false, not, ◌||◌, cond, List, [], ◌∷◌, ◌++◌, append_assoc, length, get_or, take, drop, replicate, length-append, ltb, arith}
+use Rattle.std.proofs.Common.{ℕ, zero, suc, ◌+◌, ◌-◌, ◌≤◌, ◌<◌, ◌≡◌, refl, sym, ap, ap₂, ◌∙◌, ◌⊎◌, inl, inr, Bool, true, false, not, cond, List, [], ◌∷◌, ◌++◌, length, get_or, take, drop, replicate, length-append, ltb, arith}
 use Rattle.std.proofs.Math.Seq.{take-append_seam, drop-append-add}
 use Rattle.std.proofs.lemmas.List.{drop-replicate, take-append-drop}
 use Rattle.std.proofs.lemmas.Slice.{take-put_mid, drop-put_mid}
@@ -41,13 +41,13 @@ module _ (a b : List ℕ) (few : length a + length b ≤ 64) where
       let all = put_mid (length a) (length a + length b - length a) whole b in
       let long : length a ≤ length whole = let l = length-append a (drop (length a) (replicate 64 0)) in omega (arith, l) in
       let begin : take n all ≡ a ++ b =
-          take-put_mid (length a) (length a + length b - length a) whole b n refl long ∙ ap (λ (l : List ℕ). l ++ b) (take-append_seam a (drop (length a) (replicate 64 0))) in
+      take-put_mid (length a) (length a + length b - length a) whole b n refl long ∙ ap (λ (l : List ℕ). l ++ b) (take-append_seam a (drop (length a) (replicate 64 0))) in
       let behind : drop n all ≡ replicate (64 - length (a ++ b)) 0 =
-          drop-put_mid (length a) (length a + length b - length a) whole b n (omega arith) long (omega arith)
-          ∙ drop-append-add a (drop (length a) (replicate 64 0)) (length b)
-          ∙ ap (drop (length b)) (drop-replicate (length a) 64 0)
-          ∙ drop-replicate (length b) (64 - length a) 0
-          ∙ ap (λ (k : ℕ). replicate k 0) (let l = length-append a b in omega (arith, l)) in
+      drop-put_mid (length a) (length a + length b - length a) whole b n (omega arith) long (omega arith)
+      ∙ drop-append-add a (drop (length a) (replicate 64 0)) (length b)
+      ∙ ap (drop (length b)) (drop-replicate (length a) 64 0)
+      ∙ drop-replicate (length b) (64 - length a) 0
+      ∙ ap (λ (k : ℕ). replicate k 0) (let l = length-append a b in omega (arith, l)) in
       sym (take-append-drop n all) ∙ ap₂ (λ (l m : List ℕ). l ++ m) begin behind
 
   pub joined-copied : (c d : List ℕ) → c ≡ a → d ≡ b

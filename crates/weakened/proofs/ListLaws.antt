@@ -1,5 +1,5 @@
 -- Laws of lists of events in arrays. Assumes nothing.
-use Rattle.std.proofs.Common.{ℕ, zero, suc, ◌+◌, ◌-◌, ◌≤◌, ◌<◌, ◌≡◌, refl, sym, ap, ap₂, ◌∙◌, List, [], ◌∷◌, ◌++◌, length, take, drop, replicate, get_or, cond, not, eqb, true, false, arith, Bool, ltb, Option, Some, None, eq-eqb, ne_eqb, ltb-true, ltb-false, add-one, length-take, length-append, set, append-nil}
+use Rattle.std.proofs.Common.{ℕ, suc, ◌+◌, ◌≤◌, ◌<◌, ◌≡◌, refl, sym, ap, ap₂, ◌∙◌, List, [], ◌∷◌, ◌++◌, length, take, drop, replicate, cond, eqb, true, false, arith, Bool, ltb, Option, Some, None, eq-eqb, ne_eqb, ltb-true, ltb-false, add-one, length-take, length-append, set, append-nil}
 use Rattle.std.proofs.lemmas.List.{drop-replicate}
 use Rattle.std.specs.List.{position, position_or_len}
 use Rattle.std.proofs.lemmas.List.{take_all}

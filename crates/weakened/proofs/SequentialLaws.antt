@@ -1,5 +1,5 @@
 -- Laws of the lists that are made of a sequential order. Assumes nothing.
-use Rattle.std.proofs.Common.{ℕ, ◌+◌, ◌≤◌, ◌<◌, ◌≡◌, refl, sym, ap, ap₂, ◌∙◌, true, List, map, length, take, set, replicate, ltb, lt-ltb, ltb-true, arith}
+use Rattle.std.proofs.Common.{ℕ, ◌+◌, ◌<◌, ◌≡◌, refl, sym, ap, ap₂, ◌∙◌, true, List, map, length, take, set, replicate, ltb, lt-ltb, ltb-true, arith}
 use Rattle.history.specs.Record.{pad}
 use Rattle.history.proofs.PadLaws.{pad-none, take-pad}
 use Rattle.certificate.specs.declared.record.EventList.{EventList}

@@ -47,16 +47,14 @@ fn completed_view(view: &[u8], n: usize) -> EventList
 }
 
 // The view of the last event, by the processes of the events, that is of process p, completed.
-fn completed_last(
-    processes: &[u8],
-    views: &[[u8; 64]; 64],
-    sizes: &[u8; 64],
-    p: u8,
-) -> EventList
+fn completed_last(processes: &[u8], views: &[[u8; 64]; 64], sizes: &[u8; 64], p: u8) -> EventList
     requires { (length processes.now ≤ 64) × (0 < length processes.now) × EventViews views.now sizes.now (length processes.now) (length processes.now) × ((k : ℕ) → k < length processes.now → (e : ℕ) → count e (view_at views.now sizes.now k) ≤ 1) }
     ensures { (result ≡ event_list_of (completed (length processes.now) (view_at views.now sizes.now (last_in (length processes.now) processes.now p)))) × (result.count ≤ 64) }
 {
-    completed_view(view_at(views, sizes, last_of(processes, p)), processes.len())
+    completed_view(
+        view_at(views, sizes, last_of(processes, p)),
+        processes.len(),
+    )
 }
 
 // The views of the processes, whose numbers these are, of the events of these processes.
@@ -69,5 +67,8 @@ pub fn completed_views(
     requires { (length processes.now ≤ 64) × (length numbers.now ≤ 64) × (length processes.now ≡ 0 → length numbers.now ≡ 0) × EventViews views.now sizes.now (length processes.now) (length processes.now) × ((k : ℕ) → k < length processes.now → (e : ℕ) → count e (view_at views.now sizes.now k) ≤ 1) }
     ensures { result ≡ view_rows_of (table (length numbers.now) (λ k. completed (length processes.now) (view_at views.now sizes.now (last_in (length processes.now) processes.now (get_or numbers.now k 0))))) }
 {
-    view_rows(numbers.len(), |k| completed_last(processes, views, sizes, numbers[k]))
+    view_rows(
+        numbers.len(),
+        |k| completed_last(processes, views, sizes, numbers[k]),
+    )
 }

@@ -13,13 +13,7 @@ use certificate::record::EventList;
 use orders::views::view_at;
 
 // The part up to and with event e of the view whose number is p.
-fn own_part(
-    views: &[[u8; 64]; 64],
-    sizes: &[u8; 64],
-    numbers: &[u8],
-    p: u8,
-    e: u8,
-) -> EventList
+fn own_part(views: &[[u8; 64]; 64], sizes: &[u8; 64], numbers: &[u8], p: u8, e: u8) -> EventList
     requires { (length numbers.now ≤ 64) × ((k : ℕ) → k < length numbers.now → get_or sizes.now k 0 ≤ 64) × (place p numbers.now < length numbers.now) × (e < 64) }
     ensures { (result ≡ event_list_of (up_to_in (view_at views.now sizes.now (place p numbers.now)) e)) × (result.count ≤ 64) }
 {
@@ -39,5 +33,8 @@ pub fn own_parts(
     requires { (length processes.now ≤ 64) × (length numbers.now ≤ 64) × ((k : ℕ) → k < length numbers.now → get_or sizes.now k 0 ≤ 64) × ((e : ℕ) → e < length processes.now → place (get_or processes.now e 0) numbers.now < length numbers.now) }
     ensures { result ≡ view_rows_of (table (length processes.now) (λ e. up_to_in (view_at views.now sizes.now (place (get_or processes.now e 0) numbers.now)) e)) }
 {
-    view_rows(processes.len(), |e| own_part(views, sizes, numbers, processes[e], e as u8))
+    view_rows(
+        processes.len(),
+        |e| own_part(views, sizes, numbers, processes[e], e as u8),
+    )
 }

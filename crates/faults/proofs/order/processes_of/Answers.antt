@@ -11,7 +11,7 @@ loop-e-preserved c =
     let here : c.loop-e.e < length c.args.events.now = search rules in (
       length-set c.loop-e.processes c.loop-e.e _ ∙ c.loop-e.invariant.0,
       made_more (λ (x : Event). x.process.0) no_event 0 c.args.events.now c.loop-e.processes c.loop-e.e _ (omega (arith, here, c.told-events, c.loop-e.invariant.0))
-        (ap (λ (x : Event). x.process.0) (any-default c.args.events.now c.loop-e.e _ no_event here)) c.loop-e.invariant.1,
+          (ap (λ (x : Event). x.process.0) (any-default c.args.events.now c.loop-e.e _ no_event here)) c.loop-e.invariant.1,
     )
 
 pub returns : goal.returns

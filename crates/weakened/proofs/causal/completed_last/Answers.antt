@@ -1,5 +1,5 @@
 -- `completed_last` meets its contract. Assumes nothing.
-use Rattle.std.proofs.Common.{arith, length, ◌<◌, ◌∙◌, ap, sym}
+use Rattle.std.proofs.Common.{arith, length}
 use Rattle.orders.proofs.ViewLaws.{view-few, view-inside}
 use Rattle.weakened.proofs.causal.completed_last.Goals as goal
 

@@ -10,9 +10,9 @@ pub returns-in-Some : goal.returns-in-Some
 returns-in-Some c =
     let at = (place-some c.args.p c.args.numbers.now c.in-Some.at (sym c.in-Some.is ∙ c.place_of.ensures)).0 in (
       c.list_of.ensures.0
-      ∙ ap event_list_of
-      (c.up_to_event.ensures.0
-      ∙ ap (λ (v : List ℕ). up_to_in v c.args.e) (c.view_at.ensures ∙ ap (view_at c.args.views.now c.args.sizes.now) at)),
+          ∙ ap event_list_of
+          (c.up_to_event.ensures.0
+          ∙ ap (λ (v : List ℕ). up_to_in v c.args.e) (c.view_at.ensures ∙ ap (view_at c.args.views.now c.args.sizes.now) at)),
       c.list_of.ensures.1,
     )
 
