@@ -9,7 +9,7 @@ use lib.ListN.{length, take, drop, drop_of_length-le}
 use lib.Dec.{eqb, ltb}
 use borrow.Author.Tests.{eq-eqb, ne_eqb, eqb-false, ltb-true, le-leb, lt-leb}
 use Rattle.std.specs.Prelude.{Result, Ok, Err, MatchResult}
-use Rattle.core.specs.Result.{IsErrAnd}
+use Rattle.std.specs.Result.{IsErrAnd}
 use Rattle.layout.specs.Split.{find, split}
 use Rattle.layout.specs.Word.{same, object_heading, event_heading}
 use Rattle.layout.proofs.Cases.{by-lt, by-eq, and_left}
