@@ -1,12 +1,11 @@
 -- The tests of every list and of every row, as the library's `list_all`. Assumes nothing.
 use Prim.Native.Nat.{ℕ}
-use mathlib.Core.Path.{◌≡◌, refl, ap, ◌∙◌}
+use mathlib.Core.Path.{◌≡◌, refl, ap}
 use mathlib.Core.Bool.{Bool, ◌&&◌}
 use mathlib.Core.List.{List, [], ◌∷◌}
 use lib.ListN.{length}
 use lib.Dec.{eqb}
 use native.Mathlib.Omega.{arith}
-use native.Mathlib.Nat.{not-suc-le-zero}
 use Rattle.std.specs.List.{list_all, zip}
 use Rattle.history.specs.Readable.{all_zero}
 use Rattle.history.proofs.AllLaws.{all_is}

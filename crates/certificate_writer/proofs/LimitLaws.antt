@@ -2,14 +2,14 @@
 use Prim.Native.Nat.{ℕ, zero, suc, ◌≤◌, ◌<◌}
 use native.Mathlib.Nat.{not-suc-le-zero}
 use native.Mathlib.Omega.{arith}
-use mathlib.Core.Path.{◌≡◌, refl, sym, ap, ◌∙◌}
-use mathlib.Core.Bool.{Bool, true, false, ◌&&◌, cond, false≢true}
+use mathlib.Core.Path.{◌≡◌, refl}
+use mathlib.Core.Bool.{Bool, true, ◌&&◌, cond, false≢true}
 use mathlib.Core.List.{List, [], ◌∷◌}
 use lib.ListN.{length, get_or, take, drop}
 use lib.Dec.{eqb, leb}
 use lib.Seq.{length-take-le, get_or-take}
 use borrow.Author.Tests.{leb-true, eqb-true}
-use Rattle.layout.proofs.Cases.{by_bool, and_left, and_right}
+use Rattle.layout.proofs.Cases.{and_left, and_right}
 use Rattle.history.specs.declared.record.History.{History}
 use Rattle.history.specs.Record.{events_in}
 use Rattle.history.specs.Readable.{all_less, all_zero}

@@ -1,29 +1,22 @@
 -- The lines of pasts and of views as pieces of a text. Assumes nothing.
 use Prim.Native.Nat.{ℕ, zero, suc, ◌+◌, ◌<◌, ◌≤◌}
 use native.Mathlib.Nat.{not-suc-le-zero}
-use native.Mathlib.Numerals.{add-one}
 use native.Mathlib.Omega.{arith}
 use mathlib.Core.Path.{◌≡◌, refl, sym, ap, ap₂, ◌∙◌}
 use mathlib.Core.List.{List, [], ◌∷◌, ◌++◌, map, append_assoc}
-use mathlib.Core.Bool.{true}
-use lib.ListN.{length, get_or, take, length-map, length-append}
+use lib.ListN.{length, get_or, take, length-map}
 use lib.Seq.{length-take-le, get_or-take}
-use lib.Dec.{leb}
-use borrow.Author.Tests.{leb-true}
 use Rattle.std.proofs.lemmas.List.{get_or-map}
 use Rattle.layout.specs.Number.{spell}
 use Rattle.layout.specs.List.{list_text}
 use Rattle.layout.specs.Pieces.{pieces_from}
-use Rattle.layout.proofs.Cases.{and_left, and_right}
 use Rattle.history.specs.HistoryText.{lines_text}
-use Rattle.history.specs.Readable.{all_less}
 use Rattle.certificate.specs.declared.record.EventList.{EventList}
-use Rattle.certificate.specs.declared.record.Certificate.{Certificate}
-use Rattle.certificate.specs.Record.{no_list, entries_in, pasts_in, beginnings, views_in}
+use Rattle.certificate.specs.Record.{no_list, entries_in, beginnings}
 use Rattle.certificate.specs.Criteria.{count_from}
-use Rattle.certificate.specs.CertificateText.{list_line, list_lines, past_part, view_part}
+use Rattle.certificate.specs.CertificateText.{list_line, list_lines}
 use Rattle.certificate.proofs.NumberingLaws.{count_long}
-use Rattle.certificate_writer.specs.Steps.Lines.{line_bytes, past_piece, has_past, view_piece, has_view}
+use Rattle.certificate_writer.specs.Steps.Lines.{line_bytes, past_piece, view_piece}
 
 pub lines_more : (l : List ℕ) (ls : List (List ℕ)) → lines_text (l ∷ ls) ≡ (l ++ 10 ∷ []) ++ lines_text ls
 unfolding lines_text

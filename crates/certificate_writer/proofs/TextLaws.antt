@@ -3,15 +3,15 @@ use Prim.Native.Nat.{ℕ, ◌≤◌, ◌<◌}
 use native.Mathlib.Omega.{arith}
 use mathlib.Core.Path.{◌≡◌, refl, sym, ap, ap₂, ◌∙◌}
 use mathlib.Core.Bool.{Bool, true, false, cond}
-use mathlib.Core.List.{List, [], ◌∷◌, ◌++◌, map, append_assoc}
-use lib.ListN.{length, get_or, take, length-map}
+use mathlib.Core.List.{List, [], ◌∷◌, ◌++◌}
+use lib.ListN.{length, take, length-map}
 use lib.Seq.{length-take-le}
 use borrow.Author.Tests.{le-leb, lt-leb}
 use Rattle.std.specs.Prelude.{Ok, Err}
 use Rattle.layout.specs.Fill.{fill}
 use Rattle.layout.specs.Pieces.{pieces_from}
 use Rattle.layout.specs.Word.{past_heading, view_heading}
-use Rattle.layout.proofs.Cases.{by_bool, and_left, and_right}
+use Rattle.layout.proofs.Cases.{and_left, and_right}
 use Rattle.layout.proofs.FillLaws.{after-fits, after-short}
 use Rattle.history.specs.declared.record.History.{History}
 use Rattle.history.specs.Record.{events_in}
@@ -23,7 +23,7 @@ use Rattle.history_writer.specs.declared.write.WriteFault.TheVariants.{OutsideLi
 use Rattle.history_writer.specs.WriteHistory.{written_of}
 use Rattle.certificate.specs.declared.record.Certificate.{Certificate}
 use Rattle.certificate.specs.declared.numbers.ViewNumbers.{ViewNumbers}
-use Rattle.certificate.specs.Record.{entries_in, pasts_in, beginnings, views_in}
+use Rattle.certificate.specs.Record.{entries_in, pasts_in, views_in}
 use Rattle.certificate.specs.Criteria.{has_pasts, count_from, view_numbers}
 use Rattle.certificate.specs.CertificateText.{list_lines, criterion_text, past_part, view_part, text_of, certificate_text}
 use Rattle.certificate.specs.Readable.{fits}
