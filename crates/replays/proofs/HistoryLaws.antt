@@ -17,7 +17,6 @@ use Rattle.history.specs.declared.record.Object.{Object}
 use Rattle.history.specs.declared.record.Op.{Op}
 use Rattle.history.specs.declared.record.Op.TheVariants.{Write, Read, Push, Pop, Peek}
 use Rattle.history.specs.declared.record.Answer.{Answer}
-use Rattle.history.specs.declared.record.Event as WrittenEvent
 use Rattle.history.specs.declared.record.History as WrittenHistory
 use Rattle.history.specs.Record.{no_object, no_event, objects_in, events_in}
 use Rattle.history.specs.Kinds.{is_channel}
