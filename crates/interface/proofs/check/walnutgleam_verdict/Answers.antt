@@ -6,6 +6,6 @@ use Rattle.interface.proofs.check.walnutgleam_verdict.Goals as goal
 
 pub places_of-requires : goal.places_of-requires
 places_of-requires c =
-    let s = answer-small c.args.history.now c.args.certificate.now _ (ap (λ (v : Verdict). v.place) c.check-checked.ensures) in
-    let p = answer-placed c.args.history.now c.args.certificate.now _ (ap (λ (v : Verdict). v.place) c.check-checked.ensures) in
+    let s = answer-small c.args.history.now c.args.certificate.now _ (ap (λ (v : Verdict). v.place) c.check-answer.ensures) in
+    let p = answer-placed c.args.history.now c.args.certificate.now _ (ap (λ (v : Verdict). v.place) c.check-answer.ensures) in
     record { line = omega (arith, s.line); from = p.from; end = s.end }

@@ -14,5 +14,4 @@ returns-in-Ok c =
 
 pub returns-in-Err : goal.returns-in-Err
 returns-in-Err c =
-    rw c.number.ensures
-    (refused c.args.certificate.now c.args.buffer.now _ _ (ap (λ (x : CertificateRead). x.fault) c.in-Err.ensures.0) (fault-some c.in-Err.refusal.fault))
+    refused c.args.certificate.now c.args.buffer.now _ _ (ap (λ (x : CertificateRead). x.fault) c.in-Err.ensures.0) (fault-some c.in-Err.refusal.fault)

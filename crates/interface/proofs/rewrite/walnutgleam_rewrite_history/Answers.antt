@@ -13,5 +13,4 @@ returns-in-Ok c =
 
 pub returns-in-Err : goal.returns-in-Err
 returns-in-Err c =
-    rw c.number.ensures
-    (refused c.args.history.now c.args.buffer.now _ _ (ap (λ (x : HistoryRead). x.fault) c.in-Err.ensures) (fault-some c.in-Err.refusal.fault))
+    refused c.args.history.now c.args.buffer.now _ _ (ap (λ (x : HistoryRead). x.fault) c.in-Err.ensures) (fault-some c.in-Err.refusal.fault)
