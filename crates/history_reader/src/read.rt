@@ -43,6 +43,7 @@ fn refuse(fault: Fault, line: usize, start: usize, end: usize) -> Refusal
 }
 
 // Reads the lines after the heading of the objects, which begin at `from`, up to the heading of the events.
+// Kept: a line ends where its line feed stands, and the last of them where the heading of the events does; no `for` is plainer.
 fn read_objects(text: &[u8], from: usize) -> Result<Declared, Refusal>
     requires { from ≤ length text.now }
     ensures { ObjectsRead (objects_from [] 2 from (split 10 (drop from text.now))) text.now result }
@@ -71,6 +72,7 @@ fn read_objects(text: &[u8], from: usize) -> Result<Declared, Refusal>
 }
 
 // Reads the lines of the events, after those of the objects.
+// Kept: reading a line tells where it ends and the next one begins; no `for` is plainer.
 fn read_events(text: &[u8], read: Declared) -> Result<History, Refusal>
     requires { (read.end ≤ length text.now) × (read.declared ≤ 16) × (read.objects ≡ pad 16 no_object (take read.declared read.objects)) }
     ensures { history_read result ≡ events_from (take read.declared read.objects) [] (read.declared + 3) read.end (split 10 (drop read.end text.now)) }

@@ -41,6 +41,7 @@ fn text_number(t: Text) -> u32
 }
 
 // What stands for none.
+// Kept: the C interface has numbers alone.
 const NONE: u32 = 4294967295;
 
 fn criterion_or_none(c: Option<Criterion>) -> u32

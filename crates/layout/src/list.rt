@@ -48,6 +48,7 @@ fn push_item(
 }
 
 // Reads items with commas between them.
+// Kept: the loop takes the field apart at its commas and counts nothing; no `for` is plainer.
 fn read_items(field: &[u8], bound: u64, items: &mut [u32]) -> Result<usize, ListFault>
     requires { bound ≤ 4294967296 }
     ensures { (result ≡ judged bound (length items.old) (split 44 field.now)) × (items.new ≡ fill (leading bound (length items.old) (split 44 field.now)) items.old) }

@@ -110,6 +110,7 @@ pub fn is_spelling(field: &[u8], n: u32) -> bool
 }
 
 // How many digits the spelling of a number has.
+// Kept: the loop divides and counts digits, with no index; no `for` is plainer.
 pub fn number_len(n: u32) -> usize
     ensures { (result ≡ length (spell n)) × (result ≤ 10) }
 {

@@ -10,6 +10,7 @@ use std::{fs, io};
 use verdict_lines::print::print_check;
 
 // Reads until a buffer is full, the input ends or a read fails, and answers how many bytes it put at the start of the buffer.
+// Kept: a read tells how many bytes it put, and the next one goes on behind them; no `for` is plainer.
 fn read_full<R: Read>(input: &mut R, buffer: &mut [u8]) -> usize
     ensures bound { result ≤ length buffer.new }
     ensures prefix { result ≡ length (take result buffer.new) }
