@@ -1,14 +1,11 @@
 -- Laws of an array that is made of another, an element at a time, and of a history that is taken apart an event at a time. Assumes nothing.
-use Prim.Native.Nat.{ℕ, zero, suc, ◌+◌, ◌≤◌, ◌<◌}
+use Prim.Native.Nat.{ℕ, ◌+◌, ◌≤◌, ◌<◌}
 use native.Mathlib.Omega.{arith}
-use mathlib.Core.Path.{◌≡◌, subst, ◌∙◌}
+use mathlib.Core.Path.{◌≡◌, ◌∙◌}
 use mathlib.Core.List.{List}
 use lib.ListN.{length, get_or, set}
 use lib.Seq.{get_or-set_same, get_or-set_other}
 use lib.ListN.{take, length-set}
-use denote.Param.Members.{Mut}
-use Rattle.std.specs.Fn.{Called}
-use Rattle.std.specs.Array.{IsFromFnResultFrom}
 use lib.Seq.{get_or-take}
 use Rattle.layout.proofs.Cases.{by-eq}
 use Rattle.history.specs.declared.record.Answer.{Answer}
@@ -36,17 +33,6 @@ Made f d b xs ys i = (k : ℕ) → k < i → get_or ys k b ≡ f (get_or xs k d)
 pub made_more : {A B : Type 0} (f : A → B) (d : A) (b : B) (xs : List A) (ys : List B) (i : ℕ) (y : B)
     → i < length ys → y ≡ f (get_or xs i d) → Made f d b xs ys i → Made f d b xs (set ys i y) (i + 1)
 made_more f d b xs ys i y h q m = made_at (λ (k : ℕ). f (get_or xs k d)) b ys i y h q m
-
--- ---- an array that `from_fn` made, where each call leaves the closure as it was
-pub from_fn-at : {F B : Type 0} (g : Mut F (ℕ × Unit {0}) B) (f : F) (ys : List B) (h : ℕ → B) (d : B)
-    → ((i : ℕ) (y : B) (q : F) → Called g f (i, tt) y q → (q ≡ f) × (y ≡ h i))
-    → (i n : ℕ) → IsFromFnResultFrom g f ys i n → (k : ℕ) → i ≤ k → k < i + n → get_or ys k d ≡ h k
-from_fn-at g f ys h d gives i zero e k le lt = absurd (omega arith)
-from_fn-at {F} g f ys h d gives i (suc n) (q, y, is, call, more) k le lt =
-    let p = gives i y q call in
-    by-eq k i
-    (λ e. rw e (is.1 d ∙ p.1))
-    (λ ne. from_fn-at g f ys h d gives (i + 1) n (subst (λ (x : F). IsFromFnResultFrom g x ys (i + 1) n) p.0 more) k (omega arith) (omega arith))
 
 -- ---- the first i events of a history are taken apart
 pub record Apart (h : History) (i : ℕ) (r : LightHistory) : Type 0 where

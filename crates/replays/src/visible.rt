@@ -6,7 +6,6 @@ ghost use Rattle.replays.specs.Visible.{no_visible};
 use crate::replay::{Light, Visible};
 use certificate::record::Criterion;
 use history::record::{EventNo, ProcessNo};
-use std::array;
 
 // Of the view at the place k: its number is `number`, and `process` is the process of event k.
 fn visible_in(c: Criterion, number: u8, process: ProcessNo, k: u8) -> Visible
@@ -24,5 +23,9 @@ fn visible_in(c: Criterion, number: u8, process: ProcessNo, k: u8) -> Visible
 pub fn visible_views(c: Criterion, numbers: [u8; 64], events: [Light; 64]) -> [Visible; 64]
     ensures { (k : ℕ) → k < 64 → get_or result k no_visible ≡ visible_at c numbers events k }
 {
-    array::from_fn(|k| visible_in(c, numbers[k], events[k].process, k as u8))
+    let mut views = [Visible::All; 64];
+    for k in 0..64 {
+        views[k] = visible_in(c, numbers[k], events[k].process, k as u8);
+    }
+    views
 }

@@ -1,10 +1,13 @@
--- Each view's answers are those of the closure.
-use native.Mathlib.Omega.{arith}
-use borrow.Author.Rules.{rules}
+-- `visible_views` meets its contract: the answers that are visible in the first k views are those of the criterion.
+use Rattle.std.proofs.Common.{arith, ◌∙◌}
+use lib.ListN.{length-set}
 use Rattle.replays.specs.Visible.{no_visible, visible_at}
-use Rattle.replays.proofs.LightLaws.{from_fn-at}
+use Rattle.replays.proofs.LightLaws.{made_at}
 use Rattle.replays.proofs.visible.visible_views.Goals as goal
 
-pub returns : goal.returns
-returns c k l =
-    from_fn-at _ _ _ (visible_at c.args.c c.args.numbers c.args.events) no_visible (λ i y q s. search rules) 0 64 c.from_fn.ensures.items.each k (omega arith) (omega arith)
+pub loop-k-preserved : goal.loop-k-preserved
+loop-k-preserved c = (
+  length-set c.loop-k.views c.loop-k.k _ ∙ c.loop-k.invariant.0,
+  made_at (visible_at c.args.c c.args.numbers c.args.events) no_visible c.loop-k.views c.loop-k.k c.visible_in.result
+      (omega (arith, c.loop-k.invariant.0)) c.visible_in.ensures c.loop-k.invariant.1,
+)
