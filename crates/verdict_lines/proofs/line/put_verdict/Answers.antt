@@ -14,8 +14,7 @@ returns c =
     let left = pieces_text (map field_text c.fields_of-fields.result) in
     let e = printed-is (verdict_of c.args.answer) c.fields_of-fields.result c.fields_of-fields.ensures.0 in
     let w = text_then names left c.args.buf.now _ _ _ _ (omega (arith, c.requires.0, c.fields_of-fields.ensures.1, length-append names left))
-    c.put_bytes-k.ensures.0 c.put_bytes-k.ensures.1 c.put_fields.ensures.0 c.put_fields.ensures.1 in
-    (
+    c.put_bytes-k.ensures.0 c.put_bytes-k.ensures.1 c.put_fields.ensures.0 c.put_fields.ensures.1 in (
       w.0 ∙ sym (ap length e),
       w.1 ∙ sym (ap (λ (t : List ℕ). fill t c.args.buf.now) e),
       omega (arith, c.put_fields.ensures.0, c.put_bytes-k.ensures.0, c.fields_of-fields.ensures.1),

@@ -7,11 +7,10 @@ use Rattle.verdict_lines.proofs.PieceLaws.{printed-whole}
 use Rattle.verdict_lines.proofs.print.print_check.Goals as goal
 
 pub put_verdict-length-requires : goal.put_verdict-length-requires
-put_verdict-length-requires c =
-    (
-      omega arith,
-      omega (arith, (answer-small c.args.history.now c.args.text.now _ (ap (λ (v : Verdict). v.place) c.check.ensures)).line),
-    )
+put_verdict-length-requires c = (
+  omega arith,
+  omega (arith, (answer-small c.args.history.now c.args.text.now _ (ap (λ (v : Verdict). v.place) c.check.ensures)).line),
+)
 
 pub returns : goal.returns
 returns c =
