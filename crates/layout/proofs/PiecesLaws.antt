@@ -13,9 +13,9 @@ pub pieces_next : (piece : ℕ → List ℕ) (i n : ℕ) → i < n → pieces_fr
 unfolding pieces_from
 pieces_next piece i n h = let k : n - i ≡ suc (n - (i + 1)) = omega arith in rw k refl
 
-pub pieces_end : (piece : ℕ → List ℕ) (i n : ℕ) → n ≤ i → pieces_from piece i (n - i) ≡ []
+pub pieces_from_end : (piece : ℕ → List ℕ) (i n : ℕ) → n ≤ i → pieces_from piece i (n - i) ≡ []
 unfolding pieces_from
-pieces_end piece i n h = let k : n - i ≡ 0 = omega arith in rw k refl
+pieces_from_end piece i n h = let k : n - i ≡ 0 = omega arith in rw k refl
 
 pub pieces_long : (piece : ℕ → List ℕ) (i n : ℕ) → i < n
     → length (pieces_from piece i (n - i)) ≡ length (piece i) + length (pieces_from piece (i + 1) (n - (i + 1)))

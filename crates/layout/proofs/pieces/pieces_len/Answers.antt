@@ -1,7 +1,7 @@
 -- `pieces_len` meets its contract: the bytes counted and those of the pieces left are all bytes. Assumes nothing.
 use Rattle.std.proofs.Common.{◌≡◌, ◌≤◌, ◌-◌, ◌+◌, arith, rules, length, ap}
 use Rattle.std.proofs.Math.Nat.{mul-le-mul_left}
-use Rattle.layout.proofs.PiecesLaws.{pieces_long, pieces_end}
+use Rattle.layout.proofs.PiecesLaws.{pieces_long, pieces_from_end}
 use Rattle.layout.proofs.pieces.pieces_len.Goals as goal
 
 pub loop-i-init : goal.loop-i-init
@@ -21,6 +21,6 @@ loop-i-preserved g c =
 
 pub returns : goal.returns
 returns g c =
-    let e = pieces_end (g.P.Pieces.piece c.args.pieces.now) c.loop-i.i c.args.n (search rules) in
+    let e = pieces_from_end (g.P.Pieces.piece c.args.pieces.now) c.loop-i.i c.args.n (search rules) in
     let i : c.loop-i.i ≡ c.args.n = omega (arith, c.loop-i.invariant.0) in
     (omega (arith, ap length e, c.loop-i.invariant.2), rw i at c.loop-i.invariant.1)

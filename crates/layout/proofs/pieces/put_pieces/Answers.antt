@@ -1,7 +1,7 @@
 -- `put_pieces` meets its contract: the pieces left, written behind what is there, complete the text. Assumes nothing.
 use Rattle.std.proofs.Common.{◌≡◌, ◌-◌, arith, rules}
 use Rattle.layout.proofs.FillLaws.{writing_begins, writing-room, writing-sum, writing-part, writing-ends}
-use Rattle.layout.proofs.PiecesLaws.{pieces_next, pieces_end}
+use Rattle.layout.proofs.PiecesLaws.{pieces_next, pieces_from_end}
 use Rattle.layout.proofs.pieces.put_pieces.Goals as goal
 
 pub loop-i-init : goal.loop-i-init
@@ -28,4 +28,4 @@ loop-i-preserved g c =
     (search rules, writing-part c.loop-i.invariant.1 (piece c.loop-i.i) _ next _ _ c.put_piece-at.ensures.0 c.put_piece-at.ensures.1)
 
 pub returns : goal.returns
-returns g c = writing-ends c.loop-i.invariant.1 (pieces_end (g.P.Pieces.piece c.args.pieces.now) c.loop-i.i c.args.n (search rules))
+returns g c = writing-ends c.loop-i.invariant.1 (pieces_from_end (g.P.Pieces.piece c.args.pieces.now) c.loop-i.i c.args.n (search rules))
