@@ -10,6 +10,7 @@ use certificate_writer::write::write_certificate;
 use checker::check::carried_line;
 use history::record::{History, ProcessNo};
 use history_reader::place::Text;
+use history_reader::read::Refusal;
 use history_writer::write::WriteFault;
 use std::io;
 use std::io::Write;
@@ -56,7 +57,8 @@ fn case<W: Write>(out: &mut W, name: &str, history: &[u8], text: &[u8]) -> io::R
     let mut rows = [[0u8; 64]; 64];
     match read_certificate(history, text, &mut rows) {
         Ok(texts) => say_back(out, &texts, &rows, text),
-        Err(refusal) => {
+        Err(unread) => {
+            let refusal = Refusal::from(unread);
             let fault = refusal.fault.number();
             let which = text_name(refusal.place.text);
             let line = refusal.place.line;

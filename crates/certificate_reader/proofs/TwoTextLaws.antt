@@ -19,6 +19,7 @@ use Rattle.history_reader.proofs.PlaceLaws.{placed-history}
 use Rattle.history_reader.proofs.ReadLaws.{fault-some}
 use Rattle.certificate.specs.declared.record.Certificate.{Certificate}
 use Rattle.certificate.specs.Record.{no_certificate, certificate_of}
+use Rattle.certificate_reader.specs.declared.read.Unread.TheVariants.{NoHistory, NoCertificate}
 use Rattle.certificate_reader.specs.ReadCertificate.{Lines, CertificateRead, read_lines, history_refused, certificate_read, texts_read, read_certificate, rows_after, rows_read}
 use Rattle.certificate_reader.specs.Steps.Lines.{refused, AllDone}
 use Rattle.certificate_reader.proofs.PlaceLaws.{placed-text}
@@ -35,16 +36,11 @@ module _ (history text : List ℕ) (rows : List (List ℕ)) where
     unfolding rows_read
     rows_is = ap (λ (h : HistoryRead). cond (eqb h.fault 0) (rows_after (read_lines (events_in h.history) text) rows) rows) (sym q)
 
-    history-is : x.history ≡ (read_history history).history
-    history-is = ap (λ (h : HistoryRead). h.history) q
 
   -- the history is refused
   module _ (r : Refusal) (q : history_read (Err r) ≡ read_history history) where
-    pub history-refused-answer : texts_read history (Err r) ≡ read_certificate history text
-    history-refused-answer =
-        ap {B = CertificateRead} (λ (h : History). record { fault = fault_number r.fault; place = line_place r.place; history = h; certificate = no_certificate })
-        (sym (history-is (history_read (Err r)) q))
-        ∙ sym (answer-is (history_read (Err r)) q ∙ rw (ne_eqb (fault_number r.fault) 0 (fault-some r.fault)))
+    pub history-refused-answer : texts_read (Err (NoHistory r)) ≡ read_certificate history text
+    history-refused-answer = sym (answer-is (history_read (Err r)) q ∙ rw (ne_eqb (fault_number r.fault) 0 (fault-some r.fault)))
 
     pub history-refused-rows : rows ≡ rows_read history text rows
     history-refused-rows = sym (rows_is (history_read (Err r)) q ∙ rw (ne_eqb (fault_number r.fault) 0 (fault-some r.fault)))
@@ -53,12 +49,9 @@ module _ (history text : List ℕ) (rows : List (List ℕ)) where
   module _ (h : History) (q : history_read (Ok h) ≡ read_history history) where
     -- and the certificate is refused
     module _ (r : Refusal) (w : read_lines (events_in h) text ≡ refused r) where
-      pub lines-refused-answer : texts_read history (Err r) ≡ read_certificate history text
+      pub lines-refused-answer : texts_read (Err (NoCertificate h r)) ≡ read_certificate history text
       unfolding certificate_of pad
-      lines-refused-answer =
-          ap {B = CertificateRead} (λ (h : History). record { fault = fault_number r.fault; place = line_place r.place; history = h; certificate = no_certificate })
-          (sym (history-is (history_read (Ok h)) q))
-          ∙ sym (answer-is (history_read (Ok h)) q ∙ ap (λ (l : Lines). certificate_read h l) w)
+      lines-refused-answer = sym (answer-is (history_read (Ok h)) q ∙ ap (λ (l : Lines). certificate_read h l) w)
 
       pub lines-refused-rows : rows ≡ rows_read history text rows
       lines-refused-rows =
@@ -67,7 +60,7 @@ module _ (history text : List ℕ) (rows : List (List ℕ)) where
 
     -- and the certificate too
     module _ (c : Certificate) (new : List (List ℕ)) (d : AllDone (read_lines (events_in h) text) new c) where
-      pub both-answer : texts_read history (Ok (record { history = h; certificate = c })) ≡ read_certificate history text
+      pub both-answer : texts_read (Ok (record { history = h; certificate = c })) ≡ read_certificate history text
       both-answer =
           ap {B = CertificateRead} (λ (c : Certificate). record { fault = 0; place = nowhere; history = h; certificate = c }) d.is
           ∙ sym (answer-is (history_read (Ok h)) q ∙ ap (λ (l : Lines). certificate_read h l) d.says)

@@ -4,7 +4,7 @@ use Rattle.layout.specs.Split.{split}
 use Rattle.layout.specs.Word.{same, past_heading, view_heading}
 use Rattle.history.specs.declared.record.Event.{Event}
 use Rattle.history.specs.declared.record.History.{History}
-use Rattle.history.specs.Record.{events_in}
+use Rattle.history.specs.Record.{events_in, no_history}
 use Rattle.history.specs.Faults.{fault_number}
 use Rattle.history_reader.specs.declared.read.Refusal.{Refusal}
 use Rattle.history_reader.specs.Place.{Place, CertificateText, nowhere, line_place, faulty_place}
@@ -16,6 +16,8 @@ use Rattle.certificate.specs.Record.{certificate_of, no_certificate, rows_of}
 use Rattle.certificate.specs.Criteria.{has_pasts, count_from, view_numbers, criterion_of}
 use Rattle.certificate.specs.Faults.{criterion_line, list_fault, list_said}
 use Rattle.certificate_reader.specs.declared.read.Texts.{Texts}
+use Rattle.certificate_reader.specs.declared.read.Unread.{Unread}
+use Rattle.certificate_reader.specs.declared.read.Unread.TheVariants.{NoHistory, NoCertificate}
 
 -- What lines are as a certificate: fault 0, the criterion, the pasts and the views; or the fault, and the place of the faulty line.
 pub record Lines : Type 0 where
@@ -111,11 +113,17 @@ read_certificate history text =
     (certificate_read (read_history history).history (read_lines (events_in (read_history history).history) text))
     (history_refused (read_history history))
 
--- The code's result as one of these: where the certificate is refused, the history's record is still that of its text.
-abbrev pub texts_read : List ℕ → Result Texts Refusal → CertificateRead
-texts_read history (Ok t) = record { fault = 0; place = nowhere; history = t.history; certificate = t.certificate }
-texts_read history (Err r) =
-    record { fault = fault_number r.fault; place = line_place r.place; history = (read_history history).history; certificate = no_certificate }
+-- The code's result as one of these.
+abbrev pub texts_read : Result Texts Unread → CertificateRead
+texts_read (Ok t) = record { fault = 0; place = nowhere; history = t.history; certificate = t.certificate }
+texts_read (Err (NoHistory r)) =
+    record { fault = fault_number r.fault; place = line_place r.place; history = no_history; certificate = no_certificate }
+texts_read (Err (NoCertificate h r)) =
+    record { fault = fault_number r.fault; place = line_place r.place; history = h; certificate = no_certificate }
+
+abbrev pub refusal_in : Unread → Refusal
+refusal_in (NoHistory r) = r
+refusal_in (NoCertificate h r) = r
 
 -- The rows afterwards: those of the views where both texts are read, and else as they were.
 abbrev pub rows_after : Lines → List (List ℕ) → List (List ℕ)

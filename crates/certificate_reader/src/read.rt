@@ -4,7 +4,7 @@ ghost use Rattle.layout.specs.Split.{split};
 ghost use Rattle.history.specs.Faults.{fault_number};
 ghost use Rattle.certificate.specs.Record.{no_list};
 ghost use Rattle.certificate.specs.declared.record.EventList.{EventList};
-ghost use Rattle.certificate_reader.specs.ReadCertificate.{refusal, heading_from, lines_from, read_lines, texts_read, read_certificate, rows_read};
+ghost use Rattle.certificate_reader.specs.ReadCertificate.{refusal, heading_from, lines_from, read_lines, texts_read, refusal_in, read_certificate, rows_read};
 ghost use Rattle.certificate_reader.specs.Steps.Lines.{refused, LineRead, ListsRead, EndRead, PastsRead, ViewsRead, AllRead};
 
 use certificate::criterion::{has_pasts, read_criterion};
@@ -27,6 +27,23 @@ const LONGEST: usize = 32768;
 pub struct Texts {
     pub history: History,
     pub certificate: Certificate,
+}
+
+// Why the two are not read: the history text is refused, or the certificate text is, of a history that was read.
+#[derive(Clone, Copy)]
+pub enum Unread {
+    NoHistory(Refusal),
+    NoCertificate(History, Refusal),
+}
+
+impl From<Unread> for Refusal {
+    ghost from_gives = { λ u r. r ≡ refusal_in u };
+
+    fn from(unread: Unread) -> Refusal {
+        match unread {
+            Unread::NoHistory(refusal) | Unread::NoCertificate(_, refusal) => refusal,
+        }
+    }
 }
 
 // A line of a text: its number from 1, and where it begins.
@@ -229,13 +246,18 @@ pub fn read_certificate(
     history: &[u8],
     text: &[u8],
     rows: &mut [[u8; 64]; 64],
-) -> Result<Texts, Refusal>
-    ensures { (texts_read history.now result ≡ read_certificate history.now text.now) × (rows.new ≡ rows_read history.now text.now rows.old) }
+) -> Result<Texts, Unread>
+    ensures { (texts_read result ≡ read_certificate history.now text.now) × (rows.new ≡ rows_read history.now text.now rows.old) }
 {
-    let history = read_history(history)?;
-    let certificate = read_text(text, &history.events[..history.count], rows)?;
-    Ok(Texts {
-        history,
-        certificate,
-    })
+    let history = match read_history(history) {
+        Ok(history) => history,
+        Err(refusal) => return Err(Unread::NoHistory(refusal)),
+    };
+    match read_text(text, &history.events[..history.count], rows) {
+        Ok(certificate) => Ok(Texts {
+            history,
+            certificate,
+        }),
+        Err(refusal) => Err(Unread::NoCertificate(history, refusal)),
+    }
 }

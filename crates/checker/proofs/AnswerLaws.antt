@@ -15,10 +15,10 @@ use Rattle.certificate.specs.declared.record.Criterion.{Criterion}
 use Rattle.criteria.specs.Check.{Answer, answer_of}
 use Rattle.faults.specs.declared.finding.Finding.{Finding}
 use Rattle.faults.specs.declared.finding.Finding.TheVariants.{LacksOwn, InOwnPast, LacksPast, NotItsSet, Against, Wrong, OutsidePast}
-use Rattle.faults.specs.Finding.{finding_in}
+use Rattle.faults.specs.Finding.{finding_in, found_of}
 use Rattle.checker.specs.declared.check.Checked.{Checked}
 use Rattle.checker.specs.CheckText.{Verdict}
-use Rattle.checker.specs.Verdict.{found_of, verdict_of}
+use Rattle.checker.specs.Verdict.{verdict_of}
 
 -- ---- the fault of a number
 abbrev fault_of : ℕ → faulty.Fault

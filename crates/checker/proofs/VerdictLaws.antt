@@ -20,7 +20,6 @@ use Rattle.history.specs.Faults.{fault_number}
 use Rattle.history.proofs.WithinLaws.{within-limits}
 use Rattle.history_reader.specs.declared.place.Text as code-text
 use Rattle.history_reader.specs.declared.place.Place as code-place
-use Rattle.history_reader.specs.declared.read.Refusal.{Refusal}
 use Rattle.history_reader.specs.Place.{Place, nowhere, event_place, text_in, line_place, place_in, bytes_at, text_named, part_at}
 use Rattle.history_reader.specs.ReadHistory.{read_history}
 use Rattle.history_reader.proofs.EventPlaceLaws.{few-declared, few-counted, event-within}
@@ -29,7 +28,9 @@ use Rattle.certificate.specs.declared.record.Criterion.{Criterion}
 use Rattle.certificate.specs.declared.record.Certificate.{Certificate}
 use Rattle.certificate.specs.Record.{no_row}
 use Rattle.certificate.specs.Readable.{fits}
-use Rattle.certificate_reader.specs.ReadCertificate.{CertificateRead, texts_read, read_certificate, rows_read}
+use Rattle.certificate_reader.specs.declared.read.Unread.{Unread}
+use Rattle.certificate_reader.specs.declared.read.Unread.TheVariants.{NoHistory, NoCertificate}
+use Rattle.certificate_reader.specs.ReadCertificate.{CertificateRead, texts_read, refusal_in, read_certificate, rows_read}
 use Rattle.certificate_reader.proofs.TwoTextLaws.{PlacedIn, placed-two}
 use Rattle.certificate_theorems.proofs.Theorems.{no-fault-history, read_as, read_fits}
 use Rattle.certificate_theorems.proofs.Places.{Small, small-two}
@@ -38,9 +39,9 @@ use Rattle.criteria.specs.History.{size}
 use Rattle.criteria.specs.Records.{history_of, certificate_of}
 use Rattle.criteria.proofs.RecordLaws.{size_is}
 use Rattle.faults.specs.declared.finding.Finding.{Finding}
-use Rattle.faults.specs.Finding.{finding_of}
+use Rattle.faults.specs.Finding.{finding_of, found_of}
 use Rattle.checker.specs.CheckText.{Verdict, refused, checked, place_of, found_in, history_read, rows_of, certificate_read, check_text, carried_line}
-use Rattle.checker.specs.Verdict.{found_of, checked_as, verdict_of}
+use Rattle.checker.specs.Verdict.{checked_as, verdict_of}
 use Rattle.checker.proofs.TextTheorems.{checked-as, refused_as, lists-readable}
 use Rattle.checker.proofs.EventLaws.{Below, event-below}
 
@@ -66,10 +67,19 @@ fault-some BadAnswer z = omega (arith, z)
 fault-some NotRising z = omega (arith, z)
 
 -- a reading refusal
-pub refused-answer : (history text : List ℕ) (r : Refusal) → texts_read history (Err r) ≡ read_certificate history text
-    → verdict_of (Err r) ≡ check_text history text
-refused-answer history text r read =
-    ap refused read ∙ sym (refused_as history text (λ z. fault-some r.fault (ap (λ (x : CertificateRead). x.fault) read ∙ z)))
+unread-refused : (u : Unread) → refused (texts_read (Err u)) ≡ verdict_of (Err (refusal_in u))
+unread-refused (NoHistory r) = refl
+unread-refused (NoCertificate h r) = refl
+
+pub unread-fault : (u : Unread) → (texts_read (Err u)).fault ≡ 0 → ⊥
+unread-fault (NoHistory r) z = fault-some r.fault z
+unread-fault (NoCertificate h r) z = fault-some r.fault z
+
+pub refused-answer : (history text : List ℕ) (u : Unread) → texts_read (Err u) ≡ read_certificate history text
+    → verdict_of (Err (refusal_in u)) ≡ check_text history text
+refused-answer history text u read =
+    sym (unread-refused u) ∙ ap refused read
+    ∙ sym (refused_as history text (λ z. unread-fault u (ap (λ (x : CertificateRead). x.fault) read ∙ z)))
 
 module _ (history text : List ℕ) (r : CertificateRead) (read : r ≡ read_certificate history text) where
   module _ (z : r.fault ≡ 0) (rows : List (List ℕ)) (rows-read : rows ≡ rows_read history text (replicate 64 no_row)) where

@@ -1,20 +1,13 @@
 -- The verdict that an answer of the code stands for: `answer_of` and `fault_in` state document 01's number and places of each case.
-use Rattle.std.specs.Prelude as code
 use Rattle.std.specs.Prelude.{Result, Ok, Err}
-use Rattle.std.proofs.Math.Option.{Option, none, some}
+use Rattle.std.proofs.Math.Option.{none}
 use Rattle.history.specs.Faults.{fault_number}
 use Rattle.history_reader.specs.declared.read.Refusal.{Refusal}
 use Rattle.history_reader.specs.Place.{line_place, place_in}
-use Rattle.criteria.specs.Check.{Fault, answer_of}
-use Rattle.faults.specs.declared.finding.Finding.{Finding}
-use Rattle.faults.specs.Finding.{fault_in}
+use Rattle.criteria.specs.Check.{answer_of}
+use Rattle.faults.specs.Finding.{found_of}
 use Rattle.checker.specs.declared.check.Checked.{Checked}
 use Rattle.checker.specs.CheckText.{Verdict, refused_at, checked}
-
--- What was found, if anything was.
-abbrev pub found_of : code.Option Finding → Option Fault
-found_of code.None = none
-found_of (code.Some f) = some (fault_in f)
 
 -- Both texts were read.
 abbrev pub checked_as : Checked → Verdict

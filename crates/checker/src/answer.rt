@@ -17,10 +17,7 @@ pub fn number_in(answer: Result<Checked, Refusal>) -> u32
     ensures { result ≡ (verdict_of answer).number }
 {
     match answer {
-        Ok(checked) => match checked.finding {
-            None => 0,
-            Some(finding) => number_of(finding),
-        },
+        Ok(checked) => number_of(checked.finding),
         Err(refusal) => u32::from(refusal.fault.number()),
     }
 }
@@ -46,12 +43,12 @@ pub fn place_in(answer: Result<Checked, Refusal>) -> Option<Place>
 pub fn view_in(answer: Result<Checked, Refusal>) -> Option<u8>
     ensures { option_in result ≡ (verdict_of answer).view }
 {
-    view_of(answer.ok()?.finding?)
+    view_of(answer.ok()?.finding)
 }
 
 // The event that was found.
 pub fn event_in(answer: Result<Checked, Refusal>) -> Option<EventNo>
     ensures { found_event result ≡ (verdict_of answer).event }
 {
-    event_of(answer.ok()?.finding?)
+    event_of(answer.ok()?.finding)
 }

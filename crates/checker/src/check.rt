@@ -1,7 +1,8 @@
 // The check of two texts: the history's reading refusals, then the certificate's, then 11 to 16 with 20 after 15, then 0.
 ghost use Rattle.std.specs.Prelude.{◌≡◌, ◌≤◌};
 ghost use Rattle.checker.specs.CheckText.{found_in, check_text, carried_line};
-ghost use Rattle.checker.specs.Verdict.{found_of, checked_as, verdict_of};
+ghost use Rattle.faults.specs.Finding.{found_of};
+ghost use Rattle.checker.specs.Verdict.{checked_as, verdict_of};
 
 use crate::answer::place_in;
 use crate::place::place_of;

@@ -4,7 +4,7 @@ ghost use Rattle.layout.specs.Options.{option_in};
 ghost use Rattle.history_reader.specs.Place.{place_in, line_of};
 ghost use Rattle.criteria.specs.Check.{answer_of};
 ghost use Rattle.checker.specs.CheckText.{place_of};
-ghost use Rattle.checker.specs.Verdict.{found_of};
+ghost use Rattle.faults.specs.Finding.{found_of};
 
 use faults::finding::{Finding, event_of};
 use history_reader::place::{Place, event_place};
@@ -14,7 +14,7 @@ pub(crate) fn place_of(history: &[u8], declared: usize, finding: Option<Finding>
     requires { declared ≤ 16 }
     ensures { place_in result ≡ place_of history.now declared (answer_of (found_of finding)).event }
 {
-    let event = event_of(finding?)?;
+    let event = event_of(finding)?;
     Some(event_place(history, declared, usize::from(event.0)))
 }
 

@@ -1,5 +1,6 @@
 -- The fault that a finding stands for; `answer_of` of `criteria` gives the documents' number, view and event of each. And the other way, the
 -- finding of a number, a view and an event.
+use Rattle.std.specs.Prelude as code
 use Rattle.std.specs.Prelude.{ℕ, Bool, true, false, cond, eqb, Result, Ok, Err}
 use Rattle.std.proofs.Math.Option.{Option, none, some}
 use Rattle.criteria.specs.Check.{Answer, Fault, fault11, fault12, fault13, fault14, fault15, fault16, fault20}
@@ -18,6 +19,11 @@ fault_in (OutsidePast v) = fault20 v
 abbrev pub finding_of : Result (Unit {0}) Finding → Option Fault
 finding_of (Ok u) = none
 finding_of (Err f) = some (fault_in f)
+
+-- The same of what may have been found.
+abbrev pub found_of : code.Option Finding → Option Fault
+found_of code.None = none
+found_of (code.Some f) = some (fault_in f)
 
 -- A fault was found.
 abbrev pub is_found : Option Fault → Bool

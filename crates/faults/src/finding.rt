@@ -1,10 +1,9 @@
 // What the check of a history and a certificate that were read finds.
 ghost use Rattle.std.specs.Prelude.{◌≡◌};
-ghost use Rattle.std.proofs.Math.Option.{some};
 ghost use Rattle.layout.specs.Options.{option_in};
 ghost use Rattle.criteria.specs.Check.{answer_of};
 ghost use Rattle.replays.specs.Replay.{found_event};
-ghost use Rattle.faults.specs.Finding.{fault_in};
+ghost use Rattle.faults.specs.Finding.{found_of};
 
 use history::record::EventNo;
 
@@ -20,26 +19,27 @@ pub enum Finding {
     OutsidePast(u8),
 }
 
-// The documents' number of the fault.
-pub fn number_of(f: Finding) -> u32
-    ensures { result ≡ (answer_of (some (fault_in f))).number }
+// The documents' number of the answer: 0 where nothing was found.
+pub fn number_of(found: Option<Finding>) -> u32
+    ensures { result ≡ (answer_of (found_of found)).number }
 {
-    match f {
-        Finding::LacksOwn(_) => 11,
-        Finding::InOwnPast(_) => 12,
-        Finding::LacksPast(_) => 13,
-        Finding::NotItsSet(_) => 14,
-        Finding::Against(_) => 15,
-        Finding::Wrong(_, _) => 16,
-        Finding::OutsidePast(_) => 20,
+    match found {
+        None => 0,
+        Some(Finding::LacksOwn(_)) => 11,
+        Some(Finding::InOwnPast(_)) => 12,
+        Some(Finding::LacksPast(_)) => 13,
+        Some(Finding::NotItsSet(_)) => 14,
+        Some(Finding::Against(_)) => 15,
+        Some(Finding::Wrong(_, _)) => 16,
+        Some(Finding::OutsidePast(_)) => 20,
     }
 }
 
-// The number of the view that the fault carries, where it carries one.
-pub fn view_of(f: Finding) -> Option<u8>
-    ensures { option_in result ≡ (answer_of (some (fault_in f))).view }
+// The number of the view that the answer carries, where it carries one.
+pub fn view_of(found: Option<Finding>) -> Option<u8>
+    ensures { option_in result ≡ (answer_of (found_of found)).view }
 {
-    match f {
+    match found? {
         Finding::NotItsSet(v)
         | Finding::Against(v)
         | Finding::Wrong(v, _)
@@ -48,11 +48,11 @@ pub fn view_of(f: Finding) -> Option<u8>
     }
 }
 
-// The event that the fault carries, where it carries one.
-pub fn event_of(f: Finding) -> Option<EventNo>
-    ensures { found_event result ≡ (answer_of (some (fault_in f))).event }
+// The event that the answer carries, where it carries one.
+pub fn event_of(found: Option<Finding>) -> Option<EventNo>
+    ensures { found_event result ≡ (answer_of (found_of found)).event }
 {
-    match f {
+    match found? {
         Finding::LacksOwn(e)
         | Finding::InOwnPast(e)
         | Finding::LacksPast(e)

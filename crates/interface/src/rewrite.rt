@@ -7,7 +7,7 @@ ghost use Rattle.interface.specs.Rewrite.{rewritten, rewritten_bytes, rewritten_
 
 use certificate_reader::read::read_certificate;
 use certificate_writer::write::write_certificate;
-use history_reader::read::read_history;
+use history_reader::read::{Refusal, read_history};
 use history_writer::write::{WriteFault, write_history};
 
 // What a writer answers, as a number and a length.
@@ -54,9 +54,9 @@ pub fn walnutgleam_rewrite_certificate(
             write_certificate(buffer, read.history, read.certificate, &rows),
             length,
         ),
-        Err(refusal) => {
+        Err(unread) => {
             *length = 0;
-            u32::from(refusal.fault.number())
+            u32::from(Refusal::from(unread).fault.number())
         }
     }
 }

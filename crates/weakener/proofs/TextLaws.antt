@@ -16,15 +16,16 @@ use Rattle.history_reader.specs.ReadHistory.{read_history}
 use Rattle.certificate.specs.declared.record.Criterion.{Criterion}
 use Rattle.certificate.specs.declared.record.Certificate.{Certificate}
 use Rattle.certificate.specs.Record.{no_row}
-use Rattle.history_reader.specs.declared.read.Refusal.{Refusal}
-use Rattle.certificate_reader.specs.ReadCertificate.{CertificateRead, texts_read, read_certificate, rows_read}
+use Rattle.certificate_reader.specs.declared.read.Unread.{Unread}
+use Rattle.certificate_reader.specs.declared.read.Unread.TheVariants.{NoHistory, NoCertificate}
+use Rattle.certificate_reader.specs.ReadCertificate.{CertificateRead, texts_read, refusal_in, read_certificate, rows_read}
 use Rattle.criteria.specs.Check.{Fault, check}
 use Rattle.criteria.specs.Records.{history_of, certificate_of}
 use Rattle.checker.specs.CheckText.{Verdict, refused, found_in, history_read, certificate_read, check_text}
 use Rattle.checker.specs.MadeText.{text_if_some, plain, made_answer, made_verdict, length_made, bytes_made}
 use Rattle.checker.specs.WeakenText.{weakened_text, wanted_of, weakened_wanted, weaken_answer, weaken_length, weaken_bytes}
 use Rattle.checker.specs.OneLine.{one_line_text, crossing, line_answer, line_length, line_bytes}
-use Rattle.checker.proofs.VerdictLaws.{fault-some, no-fault, of-texts, checked-read}
+use Rattle.checker.proofs.VerdictLaws.{unread-fault, no-fault, of-texts, checked-read}
 use Rattle.weakener.specs.declared.made.Made.{Made}
 use Rattle.weakener.specs.declared.made.Wanted.{Wanted}
 use Rattle.weakener.specs.declared.made.Wanted.TheVariants.{Named, OneLine}
@@ -42,12 +43,16 @@ module _ (wanted : code.Option Wanted) (history text buffer : List ℕ) where
       (text_wanted wanted history text) buffer k then
 
   -- a reading refusal
-  pub texts-refused : (r : Refusal) → texts_read history (Err r) ≡ read_certificate history text → AnswersTexts (Err (Refused r)) buffer
-  texts-refused r read =
-      let m : (read_certificate history text).fault ≡ 0 → ⊥ = λ z. fault-some r.fault (ap (λ (x : CertificateRead). x.fault) read ∙ z) in
+  refusal-is : (u : Unread) → verdict_made (Err (Refused (refusal_in u))) ≡ refused (texts_read (Err u))
+  refusal-is (NoHistory r) = refl
+  refusal-is (NoCertificate h r) = refl
+
+  pub texts-refused : (u : Unread) → texts_read (Err u) ≡ read_certificate history text → AnswersTexts (Err (Refused (refusal_in u))) buffer
+  texts-refused u read =
+      let m : (read_certificate history text).fault ≡ 0 → ⊥ = λ z. unread-fault u (ap (λ (x : CertificateRead). x.fault) read ∙ z) in
       let e = ne_eqb (read_certificate history text).fault 0 m in
       record {
-        answer = ap refused read ∙ rw e refl;
+        answer = refusal-is u ∙ ap refused read ∙ rw e refl;
         made = rw (e, e) refl;
         long = rw (e, e) refl;
         bytes = rw (e, e) refl;

@@ -9,13 +9,14 @@ ghost use Rattle.criteria.specs.Records.{history_of, certificate_of};
 ghost use Rattle.checker.specs.CheckText.{found_in};
 ghost use Rattle.checker.specs.MadeText.{text_if_some, made_answer, made_verdict};
 ghost use Rattle.weakened_records.specs.Steps.{Passed, IsRecordOf};
+ghost use Rattle.certificate_reader.specs.ReadCertificate.{refusal_in};
 ghost use Rattle.weakener.specs.declared.made.Unmade.TheVariants.{Refused};
 ghost use Rattle.weakener.specs.Steps.{may_be_made, lists_wanted, crosses_wanted, text_wanted, crossing_wanted, OrderWanted, IsMade};
 
 use crate::pairs::is_pair;
 use certificate::criterion::has_pasts;
 use certificate::record::{Certificate, Criterion};
-use certificate_reader::read::read_certificate;
+use certificate_reader::read::{Unread, read_certificate};
 use certificate_writer::write::write_certificate;
 use checker::check::{Checked, found};
 use faults::check::check_records;
@@ -46,11 +47,11 @@ pub enum Unmade {
     TooShort(Criterion),
 }
 
-impl From<Refusal> for Unmade {
-    ghost from_gives = { λ r u. u ≡ Refused r };
+impl From<Unread> for Unmade {
+    ghost from_gives = { λ u r. r ≡ Refused (refusal_in u) };
 
-    fn from(refusal: Refusal) -> Unmade {
-        Unmade::Refused(refusal)
+    fn from(unread: Unread) -> Unmade {
+        Unmade::Refused(Refusal::from(unread))
     }
 }
 

@@ -1,7 +1,7 @@
 -- `check` meets its contract: a reading refusal, or what is found of the records that were read. Assumes nothing.
 use Rattle.std.proofs.Common.{refl, ap, ◌∙◌}
 use Rattle.std.proofs.lemmas.Result.{err_from_is_err_and}
-use Rattle.checker.specs.Verdict.{found_of}
+use Rattle.faults.specs.Finding.{found_of}
 use Rattle.checker.proofs.VerdictLaws.{refused-answer, within-read, fits_read, few-objects, found-err, found-answer}
 use Rattle.checker.proofs.check.check.Goals as goal
 
