@@ -36,7 +36,6 @@ module _ (history text : List ℕ) (rows : List (List ℕ)) where
     unfolding rows_read
     rows_is = ap (λ (h : HistoryRead). cond (eqb h.fault 0) (rows_after (read_lines (events_in h.history) text) rows) rows) (sym q)
 
-
   -- the history is refused
   module _ (r : Refusal) (q : history_read (Err r) ≡ read_history history) where
     pub history-refused-answer : texts_read (Err (NoHistory r)) ≡ read_certificate history text

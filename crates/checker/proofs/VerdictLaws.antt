@@ -71,6 +71,10 @@ unread-refused : (u : Unread) → refused (texts_read (Err u)) ≡ verdict_of (E
 unread-refused (NoHistory r) = refl
 unread-refused (NoCertificate h r) = refl
 
+pub unread-number : (u : Unread) → fault_number (refusal_in u).fault ≡ (texts_read (Err u)).fault
+unread-number (NoHistory r) = refl
+unread-number (NoCertificate h r) = refl
+
 pub unread-fault : (u : Unread) → (texts_read (Err u)).fault ≡ 0 → ⊥
 unread-fault (NoHistory r) z = fault-some r.fault z
 unread-fault (NoCertificate h r) z = fault-some r.fault z

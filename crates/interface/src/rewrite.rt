@@ -1,5 +1,6 @@
 // A text read, and written back from its record: the bytes that were read.
 ghost use Rattle.std.specs.Prelude.{◌≡◌};
+ghost use Rattle.history.specs.Faults.{fault_number};
 ghost use Rattle.history_writer.specs.WriteHistory.{written_of};
 ghost use Rattle.history_reader.specs.ReadHistory.{read_history};
 ghost use Rattle.certificate_reader.specs.ReadCertificate.{read_certificate};
@@ -26,16 +27,21 @@ fn give(written: Result<usize, WriteFault>, length: &mut u64) -> u32
     }
 }
 
+// The number of a reading refusal, and no length.
+fn refuse(refusal: Refusal, length: &mut u64) -> u32
+    ensures { (result ≡ fault_number refusal.fault) × (length.new ≡ 0) }
+{
+    *length = 0;
+    u32::from(refusal.fault.number())
+}
+
 // A history text, into a lent buffer.
 pub fn walnutgleam_rewrite_history(history: &[u8], buffer: &mut [u8], length: &mut u64) -> u32
     ensures { (result ≡ rewritten (read_history history.now).fault history.now buffer.old) × (buffer.new ≡ rewritten_bytes (read_history history.now).fault history.now buffer.old) × (length.new ≡ rewritten_length (read_history history.now).fault history.now buffer.old) }
 {
     match read_history(history) {
         Ok(record) => give(write_history(buffer, record), length),
-        Err(refusal) => {
-            *length = 0;
-            u32::from(refusal.fault.number())
-        }
+        Err(refusal) => refuse(refusal, length),
     }
 }
 
@@ -54,9 +60,6 @@ pub fn walnutgleam_rewrite_certificate(
             write_certificate(buffer, read.history, read.certificate, &rows),
             length,
         ),
-        Err(unread) => {
-            *length = 0;
-            u32::from(Refusal::from(unread).fault.number())
-        }
+        Err(unread) => refuse(Refusal::from(unread), length),
     }
 }

@@ -1,8 +1,8 @@
 -- `walnutgleam_rewrite_certificate` meets its contract: the record and the rows that were read are written back as the text. Assumes nothing.
-use Rattle.std.proofs.Common.{refl, ap}
+use Rattle.std.proofs.Common.{refl, sym, ap, ◌∙◌}
 use Rattle.history_writer.specs.WriteHistory.{written_of}
 use Rattle.certificate_reader.specs.ReadCertificate.{CertificateRead}
-use Rattle.checker.proofs.VerdictLaws.{fault-some}
+use Rattle.checker.proofs.VerdictLaws.{unread-number, unread-fault}
 use Rattle.interface.proofs.RewriteLaws.{refused, certificate-back}
 use Rattle.interface.proofs.rewrite.walnutgleam_rewrite_certificate.Goals as goal
 
@@ -14,4 +14,7 @@ returns-in-Ok c =
 
 pub returns-in-Err : goal.returns-in-Err
 returns-in-Err c =
-    refused c.args.certificate.now c.args.buffer.now _ _ (ap (λ (x : CertificateRead). x.fault) c.in-Err.ensures.0) (fault-some c.in-Err.refusal.fault)
+    rw (c.refuse.ensures.0, c.refuse.ensures.1, c.from.ensures)
+    (refused c.args.certificate.now c.args.buffer.now _ _
+    (unread-number c.in-Err.unread ∙ ap (λ (x : CertificateRead). x.fault) c.in-Err.ensures.0)
+    (λ z. unread-fault c.in-Err.unread (sym (unread-number c.in-Err.unread) ∙ z)))

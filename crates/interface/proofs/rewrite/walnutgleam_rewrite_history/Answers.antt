@@ -13,4 +13,5 @@ returns-in-Ok c =
 
 pub returns-in-Err : goal.returns-in-Err
 returns-in-Err c =
-    refused c.args.history.now c.args.buffer.now _ _ (ap (λ (x : HistoryRead). x.fault) c.in-Err.ensures) (fault-some c.in-Err.refusal.fault)
+    rw (c.refuse.ensures.0, c.refuse.ensures.1)
+    (refused c.args.history.now c.args.buffer.now _ _ (ap (λ (x : HistoryRead). x.fault) c.in-Err.ensures) (fault-some c.in-Err.refusal.fault))
