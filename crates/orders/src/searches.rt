@@ -52,11 +52,11 @@ pub fn first_against(views: &Views, rows: &[u64; 64]) -> Option<usize>
 pub fn first_outside(
     views: &Views,
     rows: &[u64; 64],
-    processes: [u8; 64],
-    numbers: [u8; 64],
+    processes: &[u8; 64],
+    numbers: &[u8; 64],
 ) -> Option<usize>
-    ensures found { option_in result ≡ lowest views.now.count (λ k. found_if (outside_past (in_rows rows.now) (λ e. eqb (get_or processes e 0) (get_or numbers k 0)) (view_at views.now.rows.now views.now.lengths.now k)) k) }
+    ensures found { option_in result ≡ lowest views.now.count (λ k. found_if (outside_past (in_rows rows.now) (λ e. eqb (get_or processes.now e 0) (get_or numbers.now k 0)) (view_at views.now.rows.now views.now.lengths.now k)) k) }
     ensures below { IfSome result (λ k. k < views.now.count) }
 {
-    (0..views.count).find(|&k| outside_past(views.get(k), rows, &processes, numbers[k]))
+    (0..views.count).find(|&k| outside_past(views.get(k), rows, processes, numbers[k]))
 }
