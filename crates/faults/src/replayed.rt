@@ -37,8 +37,8 @@ pub(crate) fn replay_fault(
     named: &ViewNumbers,
     rows: &[u64; 64],
 ) -> Result<(), Finding>
-    requires { (within h.now ≡ true) × (named.now ≡ view_numbers_of (view_numbers criterion (events_in h.now))) × (views.now.count ≡ named.now.count) × EventViews views.now.rows.now views.now.lengths.now named.now.count h.now.count }
-    ensures { finding_of result ≡ find16 criterion (history_of h.now) (in_rows rows.now) (beginnings (take named.now.count views.now.lengths.now) (take named.now.count views.now.rows.now)) }
+    requires { (within h.now ≡ true) × (named.now ≡ view_numbers_of (view_numbers criterion (events_in h.now))) × (views.now.count ≡ named.now.count) × EventViews views.now.rows.now views.now.lengths.now views.now.count h.now.count }
+    ensures { finding_of result ≡ find16 criterion (history_of h.now) (in_rows rows.now) (beginnings (take views.now.count views.now.lengths.now) (take views.now.count views.now.rows.now)) }
 {
     let history = light_history(h);
     let begin = starts(h.objects);
