@@ -27,12 +27,7 @@ pub struct Place {
 }
 
 // What was replayed before view k, if nothing was wrong in the views before it: that of the latest earlier event of its process.
-fn before<'a>(
-    views: &Views<'a>,
-    who: &[Visible; 64],
-    earlier: Option<u8>,
-    k: usize,
-) -> Before<'a>
+fn before<'a>(views: &Views<'a>, who: &[Visible; 64], earlier: Option<u8>, k: usize) -> Before<'a>
     requires { (k < views.now.count) × MatchOption earlier Unit (λ d. d < k) }
     ensures { (h : History) (s : Contents) → ((d : ℕ) → d < k → wrong_in h s who.now views.now.rows.now views.now.lengths.now d ≡ none) → first_wrong h (is_visible h result.seen) s result.view.now ≡ none }
 {
