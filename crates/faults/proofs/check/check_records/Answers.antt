@@ -1,9 +1,8 @@
 -- `check_records` meets its contract: what the first step with a fault finds is the answer. Assumes nothing.
-use Rattle.std.proofs.Common.{rules, arith, ◌≡◌, ◌≤◌, ◌<◌, ◌∙◌, ap, refl, sym, subst, length, take, get_or}
+use Rattle.std.proofs.Common.{rules, arith, ◌≡◌, ◌<◌, ◌∙◌, ap, refl, sym, length}
 use Rattle.std.proofs.Math.Seq.{get_or-take}
 use Rattle.std.proofs.lemmas.Result.{err_from_is_err_and}
 use Rattle.certificate.specs.Record.{no_list}
-use Rattle.orders.specs.Rows.{ShortList}
 use Rattle.faults.specs.Finding.{finding_of}
 use Rattle.faults.proofs.RecordFacts.{process-small}
 use Rattle.faults.proofs.CheckLaws.{few-of, short-past, short-views, event-views, few-views, order-stops, views-stop, replay-stops, take-few, taken}

@@ -1,13 +1,12 @@
 -- `replay_fault` meets its contract: the history is taken apart once, and a search over its parts finds what the check finds. Assumes
 -- nothing.
-use Rattle.std.proofs.Common.{rules, arith, ◌≡◌, ◌<◌, ◌≤◌, ◌∙◌, refl, sym, length, true, false}
+use Rattle.std.proofs.Common.{rules, ◌≡◌, ◌∙◌, refl, sym, length, true, false}
 use Rattle.std.proofs.Math.Option.{some, none}
-use Rattle.criteria.specs.Check.{fault16, map_fault}
 use Rattle.history.proofs.Guarantees.{within-sound}
 use Rattle.orders.specs.Rows.{in_rows}
 use Rattle.faults.specs.Steps.{is_converge}
 use Rattle.faults.proofs.RecordFacts.{objects-small}
-use Rattle.faults.proofs.ReplayedLaws.{at_place, view-ready, view-there, place_is, place-below, event-is}
+use Rattle.faults.proofs.ReplayedLaws.{view-ready, view-there, place_is, place-below, event-is}
 use Rattle.faults.proofs.replayed.replay_fault.Goals as goal
 
 pub light_history-history-requires : goal.light_history-history-requires
