@@ -15,6 +15,7 @@ use certificate::numbers::view_numbers;
 use certificate::record::Certificate;
 use history::record::History;
 use orders::listed::program_rows;
+use orders::views::Views;
 
 // The first of the faults 11 to 16, with 20 after 15, of a certificate, with the rows of its views beside it, for a history.
 pub fn check_records(h: History, c: Certificate, views: &[[u8; 64]; 64]) -> Result<(), Finding>
@@ -26,7 +27,12 @@ pub fn check_records(h: History, c: Certificate, views: &[[u8; 64]; 64]) -> Resu
     let processes = processes_of(&h.events);
     let program = program_rows(&processes[..n]);
     let rows = order_rows(c.criterion, &c.pasts[..n], program);
+    let views = Views {
+        rows: views,
+        lengths: &c.lengths,
+        count: named.count,
+    };
     order_fault(&rows, &program, past_count(c.criterion, n))?;
-    view_fault(&c, views, &named, &rows, processes, n)?;
-    replay_fault(&h, &c, views, &named, &rows)
+    view_fault(c.criterion, &views, &named.numbers, &rows, &processes, n)?;
+    replay_fault(&h, c.criterion, &views, &named, &rows)
 }

@@ -13,10 +13,10 @@ ghost use Rattle.faults.specs.Steps.{is_converge};
 
 use crate::finding::Finding;
 use certificate::numbers::ViewNumbers;
-use certificate::record::{Certificate, Criterion};
+use certificate::record::Criterion;
 use history::record::History;
 use objects::starts::starts;
-use orders::views::view_at;
+use orders::views::Views;
 use replayed_views::cut::first_wrong_cut;
 use replayed_views::search::first_wrong;
 use replays::light::light_history;
@@ -32,24 +32,24 @@ fn is_converge(c: Criterion) -> bool
 // 16 of the views of a certificate, whose numbers these are; `rows` are the order, which converge cuts its view by.
 pub(crate) fn replay_fault(
     h: &History,
-    c: &Certificate,
-    views: &[[u8; 64]; 64],
+    criterion: Criterion,
+    views: &Views,
     named: &ViewNumbers,
     rows: &[u64; 64],
 ) -> Result<(), Finding>
-    requires { (within h.now ≡ true) × (named.now ≡ view_numbers_of (view_numbers c.now.criterion (events_in h.now))) × (named.now.count ≤ 64) × EventViews views.now c.now.lengths named.now.count h.now.count }
-    ensures { finding_of result ≡ find16 c.now.criterion (history_of h.now) (in_rows rows.now) (beginnings (take named.now.count c.now.lengths) (take named.now.count views.now)) }
+    requires { (within h.now ≡ true) × (named.now ≡ view_numbers_of (view_numbers criterion (events_in h.now))) × (views.now.count ≡ named.now.count) × EventViews views.now.rows.now views.now.lengths.now views.now.count h.now.count }
+    ensures { finding_of result ≡ find16 criterion (history_of h.now) (in_rows rows.now) (beginnings (take views.now.count views.now.lengths.now) (take views.now.count views.now.rows.now)) }
 {
     let history = light_history(h);
     let begin = starts(h.objects);
-    if is_converge(c.criterion) {
-        return match first_wrong_cut(&history, begin, rows, view_at(views, &c.lengths, 0)) {
+    if is_converge(criterion) {
+        return match first_wrong_cut(&history, begin, rows, views.get(0)) {
             Some(e) => Err(Finding::Wrong(named.numbers[0], e)),
             None => Ok(()),
         };
     }
-    let who = visible_views(c.criterion, named.numbers, history.events);
-    match first_wrong(&history, begin, views, c.lengths, named.count, who) {
+    let who = visible_views(criterion, named.numbers, history.events);
+    match first_wrong(&history, begin, views, &who) {
         Some(place) => Err(Finding::Wrong(named.numbers[place.view], place.event)),
         None => Ok(()),
     }

@@ -5,14 +5,15 @@ ghost use Rattle.certificate.specs.Steps.Numbers.{event_each};
 ghost use Rattle.criteria.specs.Tests.{lowest, found_if};
 ghost use Rattle.criteria.specs.Certificate.{is_strict};
 ghost use Rattle.criteria.specs.Check.{not_its_set};
-ghost use Rattle.orders.specs.Rows.{view_at, EventViews};
+ghost use Rattle.orders.specs.Rows.{view_at};
 ghost use Rattle.faults.specs.Finding.{finding_of};
 ghost use Rattle.faults.specs.Steps.{set_at, view_fault};
 
 use crate::finding::Finding;
-use certificate::numbers::{ViewNumbers, event_each};
-use certificate::record::{Certificate, Criterion};
+use certificate::numbers::event_each;
+use certificate::record::Criterion;
 use orders::searches::{first_against, first_not_all, first_not_past, first_outside};
+use orders::views::Views;
 
 // How many of m views have to hold only the past before an own event: those of strict.
 fn strict_count(c: Criterion, m: usize) -> usize
@@ -24,49 +25,45 @@ fn strict_count(c: Criterion, m: usize) -> usize
     }
 }
 
-// The lowest of the first m views that is not its set, each once; there are n events.
-fn first_not_set(
-    each: bool,
-    views: &[[u8; 64]; 64],
-    lengths: [u8; 64],
-    rows: &[u64; 64],
-    m: usize,
-    n: usize,
-) -> Option<usize>
-    requires { (m ≤ 64) × (n ≤ 64) × EventViews views.now lengths m 64 }
-    ensures found { option_in result ≡ lowest m (λ k. found_if (not_its_set 64 (set_at each rows.now n k) (view_at views.now lengths k)) k) }
-    ensures below { IfSome result (λ k. k < m) }
+// The lowest view that is not its set, each once; there are n events.
+fn first_not_set(each: bool, views: &Views, rows: &[u64; 64], n: usize) -> Option<usize>
+    requires { n ≤ 64 }
+    ensures found { option_in result ≡ lowest views.now.count (λ k. found_if (not_its_set 64 (set_at each rows.now n k) (view_at views.now.rows.now views.now.lengths.now k)) k) }
+    ensures below { IfSome result (λ k. k < views.now.count) }
 {
     if each {
-        first_not_past(views, lengths, rows, m)
+        first_not_past(views, rows)
     } else {
-        first_not_all(views, lengths, m, n)
+        first_not_all(views, n)
     }
 }
 
-// 14 and 15 of the views of a certificate and 20 of those of strict, in this order; `named` are the views' numbers, and `rows` the order of
+// 14 and 15 of the views of a certificate and 20 of those of strict, in this order; these are the views' numbers, and `rows` the order of
 // the n events of these processes.
 pub(crate) fn view_fault(
-    c: &Certificate,
-    views: &[[u8; 64]; 64],
-    named: &ViewNumbers,
+    criterion: Criterion,
+    views: &Views,
+    numbers: &[u8; 64],
     rows: &[u64; 64],
-    processes: [u8; 64],
+    processes: &[u8; 64],
     n: usize,
 ) -> Result<(), Finding>
-    requires { (named.now.count ≤ 64) × (n ≤ 64) × EventViews views.now c.now.lengths named.now.count 64 }
-    ensures { finding_of result ≡ view_fault (event_each c.now.criterion) views.now c.now.lengths named.now.numbers rows.now processes named.now.count (cond (is_strict c.now.criterion) named.now.count 0) n }
+    requires { n ≤ 64 }
+    ensures { finding_of result ≡ view_fault (event_each criterion) views.now.rows.now views.now.lengths.now numbers.now rows.now processes.now views.now.count (cond (is_strict criterion) views.now.count 0) n }
 {
-    let m = named.count;
-    if let Some(k) = first_not_set(event_each(c.criterion), views, c.lengths, rows, m, n) {
-        return Err(Finding::NotItsSet(named.numbers[k]));
+    if let Some(k) = first_not_set(event_each(criterion), views, rows, n) {
+        return Err(Finding::NotItsSet(numbers[k]));
     }
-    if let Some(k) = first_against(views, c.lengths, rows, m) {
-        return Err(Finding::Against(named.numbers[k]));
+    if let Some(k) = first_against(views, rows) {
+        return Err(Finding::Against(numbers[k]));
     }
-    let strict = strict_count(c.criterion, m);
-    if let Some(k) = first_outside(views, c.lengths, rows, processes, named.numbers, strict) {
-        return Err(Finding::OutsidePast(named.numbers[k]));
+    let strict = Views {
+        rows: views.rows,
+        lengths: views.lengths,
+        count: strict_count(criterion, views.count),
+    };
+    if let Some(k) = first_outside(&strict, rows, processes, numbers) {
+        return Err(Finding::OutsidePast(numbers[k]));
     }
     Ok(())
 }

@@ -207,9 +207,3 @@ pub view-inside : (views : List (List ℕ)) (lengths : List ℕ) (m n : ℕ) →
 view-inside views lengths m n e k l i h =
     let below : i < get_or lengths k 0 = omega (arith, length-take (get_or lengths k 0) (get_or views k [])) in
     rw (get_or-take (get_or lengths k 0) (get_or views k []) i 0 below) (e.entries k l i below)
-
--- the same of a list v that is that view
-pub small_view : {views : List (List ℕ)} {lengths : List ℕ} {m k : ℕ} {v : List ℕ} → EventViews views lengths m 64 → k < m → v ≡ view_at views lengths k
-    → (length v ≤ 64) × ((i : ℕ) → i < length v → get_or v i 0 < 64)
-small_view {views} {lengths} {m} {k} {v} e l q =
-    rw q (view-few views lengths m 64 e k l, view-inside views lengths m 64 e k l)

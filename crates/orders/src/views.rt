@@ -3,18 +3,32 @@ ghost use Rattle.std.specs.Prelude.{◌≡◌, ℕ, ◌≤◌, ◌<◌, length, 
 ghost use Rattle.certificate.specs.Record.{entries_in};
 ghost use Rattle.criteria.specs.Tests.{keep, count, mem};
 ghost use Rattle.criteria.specs.Check.{not_its_set, against, outside_past};
-ghost use Rattle.orders.specs.Rows.{in_row, in_rows, view_at};
+ghost use Rattle.orders.specs.Rows.{in_row, in_rows, view_at, EventViews};
 
 use crate::sets::{escapes, holds_some, in_row, meets, with_event, without_event};
 use certificate::record::EventList;
 
-// The view of number k, cut to its length.
-pub fn view_at<'a>(views: &'a [[u8; 64]; 64], lengths: &[u8; 64], k: usize) -> &'a [u8]
-    requires { (k < 64) × (get_or lengths.now k 0 ≤ 64) }
-    ensures { result.now ≡ view_at views.now lengths.now k }
-{
-    let view = &views[k];
-    &view[..usize::from(lengths[k])]
+// The first `count` views of a certificate: row k has the entries of view k first, lengths[k] of them.
+#[derive(Clone, Copy)]
+pub struct Views<'a> {
+    pub rows: &'a [[u8; 64]; 64],
+    pub lengths: &'a [u8; 64],
+    pub count: usize,
+    pub ghost few: { count ≤ 64 },
+    pub ghost events: { EventViews rows.now lengths.now count 64 },
+}
+
+impl<'a> Views<'a> {
+    // View k, cut to its length.
+    pub fn get(&self, k: usize) -> &'a [u8]
+        requires { k < self.now.count }
+        ensures view { result.now ≡ view_at self.now.rows.now self.now.lengths.now k }
+        ensures few { length result.now ≤ 64 }
+        ensures events { (i : ℕ) → i < length result.now → get_or result.now i 0 < 64 }
+    {
+        let view = &self.rows[k];
+        &view[..usize::from(self.lengths[k])]
+    }
 }
 
 // The row of the entries of a view.

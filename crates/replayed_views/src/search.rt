@@ -1,11 +1,12 @@
 // 16: the lowest view whose replay does not give a visible answer, and the first such event in it.
-ghost use Rattle.std.specs.Prelude.{◌≡◌, ℕ, ◌≤◌, ◌<◌, [], take, get_or, MatchOption};
+ghost use Rattle.std.specs.Prelude.{◌≡◌, ℕ, ◌<◌, MatchOption};
 ghost use Rattle.std.proofs.Math.Option.{none};
 ghost use Rattle.layout.specs.Options.{option_in};
 ghost use Rattle.criteria.specs.Tests.{lowest};
 ghost use Rattle.criteria.specs.History.{History};
 ghost use Rattle.criteria.specs.Replay.{Contents};
 ghost use Rattle.criteria.specs.Check.{first_wrong};
+ghost use Rattle.orders.specs.Rows.{view_at};
 ghost use Rattle.replays.specs.Replay.{history_in, contents_in, is_visible, found_event, Ready};
 ghost use Rattle.replayed_views.specs.Steps.{ObjectRows};
 ghost use Rattle.replayed_views.specs.Search.{wrong_in};
@@ -14,6 +15,7 @@ use crate::deciding::{Before, deciding, earlier_views};
 use crate::object::{object_rows, replay_row};
 use history::record::EventNo;
 use objects::state::State;
+use orders::views::Views;
 use replays::light::LightHistory;
 use replays::replay::{Visible, replay};
 
@@ -25,22 +27,15 @@ pub struct Place {
 }
 
 // What was replayed before view k, if nothing was wrong in the views before it: that of the latest earlier event of its process.
-fn before<'a>(
-    views: &'a [[u8; 64]; 64],
-    lengths: [u8; 64],
-    who: [Visible; 64],
-    earlier: Option<u8>,
-    k: usize,
-) -> Before<'a>
-    requires { (k < 64) × MatchOption earlier Unit (λ d. (d < k) × (get_or lengths d 0 ≤ 64)) }
-    ensures { (h : History) (s : Contents) → ((d : ℕ) → d < k → wrong_in h s who views.now lengths d ≡ none) → first_wrong h (is_visible h result.seen) s result.view.now ≡ none }
+fn before<'a>(views: &Views<'a>, who: &[Visible; 64], earlier: Option<u8>, k: usize) -> Before<'a>
+    requires { (k < views.now.count) × MatchOption earlier Unit (λ d. d < k) }
+    ensures { (h : History) (s : Contents) → ((d : ℕ) → d < k → wrong_in h s who.now views.now.rows.now views.now.lengths.now d ≡ none) → first_wrong h (is_visible h result.seen) s result.view.now ≡ none }
 {
     match earlier {
         Some(d) => {
             let d = usize::from(d);
-            let row = &views[d];
             Before {
-                view: &row[..usize::from(lengths[d])],
+                view: views.get(d),
                 seen: who[d],
             }
         }
@@ -72,24 +67,21 @@ fn wrong_answer(
     replay_row(history, starts[o], view, rows[o], e)
 }
 
-// The lowest of the first m views in which the replay does not give a visible answer, and the first such event.
+// The lowest view in which the replay does not give a visible answer, and the first such event.
 pub fn first_wrong(
     history: &LightHistory,
     starts: [State; 16],
-    views: &[[u8; 64]; 64],
-    lengths: [u8; 64],
-    m: usize,
-    who: [Visible; 64],
+    views: &Views,
+    who: &[Visible; 64],
 ) -> Option<Place>
-    requires { (m ≤ 64) × ((k : ℕ) → k < m → (get_or lengths k 0 ≤ 64) × Ready history.now starts (take (get_or lengths k 0) (get_or views.now k []))) }
-    ensures { option_in result ≡ lowest m (wrong_in (history_in history.now) (contents_in history.now.values starts) who views.now lengths) }
+    requires { (k : ℕ) → k < views.now.count → Ready history.now starts (view_at views.now.rows.now views.now.lengths.now k) }
+    ensures { option_in result ≡ lowest views.now.count (wrong_in (history_in history.now) (contents_in history.now.values starts) who.now views.now.rows.now views.now.lengths.now) }
 {
     let rows = object_rows(&history.events);
-    let earlier = earlier_views(&history.events, m);
-    for k in 0..m {
-        let row = &views[k];
-        let view = &row[..usize::from(lengths[k])];
-        let known = before(views, lengths, who, earlier[k], k);
+    let earlier = earlier_views(&history.events, views.count);
+    for k in 0..views.count {
+        let view = views.get(k);
+        let known = before(views, who, earlier[k], k);
         if let Some(event) = wrong_answer(history, &starts, &rows, who[k], known, view, k) {
             return Some(Place { view: k, event });
         }

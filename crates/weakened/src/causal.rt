@@ -10,7 +10,7 @@ use crate::list::rising;
 use crate::views::{ViewRows, view_rows};
 use certificate::record::EventList;
 use orders::sets::others;
-use orders::views::{marks, view_at};
+use orders::views::{Views, marks};
 
 // The last of the events, by their processes, that is of the process, or 0.
 fn last_of(processes: &[u8], p: u8) -> usize
@@ -47,28 +47,20 @@ fn completed_view(view: &[u8], n: usize) -> EventList
 }
 
 // The view of the last event, by the processes of the events, that is of process p, completed.
-fn completed_last(processes: &[u8], views: &[[u8; 64]; 64], sizes: &[u8; 64], p: u8) -> EventList
-    requires { (length processes.now ≤ 64) × (0 < length processes.now) × EventViews views.now sizes.now (length processes.now) (length processes.now) × ((k : ℕ) → k < length processes.now → (e : ℕ) → count e (view_at views.now sizes.now k) ≤ 1) }
-    ensures { (result ≡ event_list_of (completed (length processes.now) (view_at views.now sizes.now (last_in (length processes.now) processes.now p)))) × (result.count ≤ 64) }
+fn completed_last(processes: &[u8], views: &Views, p: u8) -> EventList
+    requires { (length processes.now ≤ views.now.count) × (0 < length processes.now) × EventViews views.now.rows.now views.now.lengths.now (length processes.now) (length processes.now) × ((k : ℕ) → k < length processes.now → (e : ℕ) → count e (view_at views.now.rows.now views.now.lengths.now k) ≤ 1) }
+    ensures { (result ≡ event_list_of (completed (length processes.now) (view_at views.now.rows.now views.now.lengths.now (last_in (length processes.now) processes.now p)))) × (result.count ≤ 64) }
 {
-    completed_view(
-        view_at(views, sizes, last_of(processes, p)),
-        processes.len(),
-    )
+    completed_view(views.get(last_of(processes, p)), processes.len())
 }
 
 // The views of the processes, whose numbers these are, of the events of these processes.
-pub fn completed_views(
-    processes: &[u8],
-    views: &[[u8; 64]; 64],
-    sizes: &[u8; 64],
-    numbers: &[u8],
-) -> ViewRows
-    requires { (length processes.now ≤ 64) × (length numbers.now ≤ 64) × (length processes.now ≡ 0 → length numbers.now ≡ 0) × EventViews views.now sizes.now (length processes.now) (length processes.now) × ((k : ℕ) → k < length processes.now → (e : ℕ) → count e (view_at views.now sizes.now k) ≤ 1) }
-    ensures { result ≡ view_rows_of (table (length numbers.now) (λ k. completed (length processes.now) (view_at views.now sizes.now (last_in (length processes.now) processes.now (get_or numbers.now k 0))))) }
+pub fn completed_views(processes: &[u8], views: &Views, numbers: &[u8]) -> ViewRows
+    requires { (length processes.now ≤ views.now.count) × (length numbers.now ≤ 64) × (length processes.now ≡ 0 → length numbers.now ≡ 0) × EventViews views.now.rows.now views.now.lengths.now (length processes.now) (length processes.now) × ((k : ℕ) → k < length processes.now → (e : ℕ) → count e (view_at views.now.rows.now views.now.lengths.now k) ≤ 1) }
+    ensures { result ≡ view_rows_of (table (length numbers.now) (λ k. completed (length processes.now) (view_at views.now.rows.now views.now.lengths.now (last_in (length processes.now) processes.now (get_or numbers.now k 0))))) }
 {
     view_rows(
         numbers.len(),
-        |k| completed_last(processes, views, sizes, numbers[k]),
+        |k| completed_last(processes, views, numbers[k]),
     )
 }

@@ -29,8 +29,8 @@ use Rattle.criteria.proofs.Lists.{mem-of-count, all-length}
 use Rattle.criteria.proofs.Check.{Good, check-good}
 use Rattle.criteria.proofs.Meeting.{FewProcesses}
 use Rattle.criteria.proofs.RecordLaws.{few-processes}
-use Rattle.orders.specs.Rows.{ShortList}
-use Rattle.faults.proofs.CheckLaws.{size_of, few-of, readable_of, short-past, length-made, event-views, view-same}
+use Rattle.orders.specs.Rows.{ShortList, EventViews}
+use Rattle.faults.proofs.CheckLaws.{size_of, few-of, readable_of, short-past, short-views, length-made, event-views, view-same}
 use Rattle.weakened.specs.Steps.{lengths_of}
 use Rattle.weakened_records.specs.Steps.{Passed}
 
@@ -102,6 +102,9 @@ module _ (h : History) (c : WrittenCertificate.Certificate) (rows : List (List �
 
   pub short-passed : (k : ℕ) → ShortList (get_or c.pasts k no_list)
   short-passed = short-past h p.history c rows p.certificate (few-numbers c.criterion)
+
+  pub views-passed : (m : ℕ) → m ≤ 64 → EventViews rows c.lengths m 64
+  views-passed = short-views h p.history c rows p.certificate (few-numbers c.criterion)
 
   length-passed : (k : ℕ) → get_or c.lengths k 0 ≡ length (get_or (certificate_of h c rows).views k [])
   unfolding certificate_of

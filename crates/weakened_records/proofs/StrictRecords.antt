@@ -1,5 +1,5 @@
 -- From strict to pram, weak and causal: what a certificate that passed gives to the makers, and the records that are made. Assumes nothing.
-use Prim.Native.Nat.{ℕ, ◌≤◌, ◌<◌}
+use Prim.Native.Nat.{ℕ, ◌<◌}
 use native.Mathlib.Omega.{arith}
 use mathlib.Core.Path.{◌≡◌, refl, sym, ap, ap₂, ◌∙◌}
 use mathlib.Core.Bool.{true, false≢true}
@@ -27,7 +27,7 @@ use Rattle.criteria.proofs.Lists.{table_below, place_in}
 use Rattle.criteria.proofs.Meeting.{process-listed}
 use Rattle.criteria.proofs.RecordLaws.{processes-are, view-count}
 use Rattle.orders.specs.Rows.{view_at}
-use Rattle.faults.proofs.CheckLaws.{few-of, process-at, event-views, view-same}
+use Rattle.faults.proofs.CheckLaws.{few-of, process-at, view-same}
 use Rattle.weakened.specs.declared.views.ViewRows.{ViewRows}
 use Rattle.weakened.specs.Steps.{lengths_of, view_rows_of}
 use Rattle.weakened_records.specs.declared.records.ViewedRecord.{ViewedRecord}
@@ -98,11 +98,6 @@ module _ (h : WrittenHistory.History) (c : WrittenCertificate.Certificate) (rows
         let z = place_in (process (history_of h) e) (processes (history_of h))
         (process-listed (history_of h) e (processes-passed h c rows p) (omega (arith, l, size-passed h c rows p))) in
         omega (arith, z.0, slot_is e l, views-count)
-
-    pub sizes-small : (k : ℕ) → k < length ns → get_or c.lengths k 0 ≤ 64
-    sizes-small k l =
-        (event-views h p.history c rows p.certificate (few-numbers h c rows p c.criterion) (length ns)
-        (omega (arith, ap length (named-list named _ numbered), few-numbers h c rows p Strict))).few k l
 
     view-is : (k : ℕ) → k < length ns → view_at rows c.lengths k ≡ get_or vs k []
     unfolding certificate_of

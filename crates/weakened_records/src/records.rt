@@ -18,6 +18,7 @@ use certificate::record::{Certificate, Criterion, EventList};
 use faults::order::processes_of;
 use history::record::History;
 use orders::listed::past_rows;
+use orders::views::Views;
 use weakened::causal::completed_views;
 use weakened::converge::cut_views;
 use weakened::sequential::{preceding_pasts, up_to_views, whole_views};
@@ -128,12 +129,12 @@ fn causal_to_pram(h: &History, of: &ViewedRecord) -> ViewedRecord
     let n = h.count;
     let named = view_numbers(Criterion::Pram, &h.events[..n]);
     let processes = processes_of(&h.events);
-    let made = completed_views(
-        &processes[..n],
-        &of.views,
-        &of.certificate.lengths,
-        &named.numbers[..named.count],
-    );
+    let views = Views {
+        rows: &of.views,
+        lengths: &of.certificate.lengths,
+        count: n,
+    };
+    let made = completed_views(&processes[..n], &views, &named.numbers[..named.count]);
     record_of(Criterion::Pram, no_pasts(), made)
 }
 
@@ -145,12 +146,12 @@ fn strict_to_events(h: &History, of: &ViewedRecord, wanted: Criterion) -> Viewed
     let n = h.count;
     let named = view_numbers(Criterion::Strict, &h.events[..n]);
     let processes = processes_of(&h.events);
-    let made = own_parts(
-        &processes[..n],
-        &of.views,
-        &of.certificate.lengths,
-        &named.numbers[..named.count],
-    );
+    let views = Views {
+        rows: &of.views,
+        lengths: &of.certificate.lengths,
+        count: named.count,
+    };
+    let made = own_parts(&processes[..n], &views, &named.numbers[..named.count]);
     record_of(wanted, of.certificate.pasts, made)
 }
 

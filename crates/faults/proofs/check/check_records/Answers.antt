@@ -1,9 +1,8 @@
 -- `check_records` meets its contract: what the first step with a fault finds is the answer. Assumes nothing.
-use Rattle.std.proofs.Common.{rules, arith, ◌≡◌, ◌≤◌, ◌<◌, ◌∙◌, ap, sym, subst, length, take, get_or}
+use Rattle.std.proofs.Common.{rules, arith, ◌≡◌, ◌<◌, ◌∙◌, ap, refl, sym, length}
 use Rattle.std.proofs.Math.Seq.{get_or-take}
 use Rattle.std.proofs.lemmas.Result.{err_from_is_err_and}
 use Rattle.certificate.specs.Record.{no_list}
-use Rattle.orders.specs.Rows.{ShortList}
 use Rattle.faults.specs.Finding.{finding_of}
 use Rattle.faults.proofs.RecordFacts.{process-small}
 use Rattle.faults.proofs.CheckLaws.{few-of, short-past, short-views, event-views, few-views, order-stops, views-stop, replay-stops, take-few, taken}
@@ -30,6 +29,11 @@ order_rows-rows-requires c =
           rw (get_or-take c.args.h.count c.args.c.pasts k no_list i) (short-past c.args.h c.requires.0 c.args.c c.args.views.now c.requires.1 views k),
     )
 
+pub invariant_of-views-clause-events : goal.invariant_of-views-clause-events
+invariant_of-views-clause-events c =
+    let views = few-views c.args.h c.args.c c.args.views.now c.requires c.view_numbers-named.result c.view_numbers-named.ensures in
+    short-views c.args.h c.requires.0 c.args.c c.args.views.now c.requires.1 views c.view_numbers-named.result.count c.view_numbers-named.ensures.1
+
 pub returns-in_err-order_fault : goal.returns-in_err-order_fault
 returns-in_err-order_fault c =
     let long : length c.processes_of-processes.result ≡ 64 = search rules in
@@ -39,14 +43,6 @@ returns-in_err-order_fault c =
     c.order_rows-rows.result c.order_rows-rows.ensures c.past_count.result c.past_count.ensures
     c.order_fault.result c.order_fault.ensures c.in_err-order_fault.field-0.0 c.in_err-order_fault.was in
     rw (back.1, back.2) (ap finding_of (sym c.in_err-order_fault.was) ∙ is)
-
-pub view_fault-requires : goal.view_fault-requires
-view_fault-requires c =
-    let views = few-views c.args.h c.args.c c.args.views.now c.requires c.view_numbers-named.result c.view_numbers-named.ensures in (
-      c.view_numbers-named.ensures.1,
-      few-of c.args.h c.requires.0,
-      short-views c.args.h c.requires.0 c.args.c c.args.views.now c.requires.1 views c.view_numbers-named.result.count c.view_numbers-named.ensures.1,
-    )
 
 pub returns-in_err-view_fault : goal.returns-in_err-view_fault
 returns-in_err-view_fault c =
@@ -63,7 +59,7 @@ replay_fault-requires c =
     let views = few-views c.args.h c.args.c c.args.views.now c.requires c.view_numbers-named.result c.view_numbers-named.ensures in (
       c.requires.0,
       c.view_numbers-named.ensures.0,
-      c.view_numbers-named.ensures.1,
+      refl,
       event-views c.args.h c.requires.0 c.args.c c.args.views.now c.requires.1 views c.view_numbers-named.result.count c.view_numbers-named.ensures.1,
     )
 

@@ -12,11 +12,11 @@ returns-in-Some c =
       c.list_of.ensures.0
           ∙ ap event_list_of
           (c.up_to_event.ensures.0
-          ∙ ap (λ (v : List ℕ). up_to_in v c.args.e) (c.view_at.ensures ∙ ap (view_at c.args.views.now c.args.sizes.now) at)),
+          ∙ ap (λ (v : List ℕ). up_to_in v c.args.e) (c.get.ensures.view ∙ ap (view_at c.args.views.now.rows.now c.args.views.now.lengths.now) at)),
       c.list_of.ensures.1,
     )
 
 pub returns-in-None : goal.returns-in-None
 returns-in-None c =
     let none = place-none c.args.p c.args.numbers.now (sym c.in-None.is ∙ c.place_of.ensures) in
-    absurd (omega (arith, none, c.requires.2))
+    absurd (omega (arith, none, c.requires.1))

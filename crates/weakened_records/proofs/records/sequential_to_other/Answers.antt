@@ -1,7 +1,6 @@
 -- `sequential_to_other` meets its contract: the record is that of the lists. Assumes nothing.
 use Rattle.std.proofs.Common.{refl}
 use Rattle.certificate.specs.declared.record.Criterion.TheVariants.{Sequential}
-use Rattle.faults.proofs.CheckLaws.{take-few}
 use Rattle.weakened_records.proofs.PassedLaws.{few-passed, one-few, one-entries, one_holds}
 use Rattle.weakened_records.proofs.RecordLaws.{other-record}
 use Rattle.weakened_records.proofs.records.sequential_to_other.Goals as goal
