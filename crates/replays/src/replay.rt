@@ -1,5 +1,5 @@
 // The replay of a view: the first event whose visible answer the objects do not give.
-ghost use Rattle.std.specs.Prelude.{◌≡◌, ◌≤◌, false, not, ◌&&◌, length, map, Decides};
+ghost use Rattle.std.specs.Prelude.{◌≡◌, ◌≤◌, not, ◌&&◌, length, map, Decides};
 ghost use Rattle.history.specs.Record.{recorded_in};
 ghost use Rattle.criteria.specs.Check.{fits, first_wrong};
 ghost use Rattle.criteria.specs.OneLine.{is_update};
@@ -65,13 +65,13 @@ fn same_values(values: &[Value; 65], answer: &[Value], numbers: &[u8]) -> bool
 
 // Whether the recorded answer is what the state gives; one that was lost fits whatever it gives.
 pub fn fits_given(values: &[Value; 65], answer: &Answer, given: &Given) -> bool
-    requires { (length values.now ≡ 65) × (answer.now.lost ≡ false → answer.now.count ≤ 8) × (given.now.count ≤ 8) }
+    requires { (length values.now ≡ 65) × (given.now.count ≤ 8) }
     ensures { result ≡ fits (recorded_in answer.now) (given_of values.now given.now) }
 {
     answer.lost
         || same_values(
             values,
-            &answer.values[..usize::from(answer.count)],
+            &answer.values[..usize::from(answer.count).min(8)],
             &given.numbers[..given.count],
         )
 }
