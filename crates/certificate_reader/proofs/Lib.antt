@@ -2,3 +2,4 @@ pub mod ReadLaws
 pub mod KeepLaws
 pub mod PlaceLaws
 pub mod TwoTextLaws
+pub mod RefusalLaws

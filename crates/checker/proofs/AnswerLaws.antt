@@ -1,37 +1,31 @@
--- A verdict tells the answer of the code that stands for it. Assumes nothing.
+-- A verdict tells the answer of the code that stands for it, and that answer tells the verdict of two texts. Assumes nothing.
 use Rattle.std.specs.Prelude as code
-use Rattle.std.specs.Prelude.{ℕ, cond, eqb, Result, Ok, Err}
-use Rattle.std.proofs.Common.{◌≡◌, refl, sym, ap, ap₂, ◌∙◌}
+use Rattle.std.specs.Prelude.{ℕ, List, Result, Ok, Err}
+use Rattle.std.proofs.Common.{◌≡◌, refl, sym, ap, ap₂, ◌∙◌, subst}
 use Rattle.std.proofs.Math.Option.{Option, none, some}
+use Rattle.layout.proofs.Cases.{by-eq}
 use Rattle.history.specs.declared.fault.Fault as faulty
-use Rattle.history.specs.declared.fault.Fault.TheVariants.{TooLong, Layout, Limits, Misfit, BadAnswer, NotRising}
 use Rattle.history.specs.Faults.{fault_number}
+use Rattle.history.proofs.FaultLaws.{fault_of, fault-back}
 use Rattle.history_reader.specs.declared.place.Text as code-text
 use Rattle.history_reader.specs.declared.place.Text.TheVariants.{History, Certificate}
 use Rattle.history_reader.specs.declared.place.Place as code-place
 use Rattle.history_reader.specs.declared.read.Refusal.{Refusal}
 use Rattle.history_reader.specs.Place.{Text, Place, Neither, HistoryText, CertificateText, text_in, line_place, place_in}
+use Rattle.history_reader.specs.ReadHistory.{read_history}
 use Rattle.certificate.specs.declared.record.Criterion.{Criterion}
-use Rattle.criteria.specs.Check.{Answer, answer_of}
+use Rattle.certificate_reader.specs.ReadCertificate.{read_certificate}
+use Rattle.certificate_reader.proofs.RefusalLaws.{refuses-two}
+use Rattle.criteria.specs.Check.{Fault, Answer, answer_of, check}
 use Rattle.faults.specs.declared.finding.Finding.{Finding}
 use Rattle.faults.specs.declared.finding.Finding.TheVariants.{LacksOwn, InOwnPast, LacksPast, NotItsSet, Against, Wrong, OutsidePast}
-use Rattle.faults.specs.Finding.{finding_in, found_of}
+use Rattle.faults.specs.Finding.{finding_of, finding_in, found_of}
+use Rattle.faults.proofs.FindingLaws as findings
 use Rattle.checker.specs.declared.check.Checked.{Checked}
-use Rattle.checker.specs.CheckText.{Verdict}
+use Rattle.checker.specs.CheckText as texts
+use Rattle.checker.specs.CheckText.{Verdict, refused_at, checked, found_in, history_read, certificate_read, check_text}
 use Rattle.checker.specs.Verdict.{verdict_of}
-
--- ---- the fault of a number
-abbrev fault_of : ℕ → faulty.Fault
-fault_of n =
-    cond (eqb n 1) TooLong (cond (eqb n 2) Layout (cond (eqb n 3) Limits (cond (eqb n 4) Misfit (cond (eqb n 5) BadAnswer NotRising))))
-
-fault-back : (f : faulty.Fault) → fault_of (fault_number f) ≡ f
-fault-back TooLong = refl
-fault-back Layout = refl
-fault-back Limits = refl
-fault-back Misfit = refl
-fault-back BadAnswer = refl
-fault-back NotRising = refl
+use Rattle.checker.proofs.TextTheorems.{checked-as, refused_as}
 
 -- ---- the line of a place
 abbrev text_of : Text → code-text.Text
@@ -102,3 +96,43 @@ answer-back (Err r) =
 -- so a verdict is the whole answer
 pub same-answer : (x : Result Checked Refusal) (v : Verdict) → verdict_of x ≡ v → x ≡ checked_of v
 same-answer x v q = sym (answer-back x) ∙ ap checked_of q
+
+-- ---- and the answer for a verdict of two texts stands for it
+-- both texts are read
+read-place : (history : List ℕ) (declared : ℕ) (x : Option ℕ) → place_in (place_of (texts.place_of history declared x)) ≡ texts.place_of history declared x
+read-place history declared none = refl
+read-place history declared (some e) = refl
+
+found-finding : (r : Result (Unit {0}) Finding) → found_of (found r) ≡ finding_of r
+found-finding (Ok u) = refl
+found-finding (Err f) = refl
+
+read-back : (history : List ℕ) (declared : ℕ) (c : Criterion) (x : Option Fault)
+    → verdict_of (checked_of (found_in history declared c x)) ≡ found_in history declared c x
+read-back history declared c x =
+    ap₂ {C = Verdict} (λ (p : Place) (y : Option Fault). checked p c (answer_of y))
+    (read-place history declared (answer_of x).event)
+    (found-finding (finding_in (answer_of x)) ∙ findings.fault-back x)
+
+-- one is refused: its line names a text
+Named : Text → Type 0
+Named t = text_in (text_of t) ≡ t
+
+refused-back : (n : ℕ) (p : Place) → fault_number (fault_of n) ≡ n → Named p.text
+    → verdict_of (checked_of (refused_at n p)) ≡ refused_at n p
+unfolding Named
+refused-back n p e h =
+    ap₂ {C = Verdict} (λ (m : ℕ) (t : Text). refused_at m (record { text = t; line = p.line; start = p.start; end = p.end })) e h
+
+pub verdict-is : (history text : List ℕ) (k : Result Checked Refusal) → k ≡ checked_of (check_text history text)
+    → verdict_of k ≡ check_text history text
+unfolding Named
+verdict-is history text k q =
+    let r = read_certificate history text in
+    let refuses = refuses-two Named refl refl history text in
+    ap verdict_of q
+    ∙ by-eq r.fault 0
+    (λ z. subst (λ (v : Verdict). verdict_of (checked_of v) ≡ v) (sym (checked-as history text z))
+    (read-back history (read_history history).history.declared (certificate_read history text).criterion (check (history_read history) (certificate_read history text))))
+    (λ n. subst (λ (v : Verdict). verdict_of (checked_of v) ≡ v) (sym (refused_as history text n))
+    (refused-back r.fault r.place (refuses.number n) (refuses.text n)))

@@ -1,3 +1,4 @@
 pub mod ReadLaws
 pub mod PlaceLaws
 pub mod EventPlaceLaws
+pub mod RefusalLaws
