@@ -13,12 +13,12 @@ use Rattle.history.specs.Record.{pad, events_in}
 use Rattle.history.specs.Faults.{fault_number}
 use Rattle.history.specs.declared.record.History.{History}
 use Rattle.history_reader.specs.declared.read.Refusal.{Refusal}
-use Rattle.history_reader.specs.Place.{Place, nowhere, line_place, text_named}
+use Rattle.history_reader.specs.Place.{Place, nowhere, text_named}
 use Rattle.history_reader.specs.ReadHistory.{HistoryRead, history_read, read_history}
 use Rattle.history_reader.proofs.PlaceLaws.{placed-history}
 use Rattle.history_reader.proofs.ReadLaws.{fault-some}
 use Rattle.certificate.specs.declared.record.Certificate.{Certificate}
-use Rattle.certificate.specs.Record.{no_certificate, certificate_of}
+use Rattle.certificate.specs.Record.{certificate_of}
 use Rattle.certificate_reader.specs.declared.read.Unread.TheVariants.{NoHistory, NoCertificate}
 use Rattle.certificate_reader.specs.ReadCertificate.{Lines, CertificateRead, read_lines, history_refused, certificate_read, texts_read, read_certificate, rows_after, rows_read}
 use Rattle.certificate_reader.specs.Steps.Lines.{refused, AllDone}

@@ -9,8 +9,8 @@ use Rattle.layout.specs.Split.{split}
 use Rattle.layout.specs.Word.{same, object_heading, event_heading}
 use Rattle.history.specs.declared.record.Object.{Object}
 use Rattle.history.specs.declared.record.Event.{Event}
-use Rattle.history.specs.Faults.{fault_number, object_line, event_line}
-use Rattle.history.proofs.FaultLaws.{fault_of, IsFault, fault_no, fault-object, fault-event}
+use Rattle.history.specs.Faults.{object_line, event_line}
+use Rattle.history.proofs.FaultLaws.{IsFault, fault_no, fault-object, fault-event}
 use Rattle.history_reader.specs.Place.{Text, Place, HistoryText, nowhere, faulty_place}
 use Rattle.history_reader.specs.ReadHistory.{HistoryRead, refusal, read_as, events_from, objects_from, lines_from, read_history}
 
