@@ -16,7 +16,7 @@ use Rattle.history_reader.specs.ReadHistory.{read_history}
 use Rattle.certificate.specs.declared.record.Criterion.{Criterion}
 use Rattle.certificate_reader.specs.ReadCertificate.{read_certificate}
 use Rattle.certificate_reader.proofs.RefusalLaws.{refuses-two}
-use Rattle.criteria.specs.Check.{Fault, Answer, answer_of, check}
+use Rattle.criteria.specs.Check.{Fault, answer_of, check}
 use Rattle.faults.specs.declared.finding.Finding.{Finding}
 use Rattle.faults.specs.declared.finding.Finding.TheVariants.{LacksOwn, InOwnPast, LacksPast, NotItsSet, Against, Wrong, OutsidePast}
 use Rattle.faults.specs.Finding.{finding_of, finding_in, found_of}

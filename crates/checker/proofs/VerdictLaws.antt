@@ -2,7 +2,7 @@
 use Rattle.std.specs.Prelude as code
 use Rattle.std.specs.Prelude.{Result, Ok, Err}
 use Rattle.std.specs.Result.{result_err}
-use Prim.Native.Nat.{ℕ, ◌-◌, ◌≤◌}
+use Prim.Native.Nat.{ℕ, ◌≤◌}
 use native.Mathlib.Omega.{arith}
 use mathlib.Core.Path.{◌≡◌, refl, sym, ap, ap₂, ◌∙◌, subst}
 use mathlib.Core.Bool.{true}
@@ -20,7 +20,7 @@ use Rattle.history.specs.Faults.{fault_number}
 use Rattle.history.proofs.WithinLaws.{within-limits}
 use Rattle.history_reader.specs.declared.place.Text as code-text
 use Rattle.history_reader.specs.declared.place.Place as code-place
-use Rattle.history_reader.specs.Place.{Place, nowhere, event_place, text_in, line_place, place_in, bytes_at, text_named, part_at}
+use Rattle.history_reader.specs.Place.{Place, nowhere, text_in, line_place, place_in, bytes_at, text_named, part_at}
 use Rattle.history_reader.specs.ReadHistory.{read_history}
 use Rattle.history_reader.proofs.EventPlaceLaws.{few-declared, few-counted, event-within}
 use Rattle.history_theorems.proofs.Theorems.{no-fault-readable, read-within}

@@ -1,6 +1,5 @@
 -- The verdict that an answer of the code stands for: `answer_of` and `fault_in` state document 01's number and places of each case.
 use Rattle.std.specs.Prelude.{Result, Ok, Err}
-use Rattle.std.proofs.Math.Option.{none}
 use Rattle.history.specs.Faults.{fault_number}
 use Rattle.history_reader.specs.declared.read.Refusal.{Refusal}
 use Rattle.history_reader.specs.Place.{line_place, place_in}

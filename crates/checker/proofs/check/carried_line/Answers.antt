@@ -1,5 +1,5 @@
 -- `carried_line` meets its contract: the place that an answer has lies within the text that it is in. Assumes nothing.
-use Rattle.std.proofs.Common.{refl, ap, ◌∙◌}
+use Rattle.std.proofs.Common.{ap, ◌∙◌}
 use Rattle.history_reader.specs.declared.place.Text.TheVariants.{History, Certificate}
 use Rattle.checker.specs.CheckText.{Verdict}
 use Rattle.checker.proofs.VerdictLaws.{line-begins, line-ends, line-carried, carried_none}
