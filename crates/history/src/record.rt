@@ -35,7 +35,7 @@ pub enum Op {
 }
 
 // A width is 0 but for a window and a channel, whose width is its capacity.
-// Kept: the number and no Option, since `within` of specs/Readable and the records of the C interface have a 0 there.
+// Kept: the number and no Option, since `within` of specs/Readable asks for that 0.
 #[derive(Clone, Copy)]
 pub struct Object {
     pub kind: Kind,
