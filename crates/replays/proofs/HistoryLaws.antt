@@ -193,6 +193,7 @@ module _ (h : WrittenHistory.History) (s : Sound h) (l : LightHistory) (t : Take
     small = omega (arith, t.size, s.count);
     object = λ e b. let a = sound-at e (below e b) in rw (t.lights e (below e b)) (omega (arith, a.declared, s.objects, s.declared));
     op = λ e b. rw (t.objects, t.lights e (below e b), agree (get_or h.events e no_event).object) (sound-at e (below e b)).op;
+    answer = λ e b f. rw (t.answers e (below e b)) (sound-at e (below e b)).few;
     silent = λ e b q.
         let x = get_or h.events e no_event in
         rw (t.objects, t.lights e (below e b), t.answers e (below e b))

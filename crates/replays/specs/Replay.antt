@@ -71,12 +71,14 @@ abbrev pub Silent : Object → Op → Answer → Type 0
 Silent o op answer = (v : ℕ) (c : List ℕ) → fits (recorded_in answer) (gives o op v c) ≡ true
 
 -- What the replays take for granted of a history that was taken apart: there are values of 64 events and of the start, and at most 64
--- events; an event's object is one of the sixteen and has its op; and a silent event's answer is right whatever its object holds.
+-- events; an event's object is one of the sixteen and has its op; no answer that was not lost has more than eight values; and a silent event's
+-- answer is right whatever its object holds.
 pub record SoundParts (h : LightHistory) : Type 0 where
   pub values : length h.values ≡ 65
   pub small : h.size ≤ 64
   pub object : (e : ℕ) → e < h.size → (get_or h.events e no_light).object < 16
   pub op : (e : ℕ) → e < h.size → has_op (get_or h.objects (get_or h.events e no_light).object no_object).kind (get_or h.events e no_light).op ≡ true
+  pub answer : (e : ℕ) → e < h.size → (get_or h.answers e unused_answer).lost ≡ false → (get_or h.answers e unused_answer).count ≤ 8
   pub silent : (e : ℕ) → e < h.size → (get_or h.events e no_light).silent ≡ true
       → Silent (get_or h.objects (get_or h.events e no_light).object no_object) (get_or h.events e no_light).op (get_or h.answers e unused_answer)
 
