@@ -19,6 +19,7 @@ pub fn has_pasts(c: Criterion) -> bool
 }
 
 // The criterion of a word.
+// Kept: no `match` on the words, as in history's `read_kind`: some forty goals come, one for each byte.
 #[tactic(auto, unfolding(crate::specs::Criteria::is_criterion, crate::specs::Criteria::criterion_of))]
 fn read_word(word: &[u8]) -> Option<Criterion>
     ensures { result ≡ cond (is_criterion word.now) (Some (criterion_of word.now)) None }

@@ -21,6 +21,8 @@ pub struct EventList {
 }
 
 // The past of each event, where the criterion has pasts, and how many events each view has, in the order of the view lines.
+// Kept: no heap, fixed memory; and the lengths here and the rows beside, since `fits`, `certificate_of` and `certificate_text` speak of
+// them so.
 #[derive(Clone, Copy)]
 pub struct Certificate {
     pub criterion: Criterion,

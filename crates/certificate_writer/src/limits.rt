@@ -35,6 +35,7 @@ fn is_rising(row: &[u8]) -> bool
 }
 
 // Whether a row holds a list of n events of a history with so many events.
+// Kept: the whole row, since what stands behind the n is looked at too.
 fn good_row(row: &[u8; 64], n: usize, count: usize) -> bool
     requires { count ≤ 64 }
     ensures { (result ≡ good_row count n row.now) × (length row.now ≡ 64) }
@@ -98,6 +99,7 @@ fn blank_rows(rows: &[[u8; 64]]) -> bool
 }
 
 // Whether the first k pasts and the first m rows of a record are good, and its other lists and rows blank.
+// Kept: all rows, since what stands behind the m is looked at too.
 fn parts_fit(c: &Certificate, rows: &[[u8; 64]; 64], k: usize, m: usize, count: usize) -> bool
     requires { (k ≤ 64) × (m ≤ 64) × (count ≤ 64) }
     ensures { result ≡ parts_fit count k m c.now rows.now }

@@ -227,6 +227,7 @@ fn is_writable(h: &History, c: &Certificate, rows: &[[u8; 64]; 64]) -> bool
 
 // Writes the text of a certificate of a history into the first bytes of a buffer, and gives its length. A record that is not within its
 // limits or whose history is not (9) and a buffer that is too short (18) are refused, and the buffer stays as it was.
+// Kept: the rows lie beside the certificate, since `read_certificate` leaves those it was lent as they were on a refusal (`rows_read`).
 pub fn write_certificate(
     buf: &mut [u8],
     h: History,

@@ -20,6 +20,7 @@ pub enum Finding {
 }
 
 // The documents' number of the answer: 0 where nothing was found.
+// Kept: 0 is the documents' number of an accepted certificate, and `answer_of` has it.
 pub fn number_of(found: Option<Finding>) -> u32
     ensures { result ≡ (answer_of (found_of found)).number }
 {

@@ -46,6 +46,7 @@ pub(crate) fn order_rows(c: Criterion, pasts: &[EventList], program: [u64; 64]) 
 }
 
 // 11, 12 and 13 of the first n events, in this order; `must` is program order.
+// Kept: an order is all its rows; n says how many events are asked.
 pub(crate) fn order_fault(rows: &[u64; 64], must: &[u64; 64], n: usize) -> Result<(), Finding>
     requires { n ≤ 64 }
     ensures { finding_of result ≡ order_fault rows.now must.now n }

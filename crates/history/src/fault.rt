@@ -20,6 +20,7 @@ pub enum Fault {
 
 impl Fault {
     // The number that documents and programs give the fault.
+    // Kept: the name says which number it is, and `u8::from(fault)` would not.
     pub fn number(self) -> u8
         ensures { result ≡ fault_number self }
     {

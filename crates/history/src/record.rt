@@ -43,7 +43,8 @@ pub struct Object {
 }
 
 // The first `count` of the values; or an answer that was lost, which has none.
-// Kept: no heap, fixed memory; and `lost` beside the values, since `values_in` and `recorded_in` of specs/Record speak of both.
+// Kept: no heap, fixed memory; and `lost` beside the values, since `recorded_in` of specs/Record and the records of history_cases (a
+// lost answer of one value) have both.
 #[derive(Clone, Copy)]
 pub struct Answer {
     pub lost: bool,
@@ -63,7 +64,7 @@ pub struct Event {
 }
 
 // The first `declared` of the objects, and the first `count` of the events.
-// Kept: no heap, fixed memory.
+// Kept: no heap, fixed memory; and arrays that hold more than is used, since `within` of specs/Readable asks what stands there.
 #[derive(Clone, Copy)]
 pub struct History {
     pub objects: [Object; 16],

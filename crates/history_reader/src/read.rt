@@ -25,6 +25,7 @@ pub struct Refusal {
 }
 
 // The objects of a history, the first `declared` of the array, and where the lines of its events begin.
+// Kept: no heap, fixed memory; the array becomes part of a History as it is.
 #[derive(Clone, Copy)]
 struct Declared {
     pub objects: [Object; 16],

@@ -37,6 +37,7 @@ impl WriteFault {
 }
 
 // The number, or `-`.
+// Kept: the record has 0 and no Option there (history::record).
 fn number_or_dash(wanted: bool, n: u32) -> Field
     ensures { result ≡ cond wanted (Field.Number n) Field.Dash }
 {

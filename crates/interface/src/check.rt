@@ -17,6 +17,7 @@ use history_reader::place::Text;
 use history_reader::read::Refusal;
 
 // The number of a criterion, as in the criterion wanted of a weakening.
+// Kept: the C interface has numbers alone.
 fn criterion_number(c: Criterion) -> u32
     ensures { result ≡ criterion_number c }
 {
@@ -31,6 +32,7 @@ fn criterion_number(c: Criterion) -> u32
 }
 
 // The number of a text: 1 for the history, 2 for the certificate. 0 stands for none.
+// Kept: the C interface has numbers alone.
 fn text_number(t: Text) -> u32
     ensures { result ≡ text_number (text_in t) }
 {

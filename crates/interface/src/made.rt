@@ -6,6 +6,7 @@ use checker::answer::number_in;
 use weakener::made::{Made, Unmade};
 
 // The documents' number of why no text was made.
+// Kept: the C interface has numbers alone.
 fn unmade_number(unmade: Unmade) -> u32
     ensures { result ≡ (verdict_made (Err unmade)).number }
 {

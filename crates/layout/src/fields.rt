@@ -55,6 +55,7 @@ impl<F: CountedField> CountedPieces for FieldPieces<'_, F> {
 }
 
 // Writes the line of the fields into a part that has room.
+// Kept: no `Display`: the clause says what stands in the part and behind it, and there is no heap.
 pub fn put_fields<F: Field>(part: &mut [u8], fields: &[F]) -> usize
     requires { length (pieces_text (map F.text fields.now)) ≤ length part.old }
     ensures { (result ≡ length (pieces_text (map F.text fields.now))) × (part.new ≡ fill (pieces_text (map F.text fields.now)) part.old) }

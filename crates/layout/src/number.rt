@@ -130,6 +130,7 @@ pub fn put_number(part: &mut [u8], n: u32) -> usize
 {
     let k = number_len(n);
     let mut rest = n;
+    // Kept: no `part[..k].iter_mut().rev()`, since a proof knows nothing of an adapter of `iter_mut`.
     for i in (0..k).rev() {
         part[i] = b'0' + (rest % 10) as u8;
         rest /= 10;

@@ -28,6 +28,7 @@ pub fn split_once<'a>(s: &'a [u8], b: u8) -> Option<(&'a [u8], &'a [u8])>
 }
 
 // Where the part with the number k, from 0, begins, of s cut at the bytes b; the length of s where there are not so many.
+// Kept: the length and no Option, since `part_start` of specs/Split gives it.
 pub fn part_start(s: &[u8], b: u8, k: usize) -> usize
     ensures { (result ≡ part_start b k s.now) × (result ≤ length s.now) × (get_or (split b s.now) k [] ≡ get_or (split b (drop result s.now)) 0 []) }
 {

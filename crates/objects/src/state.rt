@@ -9,7 +9,8 @@ use history::record::{EventNo, Kind, Object, Op};
 // What the object holds is the values of the events numbers[head..tail], oldest first. There is a place for each of 64 events, and one
 // for the number 64, which stands for the value 0 that a register starts with. Pop and peek take the newest of them, or the oldest.
 // The object holds at most `limit` values.
-// Kept: what may not change: the definitions Fresh and limit_for have the number 64 and the limit 255 as numbers.
+// Kept: what may not change: the definitions `Fresh` and `limit_for` have the number 64 and the limit 255 as numbers, `contents_of` reads
+// values by their numbers, and `is_stack` and `Suits` have `newest` as a bool. No heap, fixed memory.
 #[derive(Clone, Copy)]
 pub struct State {
     pub numbers: [u8; 65],
@@ -27,6 +28,7 @@ pub struct EventOp {
 }
 
 // The first `count` of the numbers: the events whose values are the answer.
+// Kept: no heap, fixed memory.
 #[derive(Clone, Copy)]
 pub struct Given {
     pub numbers: [u8; 8],

@@ -40,6 +40,7 @@ fn sees(who: Visible, process: ProcessNo, no: EventNo) -> bool
 }
 
 // The value of the event with this number; 0 past the last.
+// Kept: 0 past the last, since `value_in` of specs/State gives it there, and `Fresh` has the number 64 for a value of the start.
 fn value(values: &[Value; 65], number: u8) -> Value
     requires { length values.now ≡ 65 }
     ensures { result ≡ value_in values.now number }

@@ -129,6 +129,7 @@ fn fields_of(answer: Result<Checked, Refusal>) -> [Field; 6]
 }
 
 // Writes the line of names and the line of values.
+// Kept: no `Display`: the clause says what stands in the buffer and behind it, and there is no heap.
 pub(crate) fn put_verdict(buf: &mut [u8], answer: Result<Checked, Refusal>) -> usize
     requires { (128 ≤ length buf.old) × ((verdict_of answer).place.line ≤ 4294967294) }
     ensures { (result ≡ length (printed (verdict_of answer))) × (buf.new ≡ fill (printed (verdict_of answer)) buf.old) × (result ≤ 128) }

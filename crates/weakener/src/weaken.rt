@@ -23,6 +23,7 @@ fn wanted_of(number: u32) -> Option<Wanted>
 }
 
 // Weakens a certificate text for a history text to the criterion wanted, into a lent buffer.
+// Kept: the number, since `weaken_answer`, `weaken_length` and `weaken_bytes` of specs/WeakenText speak of it.
 pub fn weaken(history: &[u8], text: &[u8], wanted: u32, buffer: &mut [u8]) -> Result<Made, Unmade>
     ensures answer { verdict_made result ≡ weaken_answer history.now text.now wanted buffer.old }
     ensures made { is_ok result ≡ eqb (weaken_answer history.now text.now wanted buffer.old).number 0 }
