@@ -5,8 +5,9 @@ use native.Mathlib.Omega.{arith}
 use mathlib.Core.Path.{◌≡◌, refl, sym, ap, ◌∙◌}
 use mathlib.Core.Bool.{true, false, cond}
 use mathlib.Core.List.{List, [], ◌∷◌, ◌++◌, map}
-use lib.ListN.{length, get_or, take, drop, set, length-set, length-map}
-use lib.Seq.{take_at}
+use native.Mathlib.Numerals.{add-one}
+use lib.ListN.{length, get_or, take, drop, set, length-set, length-map, drop_of_length-le}
+use lib.Seq.{take_at, drop-cons}
 use lib.Dec.{leb, ltb}
 use borrow.Author.Tests.{le-leb, lt-leb, lt-ltb, le-ltb, leb-true, ltb-true}
 use Rattle.std.specs.Prelude.{Result, Ok, Err}
@@ -126,17 +127,20 @@ module _ (bound max : ℕ) where
       → places_from bound max (Ok 0) ps xs ≡ fill (leading bound max ps) xs
   places-are ps xs h = places-listed 0 max ps xs (zero-add max) h ∙ fill_at-zero (leading bound max ps) xs
 
--- ---- a turn of the loop that reads items: p is the next one, and its answer q and the places ys are taken up
-module _ (bound max : ℕ) (r : Result ℕ ListFault) (xs p : List ℕ) (fs : List (List ℕ)) (h : length xs ≡ max)
-    (q : Result ℕ ListFault) (read : q ≡ pushed bound (length xs) r p) (ys : List ℕ) (held : ys ≡ kept bound r p xs) where
-  pub turn-more : (ps : List (List ℕ)) → fs ≡ p ∷ ps
-      → (answer_from bound max r fs ≡ answer_from bound max q ps) × (places_from bound max r fs xs ≡ places_from bound max q ps ys)
+-- ---- the loop that reads items, which has read n of them
+-- a turn: p is the next one, and its answer q and the places ys are taken up
+module _ (bound max : ℕ) (r : Result ℕ ListFault) (xs : List ℕ) (fs : List (List ℕ)) (n : ℕ) where
+  pub turn-more : (p : List ℕ) → n < length fs → p ≡ get_or fs n p → length xs ≡ max
+      → (q : Result ℕ ListFault) → q ≡ pushed bound (length xs) r p → (ys : List ℕ) → ys ≡ kept bound r p xs
+      → (answer_from bound max r (drop n fs) ≡ answer_from bound max q (drop (n + 1) fs))
+      × (places_from bound max r (drop n fs) xs ≡ places_from bound max q (drop (n + 1) fs) ys)
   unfolding answer_from places_from
-  turn-more ps e = rw (e, read, held, h) (refl, refl)
+  turn-more p l e h q read ys held = rw (add-one, drop-cons fs n p l, ← e, read, held, h) (refl, refl)
 
-  pub turn_last : fs ≡ p ∷ [] → (answer_from bound max r fs ≡ q) × (places_from bound max r fs xs ≡ ys)
+  -- the end: none is left
+  pub turn_end : n ≡ length fs → (answer_from bound max r (drop n fs) ≡ r) × (places_from bound max r (drop n fs) xs ≡ xs)
   unfolding answer_from places_from
-  turn_last e = rw (e, read, held, h) (refl, refl)
+  turn_end e = rw (drop_of_length-le fs {i = n} (omega arith)) (refl, refl)
 
 leading-empty : (bound max : ℕ) → leading bound max [] ≡ []
 unfolding leading

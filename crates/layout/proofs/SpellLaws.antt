@@ -91,6 +91,25 @@ spell-short (suc k) n h =
     (λ q. omega (arith, length-low n q))
     (λ q. omega (arith, length_high n q, spell-short k (n / 10) (omega (arith, pow-suc 10 (suc k)))))
 
+ten-power : (k : ℕ) → 0 < 10 ^ k
+ten-power zero = omega arith
+ten-power (suc k) = omega (arith, pow-suc 10 k, ten-power k)
+
+-- a number that is not below 10 ^ k has at least k + 1 digits
+spell-long : (k n : ℕ) → 10 ^ k ≤ n → suc k ≤ length (spell n)
+spell-long zero n h = by-lt n 10 (λ q. omega (arith, length-low n q)) (λ q. omega (arith, length_high n q))
+spell-long (suc k) n h =
+    let p = pow-suc 10 k in
+    let q : 10 ≤ n = omega (arith, ten-power k) in
+    omega (arith, length_high n q, spell-long k (n / 10) (omega arith))
+
+-- the digits of 0, and of a number between two powers of ten
+pub spell_none : length (spell 0) ≡ 1
+spell_none = length-low 0 (omega arith)
+
+pub spell_counted : (k n : ℕ) → 10 ^ k ≤ n → n < 10 * 10 ^ k → length (spell n) ≡ k + 1
+spell_counted k n h l = omega (arith, spell-long k n h, spell-short k n (omega (arith, pow-suc 10 k)))
+
 -- ---- the value of a spelling
 value_before : (n : ℕ) (r : List ℕ) → value_from 0 (spell_before n r) ≡ value_from n r
 unfolding value_from

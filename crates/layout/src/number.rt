@@ -110,17 +110,11 @@ pub fn is_spelling(field: &[u8], n: u32) -> bool
 }
 
 // How many digits the spelling of a number has.
-// Kept: the loop divides and counts digits, with no index; no `for` is plainer.
+#[tactic(auto, using(crate::proofs::SpellLaws::spell_none, crate::proofs::SpellLaws::spell_counted))]
 pub fn number_len(n: u32) -> usize
     ensures { (result ≡ length (spell n)) × (result ≤ 10) }
 {
-    let mut k = 1;
-    let mut rest = n;
-    while 10 <= rest {
-        rest /= 10;
-        k += 1;
-    }
-    k
+    n.checked_ilog10().map_or(1, |k| k as usize + 1)
 }
 
 // Writes the spelling of a number into the first bytes of a part that has room, and says how many there are.
