@@ -11,6 +11,9 @@ use lib.Seq.{take_at, drop-cons}
 use lib.Dec.{leb, ltb}
 use borrow.Author.Tests.{le-leb, lt-leb, lt-ltb, le-ltb, leb-true, ltb-true}
 use Rattle.std.specs.Prelude.{Result, Ok, Err}
+use Rattle.std.specs.Array.{list_steps}
+use Rattle.std.proofs.lemmas.Iterator.{YieldsList}
+use Rattle.std.proofs.lemmas.Iterator.Consumers.{YieldsList-from_shown}
 use Rattle.layout.specs.declared.number.NumberFault.TheVariants as number
 use Rattle.layout.specs.declared.list.ListFault.{ListFault}
 use Rattle.layout.specs.declared.list.ListFault.TheVariants.{NotList, Over, Many}
@@ -146,6 +149,10 @@ leading-empty : (bound max : ℕ) → leading bound max [] ≡ []
 unfolding leading
 leading-empty bound zero = refl
 leading-empty bound (suc max) = refl
+
+-- ---- an array whose elements are taken one after the other
+pub yields_items : (xs : List ℕ) → YieldsList list_steps (λ (x : ℕ). x) xs xs
+yields_items xs = YieldsList-from_shown list_steps (λ (x : ℕ). x) (λ (s : List ℕ). s) (λ s t e. ap length e) (λ s x t e. e) xs
 
 -- ---- a field as a list
 module _ (bound max : ℕ) (f : List ℕ) where

@@ -77,10 +77,10 @@ spell-rest n r = spell-append n [] r
 spell-length : (n : ℕ) (r : List ℕ) → length (spell_before n r) ≡ length (spell n) + length r
 spell-length n r = rw (spell-rest n r) (length-append (spell n) r)
 
-pub length-low : (n : ℕ) → n < 10 → length (spell n) ≡ 1
+length-low : (n : ℕ) → n < 10 → length (spell n) ≡ 1
 length-low n h = ap length (spell-low n [] h)
 
-pub length_high : (n : ℕ) → 10 ≤ n → length (spell n) ≡ length (spell (n / 10)) + 1
+length_high : (n : ℕ) → 10 ≤ n → length (spell n) ≡ length (spell (n / 10)) + 1
 length_high n h = ap length (spell_high n [] h) ∙ spell-length (n / 10) ((48 + n % 10) ∷ [])
 
 -- a number below 10 ^ (k + 1) has at most k + 1 digits
