@@ -51,6 +51,7 @@ pub fn no_list() -> EventList
 }
 
 // Whether the items are strictly rising.
+// Kept: one call of the library's method; a generic one for the writer's u8 too needs a law that T's order is that of its number.
 fn is_rising(items: &[u32]) -> bool
     ensures { result ≡ rising items.now }
 {

@@ -20,7 +20,7 @@ use Rattle.layout.proofs.StandsLaws.{at-cons}
 use Rattle.history.specs.Record.{pad}
 use Rattle.history.specs.declared.fault.Fault.{Fault}
 use Rattle.history.specs.Faults.{fault_number}
-use Rattle.history.proofs.PadLaws.{pad-set, pad-length, take-pad, take_more}
+use Rattle.history.proofs.PadLaws.{pad-set, pad-length, take_more}
 use Rattle.history.specs.declared.record.Event.{Event}
 use Rattle.history_reader.specs.declared.read.Refusal.{Refusal}
 use Rattle.history_reader.proofs.ReadLaws.{fault-some}
@@ -34,6 +34,7 @@ use Rattle.certificate.specs.declared.numbers.ViewNumbers.{ViewNumbers}
 use Rattle.certificate.specs.Steps.Numbers.{view_numbers_of}
 use Rattle.certificate.specs.Steps.Lists.{list_line_of, list_with, list_read}
 use Rattle.certificate.specs.Steps.Next.{NextList, ending_at, next_read}
+use Rattle.certificate.proofs.NumberingLaws.{numbers-in}
 use Rattle.certificate.proofs.NextLaws.{next-cut, next-line}
 use Rattle.certificate_reader.specs.declared.read.Line.{Line}
 use Rattle.certificate_reader.specs.declared.read.Lists.{Lists}
@@ -286,11 +287,7 @@ module _ (c : Criterion) (es : List Event) (line : Line) (text : List ℕ) where
       pub views-done : ((w : Lines) → lines_at (end_from w) x.next text ≡ w) → ViewsDone c es line text x.lists
       views-done q = record { views = d.said; kept = d.kept; says = λ pasts. views-say pasts ∙ q (accepted c pasts d.said) }
 
--- the numbers in their array
-pub numbers-in : (x : ViewNumbers) (ns : List ℕ) → x ≡ view_numbers_of ns → take x.count x.numbers ≡ ns
-unfolding view_numbers_of
-numbers-in x ns q = rw q (take-pad 64 0 ns)
-
+-- the numbers of the pasts in their array
 pub event-numbers : (x : ViewNumbers) (es : List Event) → x ≡ view_numbers_of (view_numbers Weak es) → take x.count x.numbers ≡ count_from 0 (length es)
 unfolding view_numbers
 event-numbers x es q = numbers-in x (count_from 0 (length es)) q

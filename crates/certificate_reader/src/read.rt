@@ -50,15 +50,15 @@ impl From<Unread> for Refusal {
 // A line of a text: its number from 1, and where it begins.
 #[derive(Clone, Copy)]
 struct Line {
-    pub number: usize,
-    pub start: usize,
+    number: usize,
+    start: usize,
 }
 
 // The lists of lines that were read, in the first places of the array, and the line behind them.
 #[derive(Clone, Copy)]
 struct Lists {
-    pub lists: [EventList; 64],
-    pub next: Line,
+    lists: [EventList; 64],
+    next: Line,
 }
 
 fn refuse(fault: Fault, line: Line, end: usize) -> Refusal
@@ -166,6 +166,7 @@ fn read_views(
 }
 
 // Hands the rows of the views over, and gives back their lengths.
+// Kept: two `map`s of the array were tried: they prove, and take 17,952 bytes more of stack.
 fn put_rows(views: [EventList; 64], rows: &mut [[u8; 64]; 64]) -> [u8; 64]
     requires { (k : ℕ) → (get_or views k no_list).count ≤ 64 }
     ensures { (result ≡ map (λ (l : EventList). l.count) views) × (rows.new ≡ map (λ (l : EventList). l.events) views) }
@@ -240,15 +241,12 @@ pub fn read_certificate(
 ) -> Result<Texts, Unread>
     ensures { (texts_read result ≡ read_certificate history.now text.now) × (rows.new ≡ rows_read history.now text.now rows.old) }
 {
-    let history = match read_history(history) {
-        Ok(history) => history,
-        Err(refusal) => return Err(Unread::NoHistory(refusal)),
-    };
-    match read_text(text, &history.events[..history.count], rows) {
-        Ok(certificate) => Ok(Texts {
-            history,
-            certificate,
-        }),
-        Err(refusal) => Err(Unread::NoCertificate(history, refusal)),
-    }
+    let history = read_history(history).map_err(|refusal| Unread::NoHistory(refusal))?;
+    let certificate = read_text(text, &history.events[..history.count], rows).map_err(
+        |refusal| Unread::NoCertificate(history, refusal),
+    )?;
+    Ok(Texts {
+        history,
+        certificate,
+    })
 }

@@ -1,6 +1,7 @@
 -- `read_views` meets its contract: the views, and nothing behind them. Assumes nothing.
 use Rattle.std.proofs.lemmas.Result.{err_from_is_err_and}
-use Rattle.certificate_reader.proofs.KeepLaws.{views-unheaded, views-refused, views-followed, views-done, numbers-in}
+use Rattle.certificate_reader.proofs.KeepLaws.{views-unheaded, views-refused, views-followed, views-done}
+use Rattle.certificate.proofs.NumberingLaws.{numbers-in}
 use Rattle.certificate_reader.proofs.read.read_views.Goals as goal
 
 pub returns-in_err-line : goal.returns-in_err-line
