@@ -3,6 +3,7 @@ pub mod SplitLaws
 pub mod WordLaws
 pub mod NumberLaws
 pub mod SpellLaws
+pub mod LeadingLaws
 pub mod StandsLaws
 pub mod FillLaws
 pub mod PiecesLaws

@@ -11,7 +11,9 @@ use lib.ListN.{length, get_or, take, drop, length-drop, drop_of_length-le}
 use lib.Seq.{drop-drop, take_all, length-take-le}
 use lib.Dec.{eqb}
 use borrow.Author.Tests.{eq-eqb, ne_eqb, not-true, lt-ltb, le-ltb}
-use Rattle.std.specs.List.{position_or_len}
+use Rattle.std.specs.Prelude.{Option, Some, None, MatchOption}
+use Rattle.std.specs.Option.{unwrap_or}
+use Rattle.std.specs.List.{position, position_or_len}
 use Rattle.layout.specs.Split.{find, on_first, split, join, part_start}
 use Rattle.layout.proofs.FillLaws.{tail-part}
 use Rattle.layout.proofs.Cases.{by_bool, by-eq, by-lt, and_left, and_right}
@@ -33,6 +35,19 @@ pub find-le : (b : ℕ) (s : List ℕ) → find b s ≤ length s
 unfolding find
 find-le b [] = zero-le
 find-le b (x ∷ xs) = find-le-by (eqb x b) _ _ (find-le b xs)
+
+-- the place that the library finds
+pub place-found : (b : ℕ) (s : List ℕ) (r : Option ℕ) → r ≡ position (λ x. eqb x b) s
+    → MatchOption r (find b s ≡ length s) (λ e. (e ≡ find b s) × (e < length s))
+place-found b s r q =
+    by-lt (find b s) (length s)
+    (λ h. rw (q, ← find_is_position b s, lt-ltb (find b s) (length s) h) (refl, h))
+    (λ h. rw (q, ← find_is_position b s, le-ltb (find b s) (length s) h) (omega (arith, find-le b s)))
+
+pub place_or-length : (b : ℕ) (s : List ℕ) (r : Option ℕ) → MatchOption r (find b s ≡ length s) (λ e. (e ≡ find b s) × (e < length s))
+    → unwrap_or r (length s) ≡ find b s
+place_or-length b s None q = sym q
+place_or-length b s (Some e) q = q.0
 
 -- the first part, and the parts of the rest, where b occurs
 split-more-by : (b x : ℕ) (xs : List ℕ) (t : Bool)

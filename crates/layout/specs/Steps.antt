@@ -2,4 +2,5 @@
 pub mod Number
 pub mod List
 pub mod Fill
+pub mod Leading
 pub mod Stands
