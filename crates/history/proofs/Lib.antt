@@ -1,5 +1,6 @@
 pub mod AllLaws
 pub mod PadLaws
+pub mod ListedLaws
 pub mod ListingLaws
 pub mod FaultLaws
 pub mod ObjectLaws

@@ -1,9 +1,10 @@
 -- Laws of what a text begins with. Assumes nothing.
-use Prim.Native.Nat.{ℕ, ◌<◌}
+use Prim.Native.Nat.{ℕ, ◌-◌, ◌≤◌, ◌<◌}
+use native.Mathlib.Omega.{arith}
 use mathlib.Core.Path.{◌≡◌, refl, sym, ap, ap₂, ◌∙◌}
 use mathlib.Core.Bool.{true, false}
 use mathlib.Core.List.{List, [], ◌∷◌, ◌++◌}
-use lib.ListN.{length, take, drop, take-append-drop}
+use lib.ListN.{length, get_or, take, drop, take-append-drop}
 use lib.Dec.{eqb}
 use lib.Pointwise.{pointwise}
 use Rattle.std.specs.Result.{result_ok}
@@ -14,9 +15,15 @@ use Rattle.layout.specs.Number.{is_number, value, number_of, spell}
 use Rattle.layout.specs.Steps.Number.{digits}
 use Rattle.layout.specs.Steps.Leading.{told, leading_number, behind_space, number_before_space}
 use Rattle.layout.proofs.Cases.{by_bool}
+use Rattle.layout.proofs.FillLaws.{tail-part}
 use Rattle.layout.proofs.WordLaws.{same_true, same_is_pointwise}
 use Rattle.layout.proofs.NumberLaws.{digits-prefix, value-number}
 use Rattle.layout.proofs.SpellLaws.{spell-value}
+
+-- ---- a byte, and what stands behind it
+pub byte-leads : (s : List ℕ) (b : ℕ) → 1 ≤ length s → get_or s 0 0 ≡ b → s ≡ b ∷ take (length s - 1) (drop 1 s)
+byte-leads [] b h e = absurd (omega arith)
+byte-leads (x ∷ s) b h e = ap₂ {C = List ℕ} ◌∷◌ e (sym (tail-part (x ∷ s) 1))
 
 -- ---- a number, with what stands behind its digits
 told-some : (q : Result ℕ NumberFault) (rest : List ℕ) (v : ℕ) (r : List ℕ) → told q rest ≡ Some (v, r) → (q ≡ Ok v) × (rest ≡ r)
