@@ -120,6 +120,29 @@ module _ (b : ℕ) (s : List ℕ) (a e : ℕ) (found : e ≡ a + find b (drop a 
       split-last b (drop a s) (omega (arith, length-drop a s))
       ∙ ap (λ (l : List ℕ). l ∷ []) (sym (take_all (e - a) (drop a s) (omega (arith, length-drop a s))))
 
+-- ---- the first part of what is left from the place a on, as `split_once` tells it of `&s[a..]`: where it ends, and what it is
+abbrev pub PartTold : ℕ → List ℕ → ℕ → List ℕ → Type 0
+PartTold b s a part =
+    (a + length part ≡ a + find b (drop a s)) × (a + length part < length s) × (part ≡ take (a + length part - a) (drop a s))
+
+part_told-by : (b : ℕ) (s : List ℕ) (a : ℕ) (part : List ℕ) → a ≤ length s → find b (drop a s) < length (drop a s)
+    → part ≡ take (find b (drop a s)) (drop a s) → PartTold b s a part
+part_told-by b s a part from some first =
+    let n : length part ≡ find b (drop a s) = ap length first ∙ length-take-le (find b (drop a s)) (drop a s) (omega arith) in
+    let k : find b (drop a s) ≡ a + length part - a = omega arith in
+    (omega (arith, n), omega (arith, n, length-drop a s), first ∙ ap (λ (m : ℕ). take m (drop a s)) k)
+
+pub part-told : (b : ℕ) (s : List ℕ) (a : ℕ) (part : List ℕ) → a ≤ length s
+    → find b (take (length s - a) (drop a s)) < length (take (length s - a) (drop a s))
+    → part ≡ take (find b (take (length s - a) (drop a s))) (take (length s - a) (drop a s)) → PartTold b s a part
+part-told b s a part from some first =
+    let t = tail-part s a in part_told-by b s a part from (rw t at some) (rw t at first)
+
+-- there is none, and the rest is the last
+pub part-last : (b : ℕ) (s : List ℕ) (a : ℕ) → a ≤ length s → find b (take (length s - a) (drop a s)) ≡ length (take (length s - a) (drop a s))
+    → length s ≡ a + find b (drop a s)
+part-last b s a from none = omega (arith, rw (tail-part s a) at none, length-drop a s)
+
 -- ---- the part with a number
 get_or-pred : (p : List ℕ) (l : List (List ℕ)) (j : ℕ) → 0 < j → get_or (p ∷ l) j [] ≡ get_or l (j - 1) []
 get_or-pred p l zero h = absurd (not-suc-le-zero h)

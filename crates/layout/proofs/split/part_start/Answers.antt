@@ -3,15 +3,12 @@ use Rattle.std.proofs.Common.{◌≡◌, ◌<◌, ◌+◌, ◌-◌, ℕ, ap, ari
 use lib.Seq.{length-take-le}
 use Rattle.layout.specs.Split.{find}
 use Rattle.layout.proofs.FillLaws.{tail-part}
-use Rattle.layout.proofs.SplitLaws.{part-next, part_none, part_end, start_first, start-next, start_none}
+use Rattle.layout.proofs.SplitLaws.{part-told, part-last, part-next, part_none, part_end, start_first, start-next, start_none}
 use Rattle.layout.proofs.split.part_start.Goals as goal
 
 pub returns-in_default : goal.returns-in_default
 returns-in_default c =
-    let t = tail-part c.args.s.now c.loop.start in
-    let e = rw t at c.in_default.ensures in
-    let none : length c.args.s.now ≡ c.loop.start + find c.args.b (drop c.loop.start c.args.s.now) =
-    omega (arith, e.0, length-drop c.loop.start c.args.s.now) in
+    let none = part-last c.args.b c.args.s.now c.loop.start c.loop.invariant.0 c.in_default.ensures.0 in
     let left : 0 < c.args.k - c.loop.counter = omega arith in
     let all = le_refl (length c.args.s.now) in (
       sym (c.loop.invariant.2 ∙ start_none c.args.b c.args.s.now c.loop.start (length c.args.s.now) none c.loop.invariant.0 (c.args.k - c.loop.counter) left all),
@@ -22,20 +19,14 @@ returns-in_default c =
 
 pub loop-preserved : goal.loop-preserved
 loop-preserved c =
-    let t = tail-part c.args.s.now c.loop.start in
-    let p = rw t at c.in-Some.ensures in
-    let f : ℕ = find c.args.b (drop c.loop.start c.args.s.now) in
-    let long : length c.in-Some.part.now ≡ f = ap length p.1 ∙ length-take-le f (drop c.loop.start c.args.s.now) (omega (arith, p.0)) in
-    let e : ℕ = c.loop.start + length c.in-Some.part.now in
-    let found : e ≡ c.loop.start + f = omega (arith, long) in
-    let short : e < length c.args.s.now = omega (arith, long, p.0, length-drop c.loop.start c.args.s.now) in
+    let p = part-told c.args.b c.args.s.now c.loop.start c.in-Some.part.now c.loop.invariant.0 c.in-Some.ensures.0 c.in-Some.ensures.1 in
     let left : 0 < c.args.k - c.loop.counter = omega arith in
     let k : c.args.k - (c.loop.counter + 1) ≡ c.args.k - c.loop.counter - 1 = omega arith in
-    let n : c.loop.start + (length c.in-Some.part.now + 1) ≡ e + 1 = omega arith in
+    let n : c.loop.start + (length c.in-Some.part.now + 1) ≡ c.loop.start + length c.in-Some.part.now + 1 = omega arith in
     rw (k, n) (
-      omega (arith, short),
-      c.loop.invariant.1 ∙ part-next c.args.b c.args.s.now c.loop.start e found c.loop.invariant.0 (c.args.k - c.loop.counter) left short,
-      c.loop.invariant.2 ∙ start-next c.args.b c.args.s.now c.loop.start e found c.loop.invariant.0 (c.args.k - c.loop.counter) left short,
+      omega (arith, p.1),
+      c.loop.invariant.1 ∙ part-next c.args.b c.args.s.now c.loop.start _ p.0 c.loop.invariant.0 (c.args.k - c.loop.counter) left p.1,
+      c.loop.invariant.2 ∙ start-next c.args.b c.args.s.now c.loop.start _ p.0 c.loop.invariant.0 (c.args.k - c.loop.counter) left p.1,
     )
 
 pub returns : goal.returns
