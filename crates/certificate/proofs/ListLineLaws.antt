@@ -6,9 +6,11 @@ use mathlib.Core.Bool.{Bool, true, false, cond, not, ◌||◌, false≢true}
 use mathlib.Core.List.{List, [], ◌∷◌}
 use lib.ListN.{length, get_or, take}
 use borrow.Author.Tests.{ne_eqb, le-leb}
-use Rattle.std.proofs.Common.{Ok, Err}
+use Rattle.std.proofs.Common.{Result, Ok, Err}
+use Rattle.std.specs.Result.{IsErrAnd}
 use Rattle.std.specs.Option.{MatchOption, is_some}
 use Rattle.std.proofs.Common.{Option, Some, None}
+use Rattle.layout.specs.declared.list.ListFault.{ListFault}
 use Rattle.layout.specs.declared.list.ListFault.TheVariants.{NotList, Over, Many}
 use Rattle.layout.specs.Split.{split}
 use Rattle.layout.specs.Word.{same}
@@ -17,9 +19,12 @@ use Rattle.layout.specs.Fill.{fill}
 use Rattle.layout.specs.List.{items_of, list_of, numbers_of, leading}
 use Rattle.layout.proofs.SplitLaws.{split-some}
 use Rattle.layout.proofs.ListLaws.{is-list, list-not, list_over, list-many, numbers-count, numbers-below, numbers-kept}
+use Rattle.history.specs.declared.fault.Fault.{Fault}
+use Rattle.history.specs.Steps.Fields.{listed_fault}
+use Rattle.certificate.specs.declared.record.EventList.{EventList}
 use Rattle.certificate.specs.Record.{no_list, event_list_of}
 use Rattle.certificate.specs.Faults.{rising, list_layout, list_limits, pair_fault, list_fault, list_said}
-use Rattle.certificate.specs.Steps.Lists.{list_with, pair_read, list_read}
+use Rattle.certificate.specs.Steps.Lists.{list_line_of, list_with, pair_read, list_read}
 
 -- ---- the two fields of a line
 module _ (past : Bool) (count own : ℕ) (a s : List ℕ) where
@@ -29,17 +34,17 @@ module _ (past : Bool) (count own : ℕ) (a s : List ℕ) where
 
   -- the list is read into `count` places
   module _ (e : same a (spell own) ≡ true) (ps : List ℕ) (long : length ps ≡ count) where
-    pub pair-not : list_of count (length ps) s ≡ Err NotList → record { fault = 2; list = no_list } ≡ pair_read past count own a s
-    unfolding pair_read pair_fault list_layout
-    pair-not q = rw (e, list-not count (length ps) s q)
-
-    pub pair-over : list_of count (length ps) s ≡ Err Over → record { fault = 3; list = no_list } ≡ pair_read past count own a s
+    -- it is no list of such numbers
+    pair-unread : (f : ListFault) → list_of count (length ps) s ≡ Err f → list_line_of (Err (listed_fault f)) ≡ pair_read past count own a s
     unfolding pair_read pair_fault list_layout list_limits
-    pair-over q = let t = list_over count (length ps) s q in rw (e, t.0, t.1)
+    pair-unread NotList q = rw (e, list-not count (length ps) s q)
+    pair-unread Over q = let t = list_over count (length ps) s q in rw (e, t.0, t.1)
+    pair-unread Many q = let t = list-many count (length ps) s q in rw (e, t.0, t.1, rw long at t.2)
 
-    pub pair-many : list_of count (length ps) s ≡ Err Many → record { fault = 3; list = no_list } ≡ pair_read past count own a s
-    unfolding pair_read pair_fault list_layout list_limits
-    pair-many q = let t = list-many count (length ps) s q in rw (e, t.0, t.1, rw long at t.2)
+    pub pair-refused : (f : ListFault) → list_of count (length ps) s ≡ Err f → (r : Result EventList Fault) → IsErrAnd r (λ g. g ≡ listed_fault f)
+        → list_line_of r ≡ pair_read past count own a s
+    pair-refused f q (Ok l) m = absurd m
+    pair-refused f q (Err g) m = rw m (pair-unread f q)
 
     module _ (n : ℕ) (q : list_of count (length ps) s ≡ Ok n) (xs : List ℕ) (k : xs ≡ fill (leading count (length ps) (items_of s)) ps) where
       pair-listed : list_with (cond (not past || rising (take n xs)) 0 6) (take n xs) ≡ pair_read past count own a s
@@ -54,10 +59,10 @@ module _ (past : Bool) (count own : ℕ) (a s : List ℕ) where
           let e : list_with (cond (not past || rising (take n xs)) 0 6) (take n xs) ≡ record { fault = 0; list = event_list_of (take n xs) } =
           rw r in sym e ∙ pair-listed
 
-      pub pair-falls : past ≡ true → rising (take n xs) ≡ false → record { fault = 6; list = no_list } ≡ pair_read past count own a s
-      pair-falls p r =
+      pub pair-falls : not past || rising (take n xs) ≡ false → record { fault = 6; list = no_list } ≡ pair_read past count own a s
+      pair-falls r =
           let e : list_with (cond (not past || rising (take n xs)) 0 6) (take n xs) ≡ record { fault = 6; list = no_list } =
-          rw (p, r) in sym e ∙ pair-listed
+          rw r in sym e ∙ pair-listed
 
 -- what the reader keeps of a list is at most 64 numbers, each below 64
 module _ (count n : ℕ) (s xs ps : List ℕ) (room : count ≤ 64) (long : length ps ≡ count) (q : list_of count (length ps) s ≡ Ok n)

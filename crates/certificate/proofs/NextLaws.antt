@@ -1,15 +1,14 @@
 -- Laws of the next line of a list in a text. Assumes nothing.
 use Prim.Native.Nat.{ℕ, ◌+◌, ◌-◌, ◌*◌, ◌/◌, ◌%◌, ◌≤◌, ◌<◌}
 use native.Mathlib.Omega.{arith}
-use mathlib.Core.Logic.{◌⊎◌, inl, inr}
 use mathlib.Core.Path.{◌≡◌, refl, sym, ap, ◌∙◌, subst}
-use mathlib.Core.Bool.{Bool, true, false, not, ◌||◌, or-true}
+use mathlib.Core.Bool.{Bool, true, false, not, ◌&&◌, ◌||◌, or-true}
 use mathlib.Core.List.{List, [], ◌∷◌, ◌++◌, append_assoc}
 use lib.ListN.{length, get_or, take, drop, set, replicate, length-append, length-drop}
 use lib.Seq.{take_at, take_all}
 use Rattle.std.proofs.lemmas.List.{get_or-drop}
 use lib.Dec.{leb, ltb}
-use borrow.Author.Tests.{lt-ltb, le-ltb, le-leb, leb-true}
+use borrow.Author.Tests.{lt-ltb, ltb-true, le-ltb, leb-true}
 use Rattle.layout.specs.Split.{find}
 use Rattle.layout.specs.Number.{spell}
 use Rattle.layout.specs.List.{list_text}
@@ -96,10 +95,13 @@ unfolding rising
 reading_begins past count from s events e = record { listing = listing_begins 64 count from s events e; next = λ v h. or-true (not past) }
 
 module _ {past : Bool} {count from : ℕ} {s events : List ℕ} {k a low : ℕ} (r : Reading past count from s events k a low)
-    (fits : count ≤ 64) (room : k < count) (v e : ℕ) (number : Stands (spell v) a e s) (is-event : v < count)
-    (may : ((past ≡ true) × (low ≤ v)) ⊎ (past ≡ false)) (to : e < length s) where
+    (fits : count ≤ 64) (room : k < count) (v e : ℕ) (number : Stands (spell v) a e s) (may : ltb v count && (not past || leb low v) ≡ true)
+    (to : e < length s) where
+  is-event : v < count
+  is-event = ltb-true v count (and_left (ltb v count) (not past || leb low v) may)
+
   follows : not past || leb low v ≡ true
-  follows = elim may [ inl h ↦ rw (le-leb low v h.1, or-true (not past)) | inr h ↦ rw h ]
+  follows = and_right (ltb v count) (not past || leb low v) may
 
   abbrev ys : List ℕ
   ys = take (k + 1) (set events k v)

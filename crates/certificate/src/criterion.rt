@@ -1,7 +1,7 @@
-// The criteria: their words, and which certificates have pasts.
+// The criteria: their words and numbers, and which certificates have pasts.
 ghost use Rattle.std.specs.Prelude.{◌≡◌, cond, [], get_or};
 ghost use Rattle.layout.specs.Split.{split};
-ghost use Rattle.certificate.specs.Criteria.{has_pasts, is_criterion, criterion_of};
+ghost use Rattle.certificate.specs.Criteria.{has_pasts, is_criterion, criterion_of, criterion_numbered};
 ghost use Rattle.certificate.specs.Faults.{criterion_line};
 
 use crate::record::Criterion;
@@ -16,6 +16,29 @@ pub fn has_pasts(c: Criterion) -> bool
         c,
         Criterion::Weak | Criterion::Causal | Criterion::Converge | Criterion::Strict
     )
+}
+
+// The number is no criterion's.
+#[derive(Clone, Copy, PartialEq, Eq)]
+pub struct NoCriterion;
+
+// The criterion of a number, as the C interface gives it.
+impl TryFrom<u32> for Criterion {
+    type Error = NoCriterion;
+
+    ghost try_from_gives = { λ n r. r ≡ criterion_numbered n };
+
+    fn try_from(number: u32) -> Result<Criterion, NoCriterion> {
+        match number {
+            0 => Ok(Criterion::Pram),
+            1 => Ok(Criterion::Weak),
+            2 => Ok(Criterion::Causal),
+            3 => Ok(Criterion::Converge),
+            4 => Ok(Criterion::Sequential),
+            5 => Ok(Criterion::Strict),
+            _ => Err(NoCriterion),
+        }
+    }
 }
 
 // The criterion of a word.

@@ -4,9 +4,10 @@ ghost use Rattle.layout.specs.Split.{find};
 ghost use Rattle.layout.specs.Number.{spell};
 ghost use Rattle.layout.specs.Steps.Stands.{Stands};
 ghost use Rattle.certificate.specs.Record.{no_list};
+ghost use Rattle.certificate.specs.Steps.Lists.{is_past};
 ghost use Rattle.certificate.specs.Steps.Next.{ListFrom, next_list_of, next_read};
 
-use crate::list::{no_list, read_list_line};
+use crate::list::{Part, no_list, read_list_line};
 use crate::record::EventList;
 use history::fault::Fault;
 use layout::at::At;
@@ -53,16 +54,16 @@ fn quick_entry(text: &[u8], from: usize) -> Option<At<usize>>
 
 // Reads entries with commas between them up to a line feed, in one pass. In a past each is at least `low`, one more than the one
 // before it.
-fn quick_entries(text: &[u8], from: usize, count: usize, past: bool) -> Option<At<EventList>>
-    requires { (from ≤ length text.now) × (count ≤ 64) }
-    ensures { IfSome result (λ r. ListFrom past count from (drop from text.now) r) }
+fn quick_entries(text: &[u8], from: usize, part: Part) -> Option<At<EventList>>
+    requires { from ≤ length text.now }
+    ensures { IfSome result (λ r. ListFrom (is_past part.sort) part.count from (drop from text.now) r) }
 {
     let mut events = [0u8; 64];
     let mut at = from;
     let mut low = 0;
-    for k in 0..count {
+    for k in 0..part.count {
         let entry = quick_entry(text, at)?;
-        if entry.value >= count || past && entry.value < low {
+        if !part.may_follow(low, entry.value) {
             return None;
         }
         events[k] = entry.value as u8;
@@ -86,9 +87,9 @@ fn quick_entries(text: &[u8], from: usize, count: usize, past: bool) -> Option<A
 }
 
 // Reads the list that begins at a place.
-fn quick_list(text: &[u8], from: usize, count: usize, past: bool) -> Option<At<EventList>>
-    requires { (from ≤ length text.now) × (count ≤ 64) }
-    ensures { IfSome result (λ r. ListFrom past count from (drop from text.now) r) }
+fn quick_list(text: &[u8], from: usize, part: Part) -> Option<At<EventList>>
+    requires { from ≤ length text.now }
+    ensures { IfSome result (λ r. ListFrom (is_past part.sort) part.count from (drop from text.now) r) }
 {
     if stands_at(text, from, b"-\n") {
         return Some(At {
@@ -96,27 +97,27 @@ fn quick_list(text: &[u8], from: usize, count: usize, past: bool) -> Option<At<E
             end: from + 1,
         });
     }
-    quick_entries(text, from, count, past)
+    quick_entries(text, from, part)
 }
 
 // Reads a line that has no fault and entries of at most two digits; of any other line it tells nothing.
-fn quick_line(text: &[u8], from: usize, own: u32, count: usize, past: bool) -> Option<At<EventList>>
-    requires { (from ≤ length text.now) × (count ≤ 64) }
-    ensures { IfSome result (λ r. record { fault = 0; end = r.end; list = r.value } ≡ next_read past count own from (drop from text.now)) }
+fn quick_line(text: &[u8], from: usize, own: u32, part: Part) -> Option<At<EventList>>
+    requires { from ≤ length text.now }
+    ensures { IfSome result (λ r. record { fault = 0; end = r.end; list = r.value } ≡ next_read (is_past part.sort) part.count own from (drop from text.now)) }
 {
     let number = spaced_number(text, from, 64)?;
     if number.value != u64::from(own) {
         return None;
     }
-    quick_list(text, number.end, count, past)
+    quick_list(text, number.end, part)
 }
 
-// Reads the line of a past or of a view whose number is `own` and that begins at a place, in a history with `count` events.
-pub fn next_list(text: &[u8], from: usize, own: u32, count: usize, past: bool) -> NextList
-    requires { (from ≤ length text.now) × (count ≤ 64) }
-    ensures { (next_list_of result ≡ next_read past count own from (drop from text.now)) × (result.end ≡ from + find 10 (drop from text.now)) × (from ≤ result.end) × (result.end ≤ length text.now) }
+// Reads the line of a part whose number is `own` and that begins at a place.
+pub fn next_list(text: &[u8], from: usize, own: u32, part: Part) -> NextList
+    requires { from ≤ length text.now }
+    ensures { (next_list_of result ≡ next_read (is_past part.sort) part.count own from (drop from text.now)) × (result.end ≡ from + find 10 (drop from text.now)) × (from ≤ result.end) × (result.end ≤ length text.now) }
 {
-    if let Some(quick) = quick_line(text, from, own, count, past) {
+    if let Some(quick) = quick_line(text, from, own, part) {
         return NextList {
             end: quick.end,
             list: Ok(quick.value),
@@ -130,6 +131,6 @@ pub fn next_list(text: &[u8], from: usize, own: u32, count: usize, past: bool) -
     };
     NextList {
         end,
-        list: read_list_line(&text[from..end], own, count, past),
+        list: read_list_line(&text[from..end], own, part),
     }
 }

@@ -3,12 +3,13 @@ ghost use Rattle.std.specs.Prelude.{◌≡◌, ℕ, ◌+◌, ◌-◌, ◌≤◌,
 ghost use Rattle.layout.specs.Split.{split};
 ghost use Rattle.history.specs.Faults.{fault_number};
 ghost use Rattle.certificate.specs.Record.{no_list};
+ghost use Rattle.certificate.specs.Steps.Lists.{is_past};
 ghost use Rattle.certificate.specs.declared.record.EventList.{EventList};
 ghost use Rattle.certificate_reader.specs.ReadCertificate.{refusal, heading_from, lines_from, read_lines, texts_read, refusal_in, read_certificate, rows_read};
 ghost use Rattle.certificate_reader.specs.Steps.Lines.{refused, LineRead, ListsRead, EndRead, PastsRead, ViewsRead, AllRead};
 
 use certificate::criterion::{has_pasts, read_criterion};
-use certificate::list::no_list;
+use certificate::list::{Part, Sort, no_list};
 use certificate::next::next_list;
 use certificate::numbers::view_numbers;
 use certificate::record::{Certificate, Criterion, EventList};
@@ -87,21 +88,15 @@ fn read_heading(text: &[u8], line: Line, heading: &[u8]) -> Result<Line, Refusal
     })
 }
 
-// Reads a line for each of the numbers, of a past or of a view, in a history with `count` events.
-fn read_lists(
-    text: &[u8],
-    line: Line,
-    numbers: &[u8],
-    count: usize,
-    past: bool,
-) -> Result<Lists, Refusal>
-    requires { (line.start ≤ length text.now) × (line.number ≤ line.start + 1) × (count ≤ 64) × (length numbers.now ≤ 64) }
-    ensures { ListsRead past count numbers.now line text.now result }
+// Reads a line of a part for each of the numbers.
+fn read_lists(text: &[u8], line: Line, numbers: &[u8], part: Part) -> Result<Lists, Refusal>
+    requires { (line.start ≤ length text.now) × (line.number ≤ line.start + 1) × (length numbers.now ≤ 64) }
+    ensures { ListsRead (is_past part.sort) part.count numbers.now line text.now result }
 {
     let mut lists = [no_list(); 64];
     let mut line = line;
     for (i, own) in numbers.iter().enumerate() {
-        let next = next_list(text, line.start, u32::from(*own), count, past);
+        let next = next_list(text, line.start, u32::from(*own), part);
         lists[i] = next.list.map_err(|fault| refuse(fault, line, next.end))?;
         line = Line {
             number: line.number + 1,
@@ -130,13 +125,11 @@ fn read_pasts(
     // A past has the number of its event, as a view of weak has.
     let numbers = view_numbers(Criterion::Weak, events);
     let line = read_heading(text, line, b"event past")?;
-    read_lists(
-        text,
-        line,
-        &numbers.numbers[..numbers.count],
-        events.len(),
-        true,
-    )
+    let pasts = Part {
+        sort: Sort::Past,
+        count: events.len(),
+    };
+    read_lists(text, line, &numbers.numbers[..numbers.count], pasts)
 }
 
 // Reads the end of a text, where no line is left.
@@ -163,13 +156,11 @@ fn read_views(
 {
     let numbers = view_numbers(criterion, events);
     let line = read_heading(text, line, b"view order")?;
-    let views = read_lists(
-        text,
-        line,
-        &numbers.numbers[..numbers.count],
-        events.len(),
-        false,
-    )?;
+    let views = Part {
+        sort: Sort::View,
+        count: events.len(),
+    };
+    let views = read_lists(text, line, &numbers.numbers[..numbers.count], views)?;
     read_end(text, views.next)?;
     Ok(views.lists)
 }

@@ -1,6 +1,7 @@
 pub mod AllLaws
 pub mod PadLaws
 pub mod ListedLaws
+pub mod ZeroLaws
 pub mod ListingLaws
 pub mod FaultLaws
 pub mod ObjectLaws

@@ -11,16 +11,16 @@ use Rattle.certificate.proofs.NextLaws.{next-cut, next-line, next_place}
 use Rattle.certificate.proofs.next.next_list.Goals as goal
 
 pub returns-in-Some : goal.returns-in-Some
-returns-in-Some c = next_place _ _ _ _ _ c.requires.0 _ (Ok c.in-Some.quick.value) c.in-Some.ensures
+returns-in-Some c = next_place _ _ _ _ _ c.requires _ (Ok c.in-Some.quick.value) c.in-Some.ensures
 
 pub returns-in_default-find_from : goal.returns-in_default-find_from
 returns-in_default-find_from c =
     let t = c.args.text.now in
     let e : length t ≡ c.args.from + find 10 (drop c.args.from t) = omega (arith, c.in_default-find_from.ensures, length-drop c.args.from t) in
-    next_place _ _ _ _ _ c.requires.0 (length t) (Err Layout) (sym (next-cut _ _ _ _ _ _ e c.requires.0 (omega arith)))
+    next_place _ _ _ _ _ c.requires (length t) (Err Layout) (sym (next-cut _ _ _ _ _ _ e c.requires (omega arith)))
 
 pub returns : goal.returns
 returns c =
-    next_place _ _ _ _ _ c.requires.0 _ c.read_list_line.result
+    next_place _ _ _ _ _ c.requires _ c.read_list_line.result
     (ap (ending_at c.in-Some-find_from.end) c.read_list_line.ensures
-    ∙ sym (next-line _ _ _ _ _ _ c.in-Some-find_from.ensures.0 c.requires.0 c.in-Some-find_from.ensures.2))
+    ∙ sym (next-line _ _ _ _ _ _ c.in-Some-find_from.ensures.0 c.requires c.in-Some-find_from.ensures.2))

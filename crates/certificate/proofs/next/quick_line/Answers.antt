@@ -6,4 +6,4 @@ use Rattle.certificate.proofs.next.quick_line.Goals as goal
 
 pub returns : goal.returns
 returns c =
-    line-told _ _ _ _ _ _ c.requires.0 _ (spaced-stands _ _ _ _ c.in_ok-number.ensures.0) (c.if-number-from.false ∙ c.from.ensures) _ c.quick_list.ensures
+    line-told _ _ _ _ _ _ c.requires _ (spaced-stands _ _ _ _ c.in_ok-number.ensures.0) (c.if-number-from.false ∙ c.from.ensures) _ c.quick_list.ensures

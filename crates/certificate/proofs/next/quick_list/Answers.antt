@@ -6,4 +6,4 @@ use Rattle.certificate.proofs.next.quick_list.Goals as goal
 
 pub returns-then-stands_at : goal.returns-then-stands_at
 returns-then-stands_at c =
-    rw c.no_list.ensures (empty-list _ _ _ _ (word_stands _ _ _ _ c.if-stands_at.ensures c.requires.0 refl))
+    rw c.no_list.ensures (empty-list _ _ _ _ (word_stands _ _ _ _ c.if-stands_at.ensures c.requires refl))

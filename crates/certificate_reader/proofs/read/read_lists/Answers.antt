@@ -7,6 +7,7 @@ use lib.ListN.{get_or, drop}
 use Rattle.std.proofs.lemmas.Result.{err_from_is_err_and}
 use Rattle.history.specs.Faults.{fault_number}
 use Rattle.history_reader.proofs.ReadLaws.{kept, failed}
+use Rattle.certificate.specs.Steps.Lists.{is_past}
 use Rattle.certificate.specs.Steps.Next.{next_list_of, next_read}
 use Rattle.certificate_reader.specs.ReadCertificate.{refusal}
 use Rattle.certificate_reader.specs.Steps.Lines.{refused}
@@ -15,7 +16,7 @@ use Rattle.certificate_reader.proofs.read.read_lists.Goals as goal
 
 pub loop-i-init : goal.loop-i-init
 loop-i-init c =
-    reading-begins c.args.past c.args.count c.args.numbers.now c.args.line c.args.text.now _ (rw c.no_list-lists.ensures) (record { to = c.requires.0; numbered = c.requires.1 })
+    reading-begins (is_past c.args.part.sort) c.args.part.count c.args.numbers.now c.args.line c.args.text.now _ (rw c.no_list-lists.ensures) (record { to = c.requires.0; numbered = c.requires.1 })
 
 pub returns-in_err-lists : goal.returns-in_err-lists
 returns-in_err-lists c =
@@ -23,20 +24,20 @@ returns-in_err-lists c =
     let f = failed c.next_list-next.result.list c.map_err.result _ c.in_err-lists.field-0.0 c.map_err.ensures.cases c.in_err-lists.was in
     let l = f.1.1 in
     let refused : refused c.in_err-lists.field-0.0 ≡ refusal (fault_number f.0) c.loop-i.line.number c.loop-i.line.start (c.next_list-next.result.end - c.loop-i.line.start) = search rules in
-    let same_line : next_list_of c.next_list-next.result ≡ next_read c.args.past c.args.count (get_or c.args.numbers.now c.loop-i.i 0) c.loop-i.line.start (drop c.loop-i.line.start c.args.text.now) = c.next_list-next.ensures.0
-    ∙ ap (λ (n : ℕ). next_read c.args.past c.args.count n c.loop-i.line.start (drop c.loop-i.line.start c.args.text.now)) c.from.ensures in
+    let same_line : next_list_of c.next_list-next.result ≡ next_read (is_past c.args.part.sort) c.args.part.count (get_or c.args.numbers.now c.loop-i.i 0) c.loop-i.line.start (drop c.loop-i.line.start c.args.text.now) = c.next_list-next.ensures.0
+    ∙ ap (λ (n : ℕ). next_read (is_past c.args.part.sort) c.args.part.count n c.loop-i.line.start (drop c.loop-i.line.start c.args.text.now)) c.from.ensures in
     rw (p.1, p.2)
     (λ next.
-    reading-bad c.args.past c.args.count c.args.numbers.now c.args.line c.args.text.now c.loop-i.invariant c.loop-i-test.true c.next_list-next.result.end c.next_list-next.result.list same_line c.next_list-next.ensures.1 c.next_list-next.ensures.3
+    reading-bad (is_past c.args.part.sort) c.args.part.count c.args.numbers.now c.args.line c.args.text.now c.loop-i.invariant c.loop-i-test.true c.next_list-next.result.end c.next_list-next.result.list same_line c.next_list-next.ensures.1 c.next_list-next.ensures.3
     f.0 f.1.0 next
     ∙ sym refused)
 
 pub loop-i-preserved : goal.loop-i-preserved
 loop-i-preserved c =
-    let same_line : next_list_of c.next_list-next.result ≡ next_read c.args.past c.args.count (get_or c.args.numbers.now c.loop-i.i 0) c.loop-i.line.start (drop c.loop-i.line.start c.args.text.now) = c.next_list-next.ensures.0
-    ∙ ap (λ (n : ℕ). next_read c.args.past c.args.count n c.loop-i.line.start (drop c.loop-i.line.start c.args.text.now)) c.from.ensures in
-    reading-more c.args.past c.args.count c.args.numbers.now c.args.line c.args.text.now c.loop-i.invariant c.loop-i-test.true c.next_list-next.result.end c.next_list-next.result.list same_line c.next_list-next.ensures.1 c.next_list-next.ensures.3
-    c.in_ok-lists.field-0 (kept c.next_list-next.result.list c.map_err.result _ c.in_ok-lists.field-0 c.map_err.ensures.cases c.in_ok-lists.was) c.requires.2 (omega (arith, c.loop-i-test.true, c.requires.3))
+    let same_line : next_list_of c.next_list-next.result ≡ next_read (is_past c.args.part.sort) c.args.part.count (get_or c.args.numbers.now c.loop-i.i 0) c.loop-i.line.start (drop c.loop-i.line.start c.args.text.now) = c.next_list-next.ensures.0
+    ∙ ap (λ (n : ℕ). next_read (is_past c.args.part.sort) c.args.part.count n c.loop-i.line.start (drop c.loop-i.line.start c.args.text.now)) c.from.ensures in
+    reading-more (is_past c.args.part.sort) c.args.part.count c.args.numbers.now c.args.line c.args.text.now c.loop-i.invariant c.loop-i-test.true c.next_list-next.result.end c.next_list-next.result.list same_line c.next_list-next.ensures.1 c.next_list-next.ensures.3
+    c.in_ok-lists.field-0 (kept c.next_list-next.result.list c.map_err.result _ c.in_ok-lists.field-0 c.map_err.ensures.cases c.in_ok-lists.was) c.args.part.few (omega (arith, c.loop-i-test.true, c.requires.2))
 
 pub returns : goal.returns
-returns c = reading-ends c.args.past c.args.count c.args.numbers.now c.args.line c.args.text.now c.loop-i.invariant c.loop-i-test.false
+returns c = reading-ends (is_past c.args.part.sort) c.args.part.count c.args.numbers.now c.args.line c.args.text.now c.loop-i.invariant c.loop-i-test.false
