@@ -1,11 +1,12 @@
 // Numbers in base ten: read from a field of any length, and measured.
-ghost use Rattle.std.specs.Prelude.{◌≡◌, ◌+◌, ◌*◌, ◌≤◌, ◌<◌, length, drop, not, IfSome};
+ghost use Rattle.std.specs.Prelude.{◌≡◌, ◌+◌, ◌*◌, ◌≤◌, ◌<◌, length, not, IfSome, MatchOption, Some, None};
 ghost use Rattle.std.specs.Char.{is_ascii_digit};
 ghost use Rattle.std.specs.List.{position};
 ghost use Rattle.layout.specs.Word.{same};
 ghost use Rattle.layout.specs.Number.{starts_well, number_of, spell};
 ghost use Rattle.layout.specs.Fill.{fill};
 ghost use Rattle.layout.specs.Steps.Number.{digits, push_digit};
+ghost use Rattle.layout.specs.Steps.Leading.{leading_number, number_before_space};
 ghost use Rattle.layout.specs.Steps.Stands.{number_at, spaced_number};
 
 use crate::at::At;
@@ -100,6 +101,26 @@ pub fn spaced_number(s: &[u8], from: usize, bound: u64) -> Option<At<u64>>
         value,
         end: end + 1,
     })
+}
+
+// The number below a bound that a text begins with, and what stands behind it.
+pub fn leading_number(text: &[u8], bound: u64) -> Option<(u64, &[u8])>
+    requires { bound ≤ 4294967296 }
+    ensures { MatchOption result (leading_number bound text.now ≡ None) (λ r. (leading_number bound text.now ≡ Some (r.0, r.1.now)) × (r.0 < bound)) }
+{
+    let (digits, rest) = text.split_at(digits_len(text));
+    let number = read_number(digits, bound).ok()?;
+    Some((number, rest))
+}
+
+// The number below a bound that a text begins with and that has a space behind it, and what stands behind the space.
+pub fn number_before_space(text: &[u8], bound: u64) -> Option<(u64, &[u8])>
+    requires { bound ≤ 4294967296 }
+    ensures { MatchOption result (number_before_space bound text.now ≡ None) (λ r. (number_before_space bound text.now ≡ Some (r.0, r.1.now)) × (r.0 < bound)) }
+{
+    let (number, rest) = leading_number(text, bound)?;
+    let rest = rest.strip_prefix(b" ")?;
+    Some((number, rest))
 }
 
 // Whether a field is the spelling of a number: a line's own number.
