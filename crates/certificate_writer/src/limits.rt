@@ -1,16 +1,15 @@
 // The limits of a certificate record and its rows, of a history.
-ghost use Rattle.std.specs.Prelude.{◌≡◌, ◌≤◌, ◌&&◌, length, take, drop, eqb, cond};
+ghost use Rattle.std.specs.Prelude.{◌≡◌, ◌≤◌, ◌&&◌, length, take, drop, eqb};
 ghost use Rattle.history.specs.Record.{events_in};
 ghost use Rattle.history.specs.Readable.{all_less, all_zero};
 ghost use Rattle.certificate.specs.Record.{entries_in};
-ghost use Rattle.certificate.specs.Criteria.{has_pasts};
 ghost use Rattle.certificate.specs.Faults.{rising};
 ghost use Rattle.certificate.specs.Readable.{good_row, good_pasts, blank_lists, good_rows, blank_rows, fits};
 ghost use Rattle.certificate_writer.specs.Steps.Lines.{parts_fit};
 
-use certificate::criterion::has_pasts;
+use certificate::criterion::past_count;
 use certificate::numbers::view_numbers;
-use certificate::record::{Certificate, Criterion, EventList};
+use certificate::record::{Certificate, EventList};
 use history::record::History;
 
 // Whether each event of a row is below the count.
@@ -109,13 +108,6 @@ fn parts_fit(c: &Certificate, rows: &[[u8; 64]; 64], k: usize, m: usize, count: 
         && blank_lists(&c.pasts[k..])
         && all_zero(&c.lengths[m..])
         && blank_rows(&rows[m..])
-}
-
-// How many pasts a certificate of a criterion has, of a history with so many events.
-pub(crate) fn past_count(c: Criterion, count: usize) -> usize
-    ensures { result ≡ cond (has_pasts c) count 0 }
-{
-    if has_pasts(c) { count } else { 0 }
 }
 
 // Whether a record and its rows are within the limits that a history sets.
