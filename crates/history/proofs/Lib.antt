@@ -1,5 +1,6 @@
 pub mod AllLaws
 pub mod PadLaws
+pub mod ZeroLaws
 pub mod ListingLaws
 pub mod FaultLaws
 pub mod ObjectLaws
