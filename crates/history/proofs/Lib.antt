@@ -2,6 +2,7 @@ pub mod AllLaws
 pub mod PadLaws
 pub mod ZeroLaws
 pub mod ListingLaws
+pub mod LinesLaws
 pub mod FaultLaws
 pub mod ObjectLaws
 pub mod AnswerLaws
