@@ -8,11 +8,13 @@ ghost use Rattle.certificate.specs.Readable.{good_row, good_pasts, blank_lists, 
 ghost use Rattle.certificate_writer.specs.Steps.Lines.{parts_fit};
 
 use certificate::criterion::past_count;
+use certificate::list::no_list;
 use certificate::numbers::view_numbers;
 use certificate::record::{Certificate, EventList};
 use history::record::History;
 
 // Whether each event of a row is below the count.
+// Kept, and so the two below: one call of the library's method; a generic one would need a law that T's order is that of its number.
 fn all_less(row: &[u8], count: usize) -> bool
     ensures { result ≡ all_less count row.now }
 {
@@ -35,6 +37,7 @@ fn is_rising(row: &[u8]) -> bool
 
 // Whether a row holds a list of n events of a history with so many events.
 // Kept: the whole row, since what stands behind the n is looked at too.
+#[tactic(auto, unfolding(certificate::specs::Readable::good_row))]
 fn good_row(row: &[u8; 64], n: usize, count: usize) -> bool
     requires { count ≤ 64 }
     ensures { (result ≡ good_row count n row.now) × (length row.now ≡ 64) }
@@ -59,17 +62,19 @@ fn good_pasts(pasts: &[EventList], count: usize) -> bool
 }
 
 // Whether a row holds zeros.
+#[tactic(auto, using(history::proofs::ZeroLaws::row_zeros))]
 fn blank_row(row: &[u8; 64]) -> bool
     ensures { result ≡ eqb (length row.now) 64 && all_zero row.now }
 {
-    all_zero(row)
+    *row == [0; 64]
 }
 
 // Whether a list is empty, with zeros in its places.
+#[tactic(auto, using(history::proofs::ZeroLaws::row_zeros))]
 fn blank_list(l: &EventList) -> bool
     ensures { result ≡ eqb l.now.count 0 && eqb (length l.now.events) 64 && all_zero l.now.events }
 {
-    l.count == 0 && blank_row(&l.events)
+    *l == no_list()
 }
 
 // Whether each list is empty.
@@ -99,6 +104,7 @@ fn blank_rows(rows: &[[u8; 64]]) -> bool
 
 // Whether the first k pasts and the first m rows of a record are good, and its other lists and rows blank.
 // Kept: all rows, since what stands behind the m is looked at too.
+#[tactic(auto, unfolding(crate::specs::Steps::Lines::parts_fit))]
 fn parts_fit(c: &Certificate, rows: &[[u8; 64]; 64], k: usize, m: usize, count: usize) -> bool
     requires { (k ≤ 64) × (m ≤ 64) × (count ≤ 64) }
     ensures { result ≡ parts_fit count k m c.now rows.now }

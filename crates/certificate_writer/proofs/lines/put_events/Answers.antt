@@ -3,7 +3,7 @@ use Rattle.std.proofs.Common.{◌∙◌, ap, length}
 use Rattle.layout.specs.Fill.{fill}
 use Rattle.layout.specs.List.{list_text}
 use Rattle.layout.proofs.PiecesLaws.{byte_then}
-use Rattle.certificate_writer.proofs.write.put_events.Goals as goal
+use Rattle.certificate_writer.proofs.lines.put_events.Goals as goal
 
 pub returns : goal.returns
 returns c =
