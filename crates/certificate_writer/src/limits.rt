@@ -14,7 +14,6 @@ use certificate::record::{Certificate, EventList};
 use history::record::History;
 
 // Whether each event of a row is below the count.
-// Kept, and so the two below: one call of the library's method; a generic one would need a law that T's order is that of its number.
 fn all_less(row: &[u8], count: usize) -> bool
     ensures { result ≡ all_less count row.now }
 {
@@ -22,6 +21,7 @@ fn all_less(row: &[u8], count: usize) -> bool
 }
 
 // Whether each place of a row holds 0.
+// Kept: one call of the library's `all`; a generic one, for values too, would put `map T.number` into each caller's clauses.
 fn all_zero(row: &[u8]) -> bool
     ensures { result ≡ all_zero row.now }
 {
@@ -29,6 +29,7 @@ fn all_zero(row: &[u8]) -> bool
 }
 
 // Whether the events of a row are strictly rising.
+// Kept: one call of the library's method; a generic one would need a law that T's order is that of its number.
 fn is_rising(row: &[u8]) -> bool
     ensures { result ≡ rising row.now }
 {

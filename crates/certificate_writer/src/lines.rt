@@ -1,5 +1,5 @@
 // The lines of a certificate that have a number and a list, as pieces of its text.
-ghost use Rattle.std.specs.Prelude.{◌≡◌, ℕ, ◌≤◌, ◌<◌, [], ◌∷◌, ◌++◌, length, take, get_or};
+ghost use Rattle.std.specs.Prelude.{◌≡◌, ℕ, ◌≤◌, ◌<◌, [], ◌∷◌, ◌++◌, length, get_or};
 ghost use Rattle.layout.specs.Fill.{fill};
 ghost use Rattle.layout.specs.Number.{spell};
 ghost use Rattle.layout.specs.List.{list_text};
@@ -11,25 +11,12 @@ use layout::list::{list_len, put_list};
 use layout::number::{number_len, put_number};
 use layout::pieces::{CountedPieces, Pieces};
 
-// The events of a list, as items, with zeros behind them.
-fn widen(events: &[u8]) -> [u32; 64]
-    requires { length events.now ≤ 64 }
-    ensures { take (length events.now) result ≡ events.now }
-{
-    let mut items = [0u32; 64];
-    for (i, e) in events.iter().enumerate() {
-        items[i] = u32::from(*e);
-    }
-    items
-}
-
 // How many bytes the line of a number and events has, its line feed too.
 fn list_line_len(own: u32, events: &[u8]) -> usize
     requires { length events.now ≤ 64 }
     ensures { (result ≡ length (line_bytes own events.now)) × (result ≤ 720) }
 {
-    let items = widen(events);
-    number_len(own) + list_len(&items[..events.len()]) + 2
+    number_len(own) + list_len(events) + 2
 }
 
 // Writes a number and the space behind it into a part that has room.
@@ -44,18 +31,17 @@ fn put_own(part: &mut [u8], own: u32) -> usize
 
 // Writes a list of events and the line feed behind it into a part that has room.
 fn put_events(part: &mut [u8], events: &[u8]) -> usize
-    requires { (length events.now ≤ 64) × (length (list_text events.now ++ 10 ∷ []) ≤ length part.old) }
+    requires { length (list_text events.now ++ 10 ∷ []) ≤ length part.old }
     ensures { (result ≡ length (list_text events.now ++ 10 ∷ [])) × (part.new ≡ fill (list_text events.now ++ 10 ∷ []) part.old) }
 {
-    let items = widen(events);
-    let k = put_list(part, &items[..events.len()]);
+    let k = put_list(part, events);
     part[k] = b'\n';
     k + 1
 }
 
 // Writes the line of a number and events, its line feed too, into a part that has room.
 fn put_list_line(part: &mut [u8], own: u32, events: &[u8]) -> usize
-    requires { (length events.now ≤ 64) × (length (line_bytes own events.now) ≤ length part.old) }
+    requires { length (line_bytes own events.now) ≤ length part.old }
     ensures { (result ≡ length (line_bytes own events.now)) × (part.new ≡ fill (line_bytes own events.now) part.old) }
 {
     let k = put_own(part, own);

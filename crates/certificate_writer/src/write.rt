@@ -56,6 +56,7 @@ fn pasts_len(c: Criterion, pasts: &PastLines) -> usize
 }
 
 // Writes the part of the pasts into a part that has room: nothing where the criterion has no pasts.
+#[tactic(auto, unfolding(layout::specs::Fill::fill))]
 fn put_pasts(part: &mut [u8], c: Criterion, pasts: &PastLines) -> usize
     requires { length (past_bytes c pasts.now.pasts.now) ≤ length part.old }
     ensures { (result ≡ length (past_bytes c pasts.now.pasts.now)) × (part.new ≡ fill (past_bytes c pasts.now.pasts.now) part.old) }

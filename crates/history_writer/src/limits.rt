@@ -40,6 +40,7 @@ fn blank_objects(objects: &[Object]) -> bool
 }
 
 // Whether each value is 0.
+// Kept: one call of the library's `all`; a generic one, for the events of a row too, would put `map T.number` into each caller's clauses.
 fn all_zero(values: &[Value]) -> bool
     ensures { result ≡ all_zero values.now }
 {
