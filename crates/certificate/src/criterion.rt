@@ -41,6 +41,13 @@ impl TryFrom<u32> for Criterion {
     }
 }
 
+// How many pasts a certificate of the criterion has, of a history with so many events.
+pub fn past_count(c: Criterion, count: usize) -> usize
+    ensures { result ≡ cond (has_pasts c) count 0 }
+{
+    if has_pasts(c) { count } else { 0 }
+}
+
 // The criterion of a word.
 // Kept: no `match` on the words, as in history's `read_kind`: some forty goals come, one for each byte.
 #[tactic(auto, unfolding(crate::specs::Criteria::is_criterion, crate::specs::Criteria::criterion_of))]

@@ -3,6 +3,7 @@ pub mod PadLaws
 pub mod ListedLaws
 pub mod ZeroLaws
 pub mod ListingLaws
+pub mod LinesLaws
 pub mod FaultLaws
 pub mod ObjectLaws
 pub mod AnswerLaws
