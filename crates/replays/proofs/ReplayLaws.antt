@@ -207,9 +207,6 @@ pub record Passed (h : LightHistory) (view : List ℕ) (who : Visible) (i : ℕ)
   pub same : wrong_from h who h.starts view ≡ wrong_from h who states (drop i view)
 
 module _ {h : LightHistory} {view : List ℕ} {who : Visible} (r : Ready h view) where
-  pub none-passed : length h.starts ≡ 16 → Passed h view who 0 h.starts
-  none-passed long = record { places = long; stand = r.start; same = refl }
-
   pub all-passed : {states : List State} {i : ℕ} → i ≡ length view → Passed h view who i states
       → math.none ≡ first_wrong (history_in h) (is_visible (history_in h) who) (contents_in h.values h.starts) view
   unfolding wrong_from
