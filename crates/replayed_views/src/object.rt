@@ -51,7 +51,12 @@ fn replay_object(history: &LightHistory, part: &[u8], e: EventNo) -> Option<Even
 }
 
 // Event e, where its answer is not what the replay of the view gives, cut down to a row of events of e's object.
-pub(crate) fn replay_row(history: &LightHistory, view: &[u8], row: u64, e: EventNo) -> Option<EventNo>
+pub(crate) fn replay_row(
+    history: &LightHistory,
+    view: &[u8],
+    row: u64,
+    e: EventNo,
+) -> Option<EventNo>
     requires { ReadyKept history.now view.now (in_row row) e.0 }
     ensures { found_event result ≡ one_wrong (history_in history.now) e.0 (get_or history.now.events e.0 no_light).object (its_start history.now e.0) (keep (in_row row) view.now) }
 {

@@ -3,7 +3,6 @@ use native.Mathlib.Omega.{arith}
 use mathlib.Core.Path.{◌≡◌, ap, ◌∙◌}
 use mathlib.Core.Bool.{true}
 use lib.ListN.{get_or, length-take}
-
 use Rattle.replays.specs.Replay.{no_light, history_in}
 use Rattle.replayed_views.specs.Steps.{its_start, one_wrong}
 use Rattle.replayed_views.proofs.ObjectLaws.{silent-part}
