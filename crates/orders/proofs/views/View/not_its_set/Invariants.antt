@@ -2,7 +2,7 @@
 use Rattle.std.proofs.Common.{◌≡◌, drop}
 use Rattle.criteria.specs.Check.{not_its_set}
 use Rattle.orders.specs.Rows.{in_row}
-use Rattle.orders.proofs.views.not_its_set.Given as goal
+use Rattle.orders.proofs.views.View.not_its_set.Given as goal
 
 abbrev pub invariant-loop-x : goal.invariant-loop-x
-invariant-loop-x l = not_its_set 64 (in_row l.set) l.view ≡ not_its_set 64 (in_row l.left) (drop l.x-index l.view)
+invariant-loop-x l = not_its_set 64 (in_row l.set) l.self.events.now ≡ not_its_set 64 (in_row l.left) (drop l.x-index l.self.events.now)

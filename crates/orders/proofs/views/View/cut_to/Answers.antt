@@ -2,12 +2,12 @@
 use Rattle.std.proofs.Common.{◌<◌, length, sym, ◌∙◌, arith, length-set}
 use Rattle.orders.proofs.CutLaws.{cut-kept, cut-left}
 use Rattle.orders.specs.Rows.{in_row}
-use Rattle.orders.proofs.views.cut_to.Goals as goal
-use Rattle.orders.proofs.views.cut_to.Goals.{then-in_row, else-in_row}
+use Rattle.orders.proofs.views.View.cut_to.Goals as goal
+use Rattle.orders.proofs.views.View.cut_to.Goals.{then-in_row, else-in_row}
 
 pub loop-x-preserved : goal.loop-x-preserved
 loop-x-preserved c =
-    let v = c.args.view.now in
+    let v = c.args.self.events.now in
     let i = c.loop-x.x-index in
     let room : c.loop-x.count < length c.loop-x.events = omega arith in
     elim c.if-in_row.branch [
