@@ -1,6 +1,9 @@
 // The certificate record, by value. The views stand beside it, as rows of event numbers. Every place that a record or a row does
 // not use holds zeros, so that two records of one certificate are equal.
 
+ghost use Rattle.std.specs.Prelude.{◌≡◌, ◌+◌, ◌<◌, ℕ, List, [], ◌∷◌, ◌++◌};
+ghost use Rattle.certificate.specs.Record.{event_list_of};
+
 // Those whose certificates have pasts stand together, so that a test for them is one of a range. Their numbers are `criterion_number`.
 #[derive(Clone, Copy, PartialEq, Eq)]
 pub enum Criterion {
@@ -14,10 +17,22 @@ pub enum Criterion {
 
 // The first `count` of the events.
 // Kept: no heap, fixed memory, and the definitions, `fits` and `certificate_text` among them, speak of this record.
-#[derive(Clone, Copy)]
+#[derive(Clone, Copy, PartialEq, Eq)]
 pub struct EventList {
     pub count: usize,
     pub events: [u8; 64],
+}
+
+impl EventList {
+    // Puts an event behind the others.
+    pub fn push(&mut self, e: u8)
+        requires { self.old.count < 64 }
+        ensures list { (xs : List ℕ) → self.old ≡ event_list_of xs → self.new ≡ event_list_of (xs ++ e ∷ []) }
+        ensures count { self.new.count ≡ self.old.count + 1 }
+    {
+        self.events[self.count] = e;
+        self.count += 1;
+    }
 }
 
 // The past of each event, where the criterion has pasts, and how many events each view has, in the order of the view lines.
