@@ -1,11 +1,12 @@
 // Tests of a view, whose entries are numbers of events.
 ghost use Rattle.std.specs.Prelude.{◌≡◌, ℕ, ◌≤◌, ◌<◌, length, get_or, eqb};
-ghost use Rattle.certificate.specs.Record.{entries_in};
+ghost use Rattle.certificate.specs.Record.{event_list_of};
 ghost use Rattle.criteria.specs.Tests.{keep, count, mem};
 ghost use Rattle.criteria.specs.Check.{not_its_set, against, outside_past};
 ghost use Rattle.orders.specs.Rows.{in_row, in_rows, view_at, EventViews};
 
 use crate::sets::{escapes, holds_some, in_row, meets, with_event, without_event};
+use certificate::list::no_list;
 use certificate::record::EventList;
 
 // A view: at most 64 entries, each the number of an event below 64.
@@ -50,8 +51,8 @@ impl<'a> Views<'a> {
 
 impl View<'_> {
     // The row of the entries.
-    pub fn marks(self) -> u64
-        ensures { (e : ℕ) → in_row result e ≡ mem e self.events.now }
+    pub fn marks(&self) -> u64
+        ensures { (e : ℕ) → in_row result e ≡ mem e self.now.events.now }
     {
         let mut row = 0;
         for x in self.events {
@@ -61,8 +62,8 @@ impl View<'_> {
     }
 
     // 14: whether the entries are not the set of a row, each once.
-    pub fn not_its_set(self, set: u64) -> bool
-        ensures { result ≡ not_its_set 64 (in_row set) self.events.now }
+    pub fn not_its_set(&self, set: u64) -> bool
+        ensures { result ≡ not_its_set 64 (in_row set) self.now.events.now }
     {
         let mut left = set;
         for x in self.events {
@@ -76,9 +77,9 @@ impl View<'_> {
     }
 
     // 15: whether the view, with no entry twice, is against an order.
-    pub fn against(self, rows: &[u64; 64]) -> bool
-        requires { (e : ℕ) → count e self.events.now ≤ 1 }
-        ensures { result ≡ against (in_rows rows.now) self.events.now }
+    pub fn against(&self, rows: &[u64; 64]) -> bool
+        requires { (e : ℕ) → count e self.now.events.now ≤ 1 }
+        ensures { result ≡ against (in_rows rows.now) self.now.events.now }
     {
         let mut later = self.marks();
         for x in self.events {
@@ -92,8 +93,8 @@ impl View<'_> {
     }
 
     // 20: whether an event outside the past stands before an own event. The own events are those of process p.
-    pub fn outside_past(self, rows: &[u64; 64], processes: &[u8; 64], p: u8) -> bool
-        ensures { result ≡ outside_past (in_rows rows.now) (λ e. eqb (get_or processes.now e 0) p) self.events.now }
+    pub fn outside_past(&self, rows: &[u64; 64], processes: &[u8; 64], p: u8) -> bool
+        ensures { result ≡ outside_past (in_rows rows.now) (λ e. eqb (get_or processes.now e 0) p) self.now.events.now }
     {
         let mut before = 0;
         for x in self.events {
@@ -107,17 +108,16 @@ impl View<'_> {
     }
 
     // The view, cut down to the entries of a row.
-    pub fn cut_to(self, kept: u64) -> EventList
-        ensures { (entries_in result ≡ keep (in_row kept) self.events.now) × (result.count ≤ length self.events.now) }
+    pub fn cut_to(&self, kept: u64) -> EventList
+        ensures list { result ≡ event_list_of (keep (in_row kept) self.now.events.now) }
+        ensures few { result.count ≤ length self.now.events.now }
     {
-        let mut events = [0; 64];
-        let mut count = 0;
+        let mut cut = no_list();
         for x in self.events {
             if in_row(kept, usize::from(*x)) {
-                events[count] = *x;
-                count += 1;
+                cut.push(*x);
             }
         }
-        EventList { count, events }
+        cut
     }
 }

@@ -8,4 +8,4 @@ loop-x-init c = none_in
 
 pub loop-x-preserved : goal.loop-x-preserved
 loop-x-preserved c =
-    mark-turn c.args.self.events.now c.loop-x.x-index c.loop-x-test.true _ c.from.ensures c.loop-x.row _ c.with_event-row.ensures c.loop-x.invariant
+    mark-turn c.args.self.now.events.now c.loop-x.x-index c.loop-x-test.true _ c.from.ensures c.loop-x.row _ c.with_event-row.ensures c.loop-x.invariant
