@@ -9,7 +9,7 @@ ghost use Rattle.replayed_views.specs.Steps.{one_wrong, ObjectRows, ReadyKept};
 use history::record::EventNo;
 use objects::state::{EventOp, State};
 use orders::sets::with_event;
-use orders::views::cut_to;
+use orders::views::View;
 use replays::light::LightHistory;
 use replays::replay::{Light, fits_given};
 
@@ -64,6 +64,6 @@ pub(crate) fn replay_row(
     if history.events[usize::from(e.0)].silent {
         return None;
     }
-    let cut = cut_to(view, row);
+    let cut = View { events: view }.cut_to(row);
     replay_object(history, start, &cut.events[..cut.count], e)
 }
