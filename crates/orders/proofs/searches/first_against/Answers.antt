@@ -1,12 +1,8 @@
 -- The lowest view against the order. Assumes nothing.
 use Rattle.std.proofs.Common.{rules, length}
-use Rattle.std.proofs.lemmas.Iterator.{serves_from_Range}
 use Rattle.orders.proofs.FindLaws.{lowest-from_find}
 use Rattle.orders.proofs.SearchLaws.{inverted}
 use Rattle.orders.proofs.searches.first_against.Goals as goal
-
-pub find-requires-clause-callable : goal.find-requires-clause-callable
-find-requires-clause-callable c = serves_from_Range (λ x q k. search rules) (λ x low high. search rules)
 
 pub returns-clause-found : goal.returns-clause-found
 returns-clause-found c =

@@ -1,12 +1,8 @@
 -- The lowest view that is not the past of its event, and that event. Assumes nothing.
 use Rattle.std.proofs.Common.{rules, length}
-use Rattle.std.proofs.lemmas.Iterator.{serves_from_Range}
 use Rattle.orders.proofs.FindLaws.{lowest-from_find}
 use Rattle.orders.proofs.SearchLaws.{not_past, set_same}
 use Rattle.orders.proofs.searches.first_not_past.Goals as goal
-
-pub find-requires-clause-callable : goal.find-requires-clause-callable
-find-requires-clause-callable c = serves_from_Range (λ x q k. search rules) (λ x low high. search rules)
 
 pub returns-clause-found : goal.returns-clause-found
 returns-clause-found c =
