@@ -14,8 +14,5 @@ pub fn cut_views(view: &View, order: &[u64]) -> ViewRows
     requires { length order.now ≤ 64 }
     ensures { result ≡ view_rows_of (table (length order.now) (λ e. keep (past_with (in_rows order.now) e) view.now.events.now)) }
 {
-    view_rows(
-        order.len(),
-        |e| view.cut_to(with_event(order[e], e)),
-    )
+    view_rows(order.len(), |e| view.cut_to(with_event(order[e], e)))
 }

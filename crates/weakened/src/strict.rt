@@ -28,8 +28,5 @@ pub fn own_parts(processes: &[u8], views: &Views) -> ViewRows
     requires { (length processes.now ≤ 64) × ((e : ℕ) → e < length processes.now → place (get_or processes.now e 0) views.now.numbers.now < length views.now.numbers.now) }
     ensures { result ≡ view_rows_of (table (length processes.now) (λ e. up_to_in (view_at views.now.rows.now views.now.lengths.now (place (get_or processes.now e 0) views.now.numbers.now)) e)) }
 {
-    view_rows(
-        processes.len(),
-        |e| own_part(views, processes[e], e as u8),
-    )
+    view_rows(processes.len(), |e| own_part(views, processes[e], e as u8))
 }
