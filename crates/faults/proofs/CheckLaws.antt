@@ -38,11 +38,12 @@ use Rattle.criteria.proofs.Loops.{any-default}
 use Rattle.criteria.proofs.Check.{OfEvents, listed-events, program-causal}
 use Rattle.criteria.proofs.RecordLaws.{size_is, event-is, view-count, view-number, readable}
 use Rattle.orders.specs.Rows.{in_rows, IsOrder, ShortList, EventViews, view_at, program_in}
+use Rattle.orders.proofs.ViewLaws.{view-first}
 use Rattle.orders.proofs.ProgramLaws.{program-is}
 use Rattle.faults.specs.declared.finding.Finding.{Finding}
 use Rattle.faults.specs.Finding.{is_found, finding_of}
 use Rattle.faults.specs.Steps.{order_fault, view_fault}
-use Rattle.faults.proofs.RecordFacts.{number-count, number_at}
+use Rattle.faults.proofs.RecordFacts.{number-count, number_at, numbers-long}
 use Rattle.faults.proofs.OrderLaws.{order-faults}
 use Rattle.faults.proofs.ViewedLaws.{view-faults}
 use Rattle.faults.proofs.ReplayedLaws.{view-begins}
@@ -264,7 +265,11 @@ module _ (h : WrittenHistory.History) (w : within h ≡ true) where
         -- what the step of the views finds
         abbrev pub views_found : ℕ → Option Fault
         views_found n =
-            view_fault (event_each c.criterion) rows c.lengths numbers.numbers order-rows processes numbers.count (cond (is_strict c.criterion) numbers.count 0) n
+            view_fault (event_each c.criterion) (take numbers.count rows) (take numbers.count c.lengths) (take numbers.count numbers.numbers) order-rows processes
+            (length (take numbers.count numbers.numbers)) (cond (is_strict c.criterion) (length (take numbers.count numbers.numbers)) 0) n
+
+        numbers-as : length (take numbers.count numbers.numbers) ≡ numbers.count
+        numbers-as = numbers-long numbers _ numbered
 
         first_step : order_fault order-rows program (cond (has_pasts c.criterion) h.count 0)
             ≡ or (find11 (history_of h) (order (history_of h) lists) (past_count c.criterion (history_of h)))
@@ -280,11 +285,16 @@ module _ (h : WrittenHistory.History) (w : within h ≡ true) where
         unfolding certificate_of
         second-step =
             ap views_found (sym size_of)
-            ∙ view-faults c.criterion (history_of h) (order (history_of h) lists) order-rows rows c.lengths numbers.numbers viewed numbers.count
+            ∙ view-faults c.criterion (history_of h) (order (history_of h) lists) order-rows (take numbers.count rows) (take numbers.count c.lengths) (take numbers.count numbers.numbers) viewed
+            (length (take numbers.count numbers.numbers))
             (omega (arith, size_of, few-of)) (λ a b. ap (λ (R : ℕ → ℕ → Bool). R a b) order_is) (order-inside (history_of h) lists readable_of)
-            (number-count numbers _ numbered ∙ sym (view-count c.criterion h))
-            (λ k l. number_at numbers _ numbered k ∙ sym (view-number c.criterion h k (omega (arith, number-count numbers _ numbered, view-count c.criterion h))))
-            (view-same numbers.count (number-count numbers _ numbered))
+            (numbers-as ∙ number-count numbers _ numbered ∙ sym (view-count c.criterion h))
+            (λ k l.
+            get_or-take numbers.count numbers.numbers k 0 (omega (arith, numbers-as)) ∙ number_at numbers _ numbered k
+            ∙ sym (view-number c.criterion h k (omega (arith, numbers-as, number-count numbers _ numbered, view-count c.criterion h))))
+            (λ k l.
+            let b : k < numbers.count = omega (arith, numbers-as) in
+            view-first rows c.lengths numbers.count k b ∙ view-same numbers.count (number-count numbers _ numbered) k b)
             (λ k l. (readable_of.view k).0)
             processes (process-at processes processed)
 
@@ -346,7 +356,8 @@ module _ (h : WrittenHistory.History) (c : WrittenCertificate.Certificate) (rows
     module _ (u : Unit {0}) (passed : first ≡ Ok u)
         (second : Result (Unit {0}) Finding)
         (second-is : finding_of second
-        ≡ view_fault (event_each c.criterion) rows c.lengths named.numbers order-rows processes named.count (cond (is_strict c.criterion) named.count 0) h.count) where
+        ≡ view_fault (event_each c.criterion) (take named.count rows) (take named.count c.lengths) (take named.count named.numbers) order-rows processes
+        (length (take named.count named.numbers)) (cond (is_strict c.criterion) (length (take named.count named.numbers)) 0) h.count) where
       pub views-stop : (f : Finding) → second ≡ Err f → finding_of second ≡ check (history_of h) (certificate_of h c rows)
       views-stop f e =
           view-answers h asked.0 c rows asked.1 few-views program order-rows is-program ordered named numbered.0 processes processed

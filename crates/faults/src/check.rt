@@ -29,11 +29,11 @@ pub fn check_records(h: History, c: Certificate, views: &[[u8; 64]; 64]) -> Resu
     let program = program_rows(&processes[..n]);
     let rows = order_rows(c.criterion, &c.pasts[..n], program);
     let views = Views {
-        rows: views,
-        lengths: &c.lengths,
-        count: named.count,
+        rows: &views[..named.count],
+        lengths: &c.lengths[..named.count],
+        numbers: &named.numbers[..named.count],
     };
     order_fault(&rows, &program, past_count(c.criterion, n))?;
-    view_fault(c.criterion, &views, &named.numbers, &rows, &processes, n)?;
+    view_fault(c.criterion, &views, &rows, &processes, n)?;
     replay_fault(&h, c.criterion, &views, &named, &rows)
 }

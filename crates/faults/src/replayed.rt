@@ -1,5 +1,5 @@
 // Fault 16.
-ghost use Rattle.std.specs.Prelude.{◌≡◌, ◌≤◌, true, take};
+ghost use Rattle.std.specs.Prelude.{◌≡◌, ◌≤◌, true, length};
 ghost use Rattle.history.specs.Record.{events_in};
 ghost use Rattle.history.specs.Readable.{within};
 ghost use Rattle.certificate.specs.Record.{beginnings};
@@ -36,12 +36,12 @@ pub(crate) fn replay_fault(
     named: &ViewNumbers,
     rows: &[u64; 64],
 ) -> Result<(), Finding>
-    requires { (within h.now ≡ true) × (named.now ≡ view_numbers_of (view_numbers criterion (events_in h.now))) × (views.now.count ≡ named.now.count) × EventViews views.now.rows.now views.now.lengths.now views.now.count h.now.count }
-    ensures { finding_of result ≡ find16 criterion (history_of h.now) (in_rows rows.now) (beginnings (take views.now.count views.now.lengths.now) (take views.now.count views.now.rows.now)) }
+    requires { (within h.now ≡ true) × (named.now ≡ view_numbers_of (view_numbers criterion (events_in h.now))) × (length views.now.numbers.now ≡ named.now.count) × EventViews views.now.rows.now views.now.lengths.now (length views.now.numbers.now) h.now.count }
+    ensures { finding_of result ≡ find16 criterion (history_of h.now) (in_rows rows.now) (beginnings views.now.lengths.now views.now.rows.now) }
 {
     let history = light_history(h);
     if is_converge(criterion) {
-        return match first_wrong_cut(&history, rows, views.get(0)) {
+        return match first_wrong_cut(&history, rows, views.get(0).events) {
             Some(e) => Err(Finding::Wrong(named.numbers[0], e)),
             None => Ok(()),
         };

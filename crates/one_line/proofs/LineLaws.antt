@@ -8,14 +8,12 @@ use native.Mathlib.Numerals.{add-one}
 use native.Mathlib.Omega.{arith}
 use lib.Dec.{eqb, ltb}
 use lib.Count.{ones, ones_in, ones_step}
-use lib.ListN.{length, set, length-append}
+use lib.ListN.{length, length-append}
 use Rattle.std.proofs.lemmas.Nat.Bits.{bit_at_lowest, bit_at-suc}
 use borrow.Author.Tests.{ltb-true, eq-eqb, ne_eqb}
 use Rattle.layout.proofs.Cases.{by_bool, by-eq}
-use Rattle.history.specs.Record.{pad}
-use Rattle.history.proofs.PadLaws.{pad-none, pad-set}
 use Rattle.certificate.specs.declared.record.EventList.{EventList}
-use Rattle.certificate.specs.Record.{no_list, event_list_of}
+use Rattle.certificate.specs.Record.{event_list_of}
 use Rattle.criteria.specs.Tests.{up_to, keep_if, keep, one}
 use Rattle.criteria.specs.OneLine.{tally, by_place}
 use Rattle.criteria.proofs.Lists.{and-true, mem-of-count, once-of-count, length-once, keep_append}
@@ -116,12 +114,8 @@ module _ (n : ℕ) (at : ℕ → ℕ) where
     pub put-room : line.count < 64
     put-room = let f = line-few m (suc e) h in omega (arith, f, counts, longer, few)
 
-    pub put_line : record { count = line.count + 1; events = set line.events line.count e } ≡ event_list_of (line_to m (e + 1))
-    unfolding event_list_of
-    put_line =
-        ap₂ (λ (x : ℕ) (y : List ℕ). record { count = x; events = y })
-        (rw (add-one e) (omega (arith, counts, longer)))
-        (rw (add-one e) (ap (λ (x : EventList). set x.events line.count e) k ∙ pad-set 64 0 (line_to m e) line.count e counts put-room ∙ ap (pad 64 0) (sym put)))
+    pub put_line : event_list_of (line_to m e ++ e ∷ []) ≡ event_list_of (line_to m (e + 1))
+    put_line = ap event_list_of (rw (add-one e) (sym put))
 
   -- event e is at another place
   pub same_line : (m e : ℕ) → (at e ≡ m → ⊥) → event_list_of (line_to m e) ≡ event_list_of (line_to m (e + 1))
@@ -137,8 +131,3 @@ module _ (n : ℕ) (at : ℕ → ℕ) where
   pub line-room : (m : ℕ) (l : EventList) → l ≡ event_list_of (by_place n at m) → n ≤ 64 → l.count ≤ 64
   unfolding event_list_of
   line-room m l q few = let k = ap (λ (x : EventList). x.count) q in let f = few-in-line m in omega (arith, k, f, few)
-
--- no event is in line yet
-pub no-events : no_list ≡ event_list_of []
-unfolding event_list_of
-no-events = ap (λ (l : List ℕ). record { count = 0; events = l }) (sym (pad-none 64 0))

@@ -31,7 +31,7 @@ use Rattle.faults.proofs.CheckLaws.{size_of, few-of}
 use Rattle.weakened.specs.declared.views.ViewRows.{ViewRows}
 use Rattle.weakened.specs.Steps.{view_rows_of}
 use Rattle.weakened.proofs.CausalLaws.{keep-below}
-use Rattle.weakened.proofs.SequentialLaws.{list-entries}
+use Rattle.orders.proofs.CutLaws.{entries-listed}
 use Rattle.weakened_records.specs.Steps.{IsRecordOf}
 use Rattle.weakened_records.proofs.RecordLaws.{record-parts, is-record}
 use Rattle.one_line.specs.Steps.{update_in, unordered_to, crosses_at, place_in}
@@ -112,6 +112,6 @@ module _ (h : WrittenHistory.History) (c : WrittenCertificate.Certificate) (view
       → IsRecordOf (in_one_line (history_of h) (certificate_of h c views)) (record { criterion = Sequential; pasts = pasts; lengths = made.lengths }) made.rows
   record_is l q pasts p made a =
       is-record _ Sequential [] (entries_in l ∷ []) _ made.rows
-      (lists-are (entries_in l) (list-entries l _ q))
+      (lists-are (entries_in l) (entries-listed l _ q))
       (record-parts Sequential pasts made.lengths [] (entries_in l ∷ []) (p ∙ sym (pad-none 64 no_list)) (ap (λ (x : ViewRows). x.lengths) a))
       (ap (λ (x : ViewRows). x.rows) a)

@@ -28,8 +28,9 @@ fn place_of(order: &Order, e: usize) -> u8
 }
 
 // The places of the events.
+// Kept: `array::from_fn(|e| place_of(order, e))` captures the order, and `rt ci` cannot write the statements of such a crate for those
+// above (tried in `replays::visible::visible_views`).
 pub(crate) fn places_of(order: &Order) -> [u8; 64]
-    requires { order.now.size ≤ 64 }
     ensures { (length result ≡ 64) × ((e : ℕ) → e < order.now.size → get_or result e 0 ≡ place_in order.now.pasts order.now.updates e) }
 {
     let mut places = [0; 64];
@@ -46,8 +47,7 @@ fn with_place(mut line: EventList, places: &[u8], m: u8) -> EventList
 {
     for (e, place) in places.iter().enumerate() {
         if *place == m {
-            line.events[line.count] = e as u8;
-            line.count += 1;
+            line.push(e as u8);
         }
     }
     line

@@ -1,5 +1,5 @@
 // A causal order and its updates, by rows.
-ghost use Rattle.std.specs.Prelude.{◌≡◌, ◌&&◌, ℕ, ltb, map, take};
+ghost use Rattle.std.specs.Prelude.{◌≡◌, ◌&&◌, ℕ, ◌≤◌, ltb, map, take};
 ghost use Rattle.history.specs.Record.{events_in};
 ghost use Rattle.certificate.specs.Record.{pasts_in};
 ghost use Rattle.criteria.specs.Certificate.{listed};
@@ -17,6 +17,7 @@ pub(crate) struct Order {
     pub(crate) pasts: [u64; 64],
     pub(crate) updates: u64,
     pub(crate) size: usize,
+    ghost few: { size ≤ 64 },
 }
 
 // The causal order of a certificate with pasts.

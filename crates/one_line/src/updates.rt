@@ -25,7 +25,7 @@ pub(crate) fn updates_of(events: &[Event]) -> u64
 
 // Whether the order leaves event a and some other update unordered.
 fn unordered_with(order: &Order, a: usize) -> bool
-    requires { (order.now.size ≤ 64) × (a < 64) }
+    requires { a < 64 }
     ensures { result ≡ any order.now.size (unordered_to order.now.pasts order.now.updates a) }
 {
     (0..order.size).any(|b| {
@@ -37,7 +37,6 @@ fn unordered_with(order: &Order, a: usize) -> bool
 
 // Whether the order leaves two updates unordered.
 pub(crate) fn crossing(order: &Order) -> bool
-    requires { order.now.size ≤ 64 }
     ensures { result ≡ any order.now.size (crosses_at order.now.pasts order.now.updates order.now.size) }
 {
     (0..order.size).any(|a| in_row(order.updates, a) && unordered_with(order, a))

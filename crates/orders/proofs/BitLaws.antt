@@ -96,3 +96,6 @@ row-some m h =
 pub any_same : (n : ℕ) (f g : ℕ → Bool) → ((i : ℕ) → i < n → f i ≡ g i) → any n f ≡ any n g
 any_same zero f g e = refl
 any_same (suc n) f g e = rw (any_same n f g (λ i l. e i (omega arith)), e n (omega arith))
+
+-- what the functions of sets cite
+pub ruleset row_laws = (row-bit, row-or, row-and, row-not, row-except, row_one, row-some)

@@ -1,6 +1,6 @@
 -- What the loops over a view need: its entries marked off one by one against a set, and each entry tested against those from it on.
 -- Assumes nothing.
-use mathlib.Core.Path.{◌≡◌, refl, sym, ap, subst, ◌∙◌}
+use mathlib.Core.Path.{◌≡◌, refl, sym, ap, ap₂, subst, ◌∙◌}
 use mathlib.Core.Bool.{Bool, true, false, not, ◌&&◌, ◌||◌}
 use mathlib.Core.List.{List, [], ◌∷◌}
 use Prim.Native.Nat.{ℕ, zero, suc, ◌+◌, ◌≤◌, ◌<◌}
@@ -207,3 +207,13 @@ pub view-inside : (views : List (List ℕ)) (lengths : List ℕ) (m n : ℕ) →
 view-inside views lengths m n e k l i h =
     let below : i < get_or lengths k 0 = omega (arith, length-take (get_or lengths k 0) (get_or views k [])) in
     rw (get_or-take (get_or lengths k 0) (get_or views k []) i 0 below) (e.entries k l i below)
+
+-- the first m views
+pub view-first : (views : List (List ℕ)) (lengths : List ℕ) (m k : ℕ) → k < m → view_at (take m views) (take m lengths) k ≡ view_at views lengths k
+view-first views lengths m k l = ap₂ take (get_or-take m lengths k 0 l) (get_or-take m views k [] l)
+
+pub views-first : (views : List (List ℕ)) (lengths : List ℕ) (m n : ℕ) → EventViews views lengths m n → EventViews (take m views) (take m lengths) m n
+views-first views lengths m n e = record {
+  few = λ k l. rw (get_or-take m lengths k 0 l) (e.few k l);
+  entries = λ k l i b. rw (get_or-take m views k [] l) (e.entries k l i (rw (get_or-take m lengths k 0 l) at b));
+}

@@ -5,7 +5,7 @@ ghost use Rattle.criteria.specs.Certificate.{listed};
 ghost use Rattle.orders.specs.Rows.{ShortList, IsOrder, program_in};
 
 use crate::sets::with_event;
-use crate::views::marks;
+use crate::views::View;
 use certificate::record::EventList;
 
 // The rows of the pasts.
@@ -15,7 +15,10 @@ pub fn past_rows(pasts: &[EventList]) -> [u64; 64]
 {
     let mut rows = [0; 64];
     for (i, past) in pasts.iter().enumerate() {
-        rows[i] = marks(&past.events[..past.count]);
+        let listed = View {
+            events: &past.events[..past.count],
+        };
+        rows[i] = listed.marks();
     }
     rows
 }

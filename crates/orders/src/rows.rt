@@ -8,6 +8,8 @@ ghost use Rattle.orders.specs.Rows.{in_rows};
 use crate::sets::{escapes, in_row};
 
 // 12: the lowest e below n that is in its own row.
+// Kept: this and `lacks_own` as `not_transitive`, which looks into all rows, so that the three tests take an order and n alike; with
+// slices the searches would be no shorter.
 pub fn in_own_past(rows: &[u64; 64], n: usize) -> Option<usize>
     requires { n ≤ 64 }
     ensures found { option_in result ≡ lowest n (λ e. found_if (in_rows rows.now e e) e) }

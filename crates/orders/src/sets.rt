@@ -1,4 +1,7 @@
 // Sets of events as rows of 64 bits: event e is in a row where bit e is 1.
+
+#![tactic(auto, using(crate::proofs::BitLaws::row_laws))]
+
 ghost use Rattle.std.specs.Prelude.{◌≡◌, not, ◌&&◌, ◌||◌, ℕ, ◌<◌, eqb};
 ghost use Rattle.criteria.specs.Tests.{any};
 ghost use Rattle.orders.specs.Rows.{in_row};

@@ -8,7 +8,7 @@ ghost use Rattle.replayed_views.specs.Steps.{its_start, one_wrong, ObjectRows, R
 use history::record::EventNo;
 use objects::state::EventOp;
 use orders::sets::with_event;
-use orders::views::cut_to;
+use orders::views::View;
 use replays::light::LightHistory;
 use replays::replay::Light;
 
@@ -63,6 +63,6 @@ pub(crate) fn replay_row(
     if history.events[usize::from(e.0)].silent {
         return None;
     }
-    let cut = cut_to(view, row);
+    let cut = View { events: view }.cut_to(row);
     replay_object(history, &cut.events[..cut.count], e)
 }

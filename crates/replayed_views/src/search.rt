@@ -1,5 +1,5 @@
 // 16: the lowest view whose replay does not give a visible answer, and the first such event in it.
-ghost use Rattle.std.specs.Prelude.{◌≡◌, ℕ, ◌<◌, MatchOption};
+ghost use Rattle.std.specs.Prelude.{◌≡◌, ℕ, ◌<◌, length, MatchOption};
 ghost use Rattle.std.proofs.Math.Option.{none};
 ghost use Rattle.layout.specs.Options.{option_in};
 ghost use Rattle.criteria.specs.Tests.{lowest};
@@ -32,12 +32,12 @@ fn before<'a>(
     earlier: Option<usize>,
     k: usize,
 ) -> ShownView<'a>
-    requires { (k < views.now.count) × MatchOption earlier Unit (λ d. d < k) }
+    requires { (k < length views.now.numbers.now) × MatchOption earlier Unit (λ d. d < k) }
     ensures { (h : History) (s : Contents) → ((d : ℕ) → d < k → wrong_in h s who.now views.now.rows.now views.now.lengths.now d ≡ none) → first_wrong h (is_visible h result.seen) s result.view.now ≡ none }
 {
     match earlier {
         Some(d) => ShownView {
-            view: views.get(d),
+            view: views.get(d).events,
             seen: who[d],
         },
         None => ShownView {
@@ -68,15 +68,15 @@ fn wrong_answer(
 
 // The lowest view in which the replay does not give a visible answer, and the first such event.
 pub fn first_wrong(history: &LightHistory, views: &Views, who: &[Visible; 64]) -> Option<Place>
-    requires { (k : ℕ) → k < views.now.count → Ready history.now (view_at views.now.rows.now views.now.lengths.now k) }
-    ensures { option_in result ≡ lowest views.now.count (wrong_in (history_in history.now) (contents_in history.now.values history.now.starts) who.now views.now.rows.now views.now.lengths.now) }
+    requires { (k : ℕ) → k < length views.now.numbers.now → Ready history.now (view_at views.now.rows.now views.now.lengths.now k) }
+    ensures { option_in result ≡ lowest (length views.now.numbers.now) (wrong_in (history_in history.now) (contents_in history.now.values history.now.starts) who.now views.now.rows.now views.now.lengths.now) }
 {
     let rows = object_rows(&history.events);
-    let earlier = earlier_views(&history.events[..views.count]);
-    for k in 0..views.count {
+    let earlier = earlier_views(&history.events[..views.count()]);
+    for k in 0..views.count() {
         let known = before(views, who, earlier[k], k);
         let this = ShownView {
-            view: views.get(k),
+            view: views.get(k).events,
             seen: who[k],
         };
         if let Some(event) = wrong_answer(history, &rows, known, this, k) {

@@ -1,5 +1,5 @@
 -- Laws of the views that are completed: the last event that passes, two lists joined, a list that is completed. Assumes nothing.
-use Rattle.std.proofs.Common.{ℕ, zero, suc, ◌+◌, ◌-◌, ◌≤◌, ◌<◌, ◌≡◌, refl, sym, ap, ap₂, ◌∙◌, ◌⊎◌, inl, inr, Bool, true, false, not, cond, List, [], ◌∷◌, ◌++◌, length, get_or, take, drop, replicate, length-append, ltb, arith}
+use Rattle.std.proofs.Common.{ℕ, zero, suc, ◌+◌, ◌-◌, ◌≤◌, ◌<◌, ◌≡◌, refl, sym, ap, ap₂, ◌∙◌, ◌⊎◌, inl, inr, Bool, true, false, not, cond, List, [], ◌∷◌, ◌++◌, length, get_or, take, drop, replicate, length-append, ltb, eqb, eq-eqb, ne_eqb, Option, Some, None, MatchOption, unwrap_or, arith}
 use Rattle.std.proofs.Math.Seq.{take-append_seam, drop-append-add}
 use Rattle.std.proofs.lemmas.List.{drop-replicate, take-append-drop}
 use Rattle.std.proofs.lemmas.Slice.{take-put_mid, drop-put_mid}
@@ -13,6 +13,8 @@ use Rattle.criteria.specs.Tests.{highest, up_to, keep, one, mem, place}
 use Rattle.criteria.specs.Weaken.{completed}
 use Rattle.criteria.proofs.Lists.{by-test, or-true, count-append, count-keep, count-up_to, count-out, mem-append, mem-keep, mem-up_to, keep_append, place_in, Once, length-once}
 use Rattle.orders.specs.Rows.{in_row}
+use Rattle.layout.proofs.Cases.{by-eq}
+use Rattle.weakened.specs.Steps.{last_in}
 
 -- ---- the last number that passes
 pub last-below : (n : ℕ) (f : ℕ → Bool) → 0 < n → highest n f < n
@@ -30,6 +32,28 @@ last-below (suc n) f h = go n (f n)
     go : (n : ℕ) (b : Bool) → cond b n (highest n f) < suc n
     go n true = omega arith
     go n false = omega (arith, few n)
+
+-- ---- the last event of a process
+last-found : (n : ℕ) (f : ℕ → Bool) (e : ℕ) → e < n → f e ≡ true → ((k : ℕ) → e < k → k < n → f k ≡ false) → highest n f ≡ e
+last-found zero f e h t none = absurd (not-suc-le-zero h)
+last-found (suc n) f e h t none =
+    by-eq e n
+    (λ q. rw (ap f (sym q) ∙ t) (sym q))
+    (λ d. let l : e < n = omega (arith, h, d) in rw (none n l (omega arith)) (last-found n f e l t (λ k a b. none k a (omega arith))))
+
+last-none : (n : ℕ) (f : ℕ → Bool) → ((k : ℕ) → k < n → f k ≡ false) → highest n f ≡ 0
+last-none zero f none = refl
+last-none (suc n) f none = rw (none n (omega arith)) (last-none n f (λ k l. none k (omega arith)))
+
+-- where there is none, it is 0
+pub last-or_first : (ps : List ℕ) (p : ℕ) (r : Option ℕ)
+    → MatchOption r ((k : ℕ) → k < length ps → get_or ps k 0 ≡ p → ⊥)
+    (λ e. (e < length ps) × (get_or ps e 0 ≡ p) × ((k : ℕ) → e < k → k < length ps → get_or ps k 0 ≡ p → ⊥))
+    → (unwrap_or r 0 ≡ last_in (length ps) ps p) × (0 < length ps → unwrap_or r 0 < length ps)
+last-or_first ps p None none =
+    (sym (last-none (length ps) (λ e. eqb (get_or ps e 0) p) (λ k l. ne_eqb (get_or ps k 0) p (none k l))), λ l. l)
+last-or_first ps p (Some e) found =
+    (sym (last-found (length ps) (λ e. eqb (get_or ps e 0) p) e found.0 (eq-eqb (get_or ps e 0) p found.1) (λ k a b. ne_eqb (get_or ps k 0) p (found.2 k a b))), λ _. found.0)
 
 -- ---- two lists joined in a blank array
 module _ (a b : List ℕ) (few : length a + length b ≤ 64) where

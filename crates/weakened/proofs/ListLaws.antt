@@ -1,5 +1,5 @@
 -- Laws of lists of events in arrays. Assumes nothing.
-use Rattle.std.proofs.Common.{ℕ, suc, ◌+◌, ◌≤◌, ◌<◌, ◌≡◌, refl, sym, ap, ap₂, ◌∙◌, List, [], ◌∷◌, ◌++◌, length, take, drop, replicate, cond, eqb, true, false, arith, Bool, ltb, Option, Some, None, eq-eqb, ne_eqb, ltb-true, ltb-false, add-one, length-take, length-append, set, append-nil}
+use Rattle.std.proofs.Common.{ℕ, suc, ◌+◌, ◌≤◌, ◌<◌, ◌≡◌, refl, sym, ap, ap₂, ◌∙◌, List, [], ◌∷◌, ◌++◌, length, take, drop, replicate, cond, eqb, true, false, arith, Bool, ltb, Option, Some, None, eq-eqb, ne_eqb, ltb-true, ltb-false, add-one, length-take, append-nil}
 use Rattle.std.proofs.lemmas.List.{drop-replicate}
 use Rattle.std.specs.List.{position, position_or_len}
 use Rattle.std.proofs.lemmas.List.{take_all}
@@ -7,7 +7,6 @@ use native.Mathlib.Nat.{min-le_right}
 use Rattle.history.specs.Record.{pad}
 use Rattle.certificate.specs.declared.record.EventList.{EventList}
 use Rattle.certificate.specs.Record.{event_list_of}
-use Rattle.history.proofs.PadLaws.{pad-none, pad-set}
 use Rattle.criteria.specs.Tests.{place, keep, keep_if, up_to}
 use Rattle.criteria.proofs.Lists.{keep_append}
 use Rattle.criteria.specs.Weaken.{up_to_in}
@@ -67,46 +66,13 @@ module _ (e : ℕ) (v : List ℕ) where
   unfolding up_to_in
   up-to-none q = (sym (take_all (suc (place e v)) v (let l = place-none e v q in omega (arith, l))), omega arith)
 
--- ---- the numbers below e that pass, rising, in an array
-module _ (f : ℕ → Bool) where
-  -- as many as the count says, with zeros behind them
-  pub record Kept (count : ℕ) (events : List ℕ) (e : ℕ) : Type 0 where
-    pub few : count ≤ e
-    pub counted : count ≡ length (keep f (up_to e))
-    pub listed : events ≡ pad 64 0 (keep f (up_to e))
+-- ---- the numbers below e that pass, rising: one more, which passes or not
+module _ (f : ℕ → Bool) (e : ℕ) where
+  keep-next : keep f (up_to (e + 1)) ≡ keep f (up_to e) ++ keep_if (f e) e []
+  keep-next = rw add-one (keep_append f (up_to e) (e ∷ []))
 
-  keep-next : (e : ℕ) → keep f (up_to (e + 1)) ≡ keep f (up_to e) ++ keep_if (f e) e []
-  keep-next e = rw add-one (keep_append f (up_to e) (e ∷ []))
+  pub rising-kept : f e ≡ true → keep f (up_to e) ++ e ∷ [] ≡ keep f (up_to (e + 1))
+  rising-kept t = sym (keep-next ∙ rw t refl)
 
-  pub kept-none : (events : List ℕ) → events ≡ replicate 64 0 → Kept 0 events 0
-  kept-none events q = record { few = omega arith; counted = refl; listed = q ∙ sym (pad-none 64 0) }
-
-  module _ (count : ℕ) (events : List ℕ) (e : ℕ) (k : Kept count events e) where
-    pub kept-more : e < 64 → f e ≡ true → Kept (count + 1) (set events count e) (e + 1)
-    kept-more h t =
-        let next : keep f (up_to (e + 1)) ≡ keep f (up_to e) ++ e ∷ [] = keep-next e ∙ rw t refl in
-        record {
-          few = omega (arith, k.few);
-          counted = ap (λ (n : ℕ). n + 1) k.counted ∙ sym (ap length next ∙ length-append (keep f (up_to e)) (e ∷ []));
-          listed =
-              ap (λ (l : List ℕ). set l count e) k.listed
-              ∙ pad-set 64 0 (keep f (up_to e)) count e k.counted (omega (arith, k.few))
-              ∙ ap (pad 64 0) (sym next);
-        }
-
-    pub kept-less : f e ≡ false → Kept count events (e + 1)
-    kept-less t =
-        let next : keep f (up_to (e + 1)) ≡ keep f (up_to e) = keep-next e ∙ rw t (append-nil (keep f (up_to e))) in
-        record {
-          few = omega (arith, k.few);
-          counted = k.counted ∙ ap length (sym next);
-          listed = k.listed ∙ ap (pad 64 0) (sym next);
-        }
-
-    pub kept-done : (n : ℕ) → e ≡ n
-        → (◌≡◌ {A = EventList} (record { count = count; events = events }) (event_list_of (keep f (up_to n)))) × (count ≤ n)
-    unfolding event_list_of
-    kept-done n z = (
-      ap₂ {C = EventList} (λ (m : ℕ) (l : List ℕ). record { count = m; events = l }) k.counted k.listed ∙ ap (λ (m : ℕ). event_list_of (keep f (up_to m))) z,
-      omega (arith, k.few, z),
-    )
+  pub rising-left : f e ≡ false → keep f (up_to e) ≡ keep f (up_to (e + 1))
+  rising-left t = sym (keep-next ∙ rw t (append-nil (keep f (up_to e))))

@@ -1,9 +1,9 @@
 -- Laws of the lists that are made of a sequential order. Assumes nothing.
 use Rattle.std.proofs.Common.{ℕ, ◌+◌, ◌<◌, ◌≡◌, refl, sym, ap, ap₂, ◌∙◌, true, List, map, length, take, set, replicate, ltb, lt-ltb, ltb-true, arith}
 use Rattle.history.specs.Record.{pad}
-use Rattle.history.proofs.PadLaws.{pad-none, take-pad}
+use Rattle.history.proofs.PadLaws.{pad-none}
 use Rattle.certificate.specs.declared.record.EventList.{EventList}
-use Rattle.certificate.specs.Record.{no_list, event_list_of, entries_in}
+use Rattle.certificate.specs.Record.{no_list, event_list_of}
 use Rattle.criteria.specs.Tests.{table, up_to, keep, mem, place}
 use Rattle.criteria.specs.Weaken.{precedes, pasts_of}
 use Rattle.criteria.proofs.Lists.{by-test, same_test, place_in, place_out, mem-take, take-mem, keep-cong}
@@ -44,8 +44,3 @@ pub pasts-done : (v : List ℕ) (i : ℕ) (out : List EventList) → i ≡ lengt
     → out ≡ pad 64 no_list (map event_list_of (pasts_of (length v) (precedes v)))
 unfolding pasts_of
 pasts-done v i out z e = e ∙ ap (λ (k : ℕ). pad 64 no_list (map event_list_of (table k (past_of v)))) z
-
--- ---- a view in its row
-pub list-entries : (l : EventList) (v : List ℕ) → l ≡ event_list_of v → entries_in l ≡ v
-unfolding event_list_of
-list-entries l v e = ap entries_in e ∙ take-pad 64 0 v

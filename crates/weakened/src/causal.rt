@@ -1,5 +1,5 @@
 // From causal to pram: the view of the process's last event, then all other events rising.
-ghost use Rattle.std.specs.Prelude.{◌≡◌, ℕ, ◌+◌, ◌≤◌, ◌<◌, ◌++◌, length, get_or};
+ghost use Rattle.std.specs.Prelude.{◌≡◌, ℕ, ◌+◌, ◌≤◌, ◌<◌, ◌++◌, length, get_or, MatchOption};
 ghost use Rattle.certificate.specs.Record.{event_list_of};
 ghost use Rattle.criteria.specs.Tests.{table, count};
 ghost use Rattle.criteria.specs.Weaken.{completed};
@@ -10,19 +10,13 @@ use crate::list::rising;
 use crate::views::{ViewRows, view_rows};
 use certificate::record::EventList;
 use orders::sets::others;
-use orders::views::{Views, marks};
+use orders::views::{View, Views};
 
-// The last of the events, by their processes, that is of the process, or 0.
-fn last_of(processes: &[u8], p: u8) -> usize
-    ensures { (result ≡ last_in (length processes.now) processes.now p) × (0 < length processes.now → result < length processes.now) }
+// The last of the events, by their processes, that is of the process.
+fn last_of(processes: &[u8], p: u8) -> Option<usize>
+    ensures { MatchOption result ((k : ℕ) → k < length processes.now → get_or processes.now k 0 ≡ p → ⊥) (λ e. (e < length processes.now) × (get_or processes.now e 0 ≡ p) × ((k : ℕ) → e < k → k < length processes.now → get_or processes.now k 0 ≡ p → ⊥)) }
 {
-    let mut last = 0;
-    for (e, q) in processes.iter().enumerate() {
-        if *q == p {
-            last = e;
-        }
-    }
-    last
+    processes.iter().rposition(|q| *q == p)
 }
 
 // The list of the entries of one view and then those of another.
@@ -38,25 +32,26 @@ fn joined(first: &[u8], second: &[u8]) -> EventList
 }
 
 // The events of a view, none twice, then all others of n events, rising.
-fn completed_view(view: &[u8], n: usize) -> EventList
-    requires { (n ≤ 64) × (length view.now ≤ 64) × ((i : ℕ) → i < length view.now → get_or view.now i 0 < n) × ((e : ℕ) → count e view.now ≤ 1) }
-    ensures { (result ≡ event_list_of (completed n view.now)) × (result.count ≤ 64) }
+fn completed_view(view: &View, n: usize) -> EventList
+    requires { (n ≤ 64) × ((i : ℕ) → i < length view.now.events.now → get_or view.now.events.now i 0 < n) × ((e : ℕ) → count e view.now.events.now ≤ 1) }
+    ensures { (result ≡ event_list_of (completed n view.now.events.now)) × (result.count ≤ 64) }
 {
-    let behind = rising(others(marks(view)), n);
-    joined(view, &behind.events[..behind.count])
+    let behind = rising(others(view.marks()), n);
+    joined(view.events, &behind.events[..behind.count])
 }
 
-// The view of the last event, by the processes of the events, that is of process p, completed.
+// The view of the last event, by the processes of the events, that is of process p, completed; the first view where there is none.
 fn completed_last(processes: &[u8], views: &Views, p: u8) -> EventList
-    requires { (length processes.now ≤ views.now.count) × (0 < length processes.now) × EventViews views.now.rows.now views.now.lengths.now (length processes.now) (length processes.now) × ((k : ℕ) → k < length processes.now → (e : ℕ) → count e (view_at views.now.rows.now views.now.lengths.now k) ≤ 1) }
+    requires { (length processes.now ≤ length views.now.numbers.now) × (0 < length processes.now) × EventViews views.now.rows.now views.now.lengths.now (length processes.now) (length processes.now) × ((k : ℕ) → k < length processes.now → (e : ℕ) → count e (view_at views.now.rows.now views.now.lengths.now k) ≤ 1) }
     ensures { (result ≡ event_list_of (completed (length processes.now) (view_at views.now.rows.now views.now.lengths.now (last_in (length processes.now) processes.now p)))) × (result.count ≤ 64) }
 {
-    completed_view(views.get(last_of(processes, p)), processes.len())
+    let last = last_of(processes, p).unwrap_or(0);
+    completed_view(&views.get(last), processes.len())
 }
 
-// The views of the processes, whose numbers these are, of the events of these processes.
+// The views of the processes, whose numbers these are, of the views of the events of these processes.
 pub fn completed_views(processes: &[u8], views: &Views, numbers: &[u8]) -> ViewRows
-    requires { (length processes.now ≤ views.now.count) × (length numbers.now ≤ 64) × (length processes.now ≡ 0 → length numbers.now ≡ 0) × EventViews views.now.rows.now views.now.lengths.now (length processes.now) (length processes.now) × ((k : ℕ) → k < length processes.now → (e : ℕ) → count e (view_at views.now.rows.now views.now.lengths.now k) ≤ 1) }
+    requires { (length processes.now ≤ length views.now.numbers.now) × (length numbers.now ≤ 64) × (length processes.now ≡ 0 → length numbers.now ≡ 0) × EventViews views.now.rows.now views.now.lengths.now (length processes.now) (length processes.now) × ((k : ℕ) → k < length processes.now → (e : ℕ) → count e (view_at views.now.rows.now views.now.lengths.now k) ≤ 1) }
     ensures { result ≡ view_rows_of (table (length numbers.now) (λ k. completed (length processes.now) (view_at views.now.rows.now views.now.lengths.now (last_in (length processes.now) processes.now (get_or numbers.now k 0))))) }
 {
     view_rows(

@@ -5,10 +5,12 @@ ghost use Rattle.criteria.specs.Tests.{keep, up_to, place};
 ghost use Rattle.criteria.specs.Weaken.{up_to_in};
 ghost use Rattle.orders.specs.Rows.{in_row};
 
+use certificate::list::no_list;
 use certificate::record::EventList;
 use orders::sets::in_row;
 
 // The list of the entries of a view, with zeros behind them.
+// Kept: a slice, also in `up_to_views` and `whole_views`: a `View` would ask that the entries are below 64, which these do not.
 pub(crate) fn list_of(view: &[u8]) -> EventList
     requires { length view.now ≤ 64 }
     ensures { (result ≡ event_list_of view.now) × (result.count ≤ 64) }
@@ -54,13 +56,11 @@ pub(crate) fn rising(row: u64, n: usize) -> EventList
     requires { n ≤ 64 }
     ensures { (result ≡ event_list_of (keep (in_row row) (up_to n))) × (result.count ≤ n) }
 {
-    let mut events = [0u8; 64];
-    let mut count = 0;
+    let mut list = no_list();
     for e in 0..n {
         if in_row(row, e) {
-            events[count] = e as u8;
-            count += 1;
+            list.push(e as u8);
         }
     }
-    EventList { count, events }
+    list
 }

@@ -1,5 +1,5 @@
 // From sequential: past(e) is what precedes e; views are the whole order, or its part up to and with e.
-ghost use Rattle.std.specs.Prelude.{◌≡◌, ℕ, ◌≤◌, ◌<◌, true, map, length, get_or};
+ghost use Rattle.std.specs.Prelude.{◌≡◌, ℕ, ◌≤◌, ◌<◌, true, map, length};
 ghost use Rattle.history.specs.Record.{pad};
 ghost use Rattle.certificate.specs.Record.{no_list, event_list_of};
 ghost use Rattle.criteria.specs.Tests.{keep, up_to, table, mem};
@@ -10,23 +10,26 @@ use crate::list::{before_event, list_of, rising, up_to_event};
 use crate::views::{ViewRows, view_rows};
 use certificate::list::no_list;
 use certificate::record::EventList;
-use orders::views::marks;
+use orders::views::View;
 
 // The events that precede e, rising.
-fn preceding(view: &[u8], e: u8) -> EventList
-    requires { (length view.now ≤ 64) × ((k : ℕ) → k < length view.now → get_or view.now k 0 < 64) × (mem e view.now ≡ true) }
-    ensures { result ≡ event_list_of (keep (λ f. precedes view.now f e) (up_to (length view.now))) }
+fn preceding(view: &View, e: u8) -> EventList
+    requires { mem e view.now.events.now ≡ true }
+    ensures { result ≡ event_list_of (keep (λ f. precedes view.now.events.now f e) (up_to (length view.now.events.now))) }
 {
-    rising(marks(before_event(view, e)), view.len())
+    let before = View {
+        events: before_event(view.events, e),
+    };
+    rising(before.marks(), view.events.len())
 }
 
 // The pasts of the events of the view.
-pub fn preceding_pasts(view: &[u8]) -> [EventList; 64]
-    requires { (length view.now ≤ 64) × ((k : ℕ) → k < length view.now → get_or view.now k 0 < 64) × ((e : ℕ) → e < length view.now → mem e view.now ≡ true) }
-    ensures { result ≡ pad 64 no_list (map event_list_of (pasts_of (length view.now) (precedes view.now))) }
+pub fn preceding_pasts(view: &View) -> [EventList; 64]
+    requires { (e : ℕ) → e < length view.now.events.now → mem e view.now.events.now ≡ true }
+    ensures { result ≡ pad 64 no_list (map event_list_of (pasts_of (length view.now.events.now) (precedes view.now.events.now))) }
 {
     let mut pasts = [no_list(); 64];
-    for e in 0..view.len() {
+    for e in 0..view.events.len() {
         pasts[e] = preceding(view, e as u8);
     }
     pasts

@@ -13,23 +13,20 @@ use certificate::record::EventList;
 use orders::views::Views;
 
 // The part up to and with event e of the view whose number is p.
-fn own_part(views: &Views, numbers: &[u8], p: u8, e: u8) -> EventList
-    requires { (length numbers.now ≤ views.now.count) × (place p numbers.now < length numbers.now) }
-    ensures { (result ≡ event_list_of (up_to_in (view_at views.now.rows.now views.now.lengths.now (place p numbers.now)) e)) × (result.count ≤ 64) }
+fn own_part(views: &Views, p: u8, e: u8) -> EventList
+    requires { place p views.now.numbers.now < length views.now.numbers.now }
+    ensures { (result ≡ event_list_of (up_to_in (view_at views.now.rows.now views.now.lengths.now (place p views.now.numbers.now)) e)) × (result.count ≤ 64) }
 {
-    match place_of(numbers, p) {
-        Some(at) => list_of(up_to_event(views.get(at), e)),
+    match place_of(views.numbers, p) {
+        Some(at) => list_of(up_to_event(views.get(at).events, e)),
         None => no_list(),
     }
 }
 
 // The views of the events of these processes, of views whose numbers are those of the processes.
-pub fn own_parts(processes: &[u8], views: &Views, numbers: &[u8]) -> ViewRows
-    requires { (length processes.now ≤ 64) × (length numbers.now ≤ views.now.count) × ((e : ℕ) → e < length processes.now → place (get_or processes.now e 0) numbers.now < length numbers.now) }
-    ensures { result ≡ view_rows_of (table (length processes.now) (λ e. up_to_in (view_at views.now.rows.now views.now.lengths.now (place (get_or processes.now e 0) numbers.now)) e)) }
+pub fn own_parts(processes: &[u8], views: &Views) -> ViewRows
+    requires { (length processes.now ≤ 64) × ((e : ℕ) → e < length processes.now → place (get_or processes.now e 0) views.now.numbers.now < length views.now.numbers.now) }
+    ensures { result ≡ view_rows_of (table (length processes.now) (λ e. up_to_in (view_at views.now.rows.now views.now.lengths.now (place (get_or processes.now e 0) views.now.numbers.now)) e)) }
 {
-    view_rows(
-        processes.len(),
-        |e| own_part(views, numbers, processes[e], e as u8),
-    )
+    view_rows(processes.len(), |e| own_part(views, processes[e], e as u8))
 }

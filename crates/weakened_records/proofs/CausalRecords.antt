@@ -33,9 +33,11 @@ use Rattle.weakened.specs.declared.views.ViewRows.{ViewRows}
 use Rattle.weakened.specs.Steps.{lengths_of, view_rows_of, last_in}
 use Rattle.weakened_records.specs.declared.records.ViewedRecord.{ViewedRecord}
 use Rattle.weakened.proofs.CausalLaws.{last-below}
+use Rattle.orders.proofs.ViewLaws.{view-first, views-first}
+use Rattle.faults.proofs.RecordFacts.{numbers-in}
 use Rattle.faults.proofs.CheckLaws.{process-of, event-views, view-same}
 use Rattle.weakened_records.proofs.PassedLaws.{size-passed, few-passed, few-numbers, pasts-passed, lengths-passed, rows-passed, good-passed}
-use Rattle.weakened_records.proofs.RecordLaws.{record-made, named-list, same-criterion}
+use Rattle.weakened_records.proofs.RecordLaws.{record-made, same-criterion}
 use Rattle.weakened_records.specs.Steps.{Passed, IsRecordOf}
 
 -- ---- searches of what agrees below n
@@ -100,7 +102,7 @@ module _ (h : WrittenHistory.History) (c : WrittenCertificate.Certificate) (rows
     qs = take h.count ps
 
     named-is : ns ≡ view_numbers Pram (events_in h)
-    named-is = named-list named _ numbered
+    named-is = numbers-in named _ numbered
 
     events-long : length qs ≡ h.count
     events-long = length-take-le h.count ps (omega (arith, long, few-passed h c rows p))
@@ -108,11 +110,20 @@ module _ (h : WrittenHistory.History) (c : WrittenCertificate.Certificate) (rows
     pub none-without : length qs ≡ 0 → length ns ≡ 0
     none-without z = ap length named-is ∙ no-views h.count h.events (omega (arith, z, events-long))
 
-    pub listed-events : EventViews rows c.lengths (length qs) (length qs)
-    listed-events = subst (λ (n : ℕ). EventViews rows c.lengths n n) (sym events-long) lists-events
+    -- the first views, one an event
+    abbrev vs : List (List ℕ)
+    vs = take h.count rows
 
-    pub listed-once : (k : ℕ) → k < length qs → Once (view_at rows c.lengths k)
-    listed-once k l = lists-once k (omega (arith, l, events-long))
+    abbrev ls : List ℕ
+    ls = take h.count c.lengths
+
+    pub listed-events : EventViews vs ls (length qs) (length qs)
+    listed-events = subst (λ (n : ℕ). EventViews vs ls n n) (sym events-long) (views-first rows c.lengths h.count h.count lists-events)
+
+    pub listed-once : (k : ℕ) → k < length qs → Once (view_at vs ls k)
+    listed-once k l =
+        let b : k < h.count = omega (arith, l, events-long) in
+        subst Once (sym (view-first rows c.lengths h.count k b)) (lists-once k b)
 
     last-is : (k : ℕ) → last_in h.count qs k ≡ last_of (history_of h) k
     unfolding last_of
@@ -130,16 +141,17 @@ module _ (h : WrittenHistory.History) (c : WrittenCertificate.Certificate) (rows
     some-events l = by-lt 0 h.count (λ m. m) (λ m. absurd (omega (arith, l, none-without (omega (arith, m, events-long)))))
 
     abbrev made_at : ℕ → List ℕ
-    made_at k = completed (length qs) (view_at rows c.lengths (last_in (length qs) qs (get_or ns k 0)))
+    made_at k = completed (length qs) (view_at vs ls (last_in (length qs) qs (get_or ns k 0)))
 
     made-is : (k : ℕ) → k < length ns → made_at k ≡ last_view (history_of h) (certificate_of h c rows).views k
     made-is k l =
         let n : get_or ns k 0 ≡ get_or (processes (history_of h)) k 0 =
         ap (λ (x : List ℕ). get_or x k 0) named-is ∙ sym (view-number Pram h k (omega (arith, l, views-count))) in
         let b = last-below h.count (λ e. eqb (get_or qs e 0) (get_or ns k 0)) (some-events (omega (arith, l))) in
-        ap (λ (m : ℕ). completed m (view_at rows c.lengths (last_in m qs (get_or ns k 0)))) events-long
+        ap (λ (m : ℕ). completed m (view_at vs ls (last_in m qs (get_or ns k 0)))) events-long
         ∙ ap₂ completed (sym (size-passed h c rows p))
-        (view-is (last_in h.count qs (get_or ns k 0)) b
+        (view-first rows c.lengths h.count (last_in h.count qs (get_or ns k 0)) b
+        ∙ view-is (last_in h.count qs (get_or ns k 0)) b
         ∙ ap (λ (e : ℕ). get_or (certificate_of h c rows).views e []) (last-is (get_or ns k 0) ∙ ap (last_of (history_of h)) n))
 
     views-are : table (length ns) made_at ≡ table (view_count Pram (history_of h)) (last_view (history_of h) (certificate_of h c rows).views)

@@ -1,10 +1,13 @@
 -- From converge to weak: what a certificate that passed gives to the cut of its view, and the record that is made. Assumes nothing.
 use Prim.Native.Nat.{ℕ}
 use mathlib.Core.Path.{◌≡◌, refl, sym, ap, ap₂, ◌∙◌}
-use mathlib.Core.Bool.{Bool}
+use native.Mathlib.Omega.{arith}
+use mathlib.Core.Bool.{Bool, ◌||◌}
 use mathlib.Core.List.{List, [], map}
 use mathlib.Core.Option.{some}
-use lib.ListN.{get_or, take}
+use lib.Dec.{eqb}
+use lib.ListN.{length, get_or, take}
+use lib.Seq.{get_or-take, length-take-le}
 use Rattle.history.specs.declared.record.History as WrittenHistory
 use Rattle.certificate.specs.declared.record.Criterion.{Criterion}
 use Rattle.certificate.specs.declared.record.Criterion.TheVariants.{Weak, Converge}
@@ -16,17 +19,24 @@ use Rattle.criteria.specs.History.{History, size, past_with}
 use Rattle.criteria.specs.Certificate.{Certificate, listed, order}
 use Rattle.criteria.specs.Weaken.{weakened_from, weakened}
 use Rattle.criteria.specs.Records.{history_of, certificate_of}
-use Rattle.orders.specs.Rows.{in_rows, IsOrder}
+use Rattle.criteria.proofs.Lists.{table_below}
+use Rattle.orders.specs.Rows.{in_row, in_rows, IsOrder}
 use Rattle.weakened.specs.declared.views.ViewRows.{ViewRows}
 use Rattle.weakened.specs.Steps.{lengths_of, view_rows_of}
 use Rattle.weakened_records.specs.declared.records.ViewedRecord.{ViewedRecord}
-use Rattle.weakened_records.proofs.PassedLaws.{size-passed, pasts-passed, one-begins}
+use Rattle.weakened_records.proofs.PassedLaws.{size-passed, few-passed, pasts-passed, one-begins}
 use Rattle.weakened_records.proofs.RecordLaws.{record-made, same-criterion, pasts-order}
 use Rattle.weakened_records.specs.Steps.{Passed, IsRecordOf}
 
 -- ---- the weakened certificate
 abbrev cut_views : ℕ → (ℕ → ℕ → Bool) → List ℕ → List (List ℕ)
 cut_views n R v = table n (λ e. keep (past_with R e) v)
+
+-- the rows of the first n events are enough
+rows-first : (n : ℕ) (rows v : List ℕ) → cut_views n (in_rows (take n rows)) v ≡ cut_views n (in_rows rows) v
+rows-first n rows v =
+    table_below n (λ e. keep (past_with (in_rows (take n rows)) e) v) (λ e. keep (past_with (in_rows rows) e) v)
+    (λ e l. ap (λ (row : ℕ). keep (λ f. in_row row f || eqb f e) v) (get_or-take n rows e 0 l))
 
 converge-weak : (h : History) (c : Certificate) → c.criterion ≡ Converge
     → weakened Weak h c ≡ some record { criterion = Weak; pasts = c.pasts; views = cut_views (size h) (order h c) (get_or c.views 0 []) }
@@ -43,8 +53,13 @@ module _ (h : WrittenHistory.History) (c : WrittenCertificate.Certificate) (rows
 
     pub converge-record : (r : ViewedRecord) (made : ViewRows)
         → (r.certificate ≡ record { criterion = Weak; pasts = c.pasts; lengths = made.lengths }) × (r.views ≡ made.rows)
-        → made ≡ view_rows_of (cut_views h.count (in_rows rows_of_lem) (take h.count (get_or rows 0 [])))
+        → length rows_of_lem ≡ 64
+        → made ≡ view_rows_of (cut_views (length (take h.count rows_of_lem)) (in_rows (take h.count rows_of_lem)) (take h.count (get_or rows 0 [])))
         → IsRecordOf (weakened Weak (history_of h) (certificate_of h c rows)) r.certificate r.views
-    converge-record r made built m =
+    converge-record r made built long m =
+        let all =
+        ap (λ (n : ℕ). cut_views n (in_rows (take h.count rows_of_lem)) (take h.count (get_or rows 0 []))) (length-take-le h.count rows_of_lem (omega (arith, long, few-passed h c rows p)))
+        ∙ rows-first h.count rows_of_lem (take h.count (get_or rows 0 []))
+        ∙ views-are in
         record-made _ Weak _ _ r c.pasts made built (converge-weak (history_of h) (certificate_of h c rows) (same-criterion h c rows Converge q))
-        (pasts-passed h c rows p) (ap (λ (x : ViewRows). x.rows) m ∙ ap rows_of views-are) (ap (λ (x : ViewRows). x.lengths) m ∙ ap lengths_of views-are)
+        (pasts-passed h c rows p) (ap (λ (x : ViewRows). x.rows) m ∙ ap rows_of all) (ap (λ (x : ViewRows). x.lengths) m ∙ ap lengths_of all)

@@ -8,7 +8,6 @@ use lib.ListN.{length, get_or, take}
 use Rattle.history.specs.declared.record.History as WrittenHistory
 use Rattle.history.specs.Record.{events_in, pad}
 use Rattle.history.specs.Readable.{within}
-use Rattle.history.proofs.PadLaws.{take-pad}
 use Rattle.certificate.specs.declared.record.Criterion.{Criterion}
 use Rattle.certificate.specs.declared.record.Criterion.TheVariants.{Pram, Weak, Causal, Converge, Sequential, Strict}
 use Rattle.certificate.specs.declared.record.EventList.{EventList}
@@ -52,11 +51,6 @@ pub record-made : (o : Option Certificate) (w : Criterion) (pasts views : List (
     → made.rows ≡ rows_of views → made.lengths ≡ lengths_of views → IsRecordOf o r.certificate r.views
 record-made o w pasts views r ps made built q p a b =
     is-record o w pasts views r.certificate r.views q (built.0 ∙ record-parts w ps made.lengths pasts views p b) (built.1 ∙ a)
-
--- the numbers of views in a list
-pub named-list : (x : ViewNumbers) (ns : List ℕ) → x ≡ view_numbers_of ns → take x.count x.numbers ≡ ns
-unfolding view_numbers_of
-named-list x ns q = ap (λ (y : ViewNumbers). take y.count y.numbers) q ∙ take-pad 64 0 ns
 
 -- ---- the order of a record with pasts
 pub pasts-order : (h : WrittenHistory.History) (c : WrittenCertificate.Certificate) (rows : List (List ℕ)) → within h ≡ true → has_pasts c.criterion ≡ true

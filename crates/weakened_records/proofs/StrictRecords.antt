@@ -27,13 +27,15 @@ use Rattle.criteria.proofs.Lists.{table_below, place_in}
 use Rattle.criteria.proofs.Meeting.{process-listed}
 use Rattle.criteria.proofs.RecordLaws.{processes-are, view-count}
 use Rattle.orders.specs.Rows.{view_at}
+use Rattle.orders.proofs.ViewLaws.{view-first}
+use Rattle.faults.proofs.RecordFacts.{numbers-in, numbers-long}
 use Rattle.faults.proofs.CheckLaws.{few-of, process-at, view-same}
 use Rattle.weakened.specs.declared.views.ViewRows.{ViewRows}
 use Rattle.weakened.specs.Steps.{lengths_of, view_rows_of}
 use Rattle.weakened_records.specs.declared.records.ViewedRecord.{ViewedRecord}
 use Rattle.weakened_records.specs.Steps.{Passed, IsRecordOf}
 use Rattle.weakened_records.proofs.PassedLaws.{size-passed, few-numbers, processes-passed, pasts-passed, lengths-passed, rows-passed}
-use Rattle.weakened_records.proofs.RecordLaws.{record-made, named-list, same-criterion}
+use Rattle.weakened_records.proofs.RecordLaws.{record-made, same-criterion}
 
 -- ---- the weakened certificates
 strict-pram : (h : History) (c : Certificate) → c.criterion ≡ Strict → weakened Pram h c ≡ some record { criterion = Pram; pasts = []; views = c.views }
@@ -80,10 +82,10 @@ module _ (h : WrittenHistory.History) (c : WrittenCertificate.Certificate) (rows
 
     numbers-are : ns ≡ processes (history_of h)
     unfolding view_numbers
-    numbers-are = named-list named _ numbered ∙ sym (processes-are h)
+    numbers-are = numbers-in named _ numbered ∙ sym (processes-are h)
 
     views-count : length ns ≡ view_count Strict (history_of h)
-    views-count = ap length (named-list named _ numbered) ∙ sym (view-count Strict h)
+    views-count = ap length (numbers-in named _ numbered) ∙ sym (view-count Strict h)
 
     -- the place of the view of e's process
     abbrev slot_at : ℕ → ℕ
@@ -99,14 +101,15 @@ module _ (h : WrittenHistory.History) (c : WrittenCertificate.Certificate) (rows
         (process-listed (history_of h) e (processes-passed h c rows p) (omega (arith, l, size-passed h c rows p))) in
         omega (arith, z.0, slot_is e l, views-count)
 
-    view-is : (k : ℕ) → k < length ns → view_at rows c.lengths k ≡ get_or vs k []
+    view-is : (k : ℕ) → k < length ns → view_at (take named.count rows) (take named.count c.lengths) k ≡ get_or vs k []
     unfolding certificate_of
-    view-is =
-        view-same h p.history c rows p.certificate (few-numbers h c rows p c.criterion) (length ns)
-        (ap length (named-list named _ numbered) ∙ ap (λ (w : Criterion). length (view_numbers w (events_in h))) (sym q))
+    view-is k l =
+        view-first rows c.lengths named.count k (omega (arith, l, numbers-long named _ numbered))
+        ∙ view-same h p.history c rows p.certificate (few-numbers h c rows p c.criterion) (length ns)
+        (ap length (numbers-in named _ numbered) ∙ ap (λ (w : Criterion). length (view_numbers w (events_in h))) (sym q)) k l
 
     abbrev made_at : ℕ → List ℕ
-    made_at e = up_to_in (view_at rows c.lengths (slot_at e)) e
+    made_at e = up_to_in (view_at (take named.count rows) (take named.count c.lengths) (slot_at e)) e
 
     views-are : table (length qs) made_at ≡ table (size (history_of h)) (own_part (history_of h) vs)
     unfolding own_part

@@ -1,5 +1,5 @@
 // The record of a weakened certificate, with the rows of its views beside it.
-ghost use Rattle.std.specs.Prelude.{◌≡◌, ℕ, ◌≤◌, ◌<◌, true, cond, [], map, length, get_or, replicate};
+ghost use Rattle.std.specs.Prelude.{◌≡◌, ℕ, ◌≤◌, ◌<◌, true, cond, [], map, length, replicate};
 ghost use Rattle.history.specs.Record.{pad};
 ghost use Rattle.certificate.specs.declared.record.Criterion.TheVariants.{Pram, Weak, Causal, Converge, Sequential, Strict};
 ghost use Rattle.certificate.specs.Record.{no_list, event_list_of};
@@ -18,7 +18,7 @@ use certificate::record::{Certificate, Criterion, EventList};
 use faults::order::processes_of;
 use history::record::History;
 use orders::listed::past_rows;
-use orders::views::Views;
+use orders::views::{View, Views};
 use weakened::causal::completed_views;
 use weakened::converge::cut_views;
 use weakened::sequential::{preceding_pasts, up_to_views, whole_views};
@@ -40,6 +40,7 @@ pub fn no_pasts() -> [EventList; 64]
 }
 
 // The record of a criterion, pasts and views.
+// Kept: rows and lengths are named first: tried with `made.rows` in the literal, and the borrow checker does not cover it yet.
 fn record_of(criterion: Criterion, pasts: [EventList; 64], made: ViewRows) -> ViewedRecord
     ensures { (result.certificate ≡ record { criterion = criterion; pasts = pasts; lengths = made.lengths }) × (result.views ≡ made.rows) }
 {
@@ -58,15 +59,16 @@ fn record_of(criterion: Criterion, pasts: [EventList; 64], made: ViewRows) -> Vi
 fn views_of(of: &ViewedRecord) -> ViewRows
     ensures { (result.rows ≡ of.now.views) × (result.lengths ≡ of.now.certificate.lengths) }
 {
-    let rows = of.views;
-    let lengths = of.certificate.lengths;
-    ViewRows { rows, lengths }
+    ViewRows {
+        rows: of.views,
+        lengths: of.certificate.lengths,
+    }
 }
 
 // From sequential: past(e) is what precedes e, where the criterion wanted has pasts.
-fn order_pasts(wanted: Criterion, order: &[u8]) -> [EventList; 64]
-    requires { (length order.now ≤ 64) × ((k : ℕ) → k < length order.now → get_or order.now k 0 < 64) × ((e : ℕ) → e < length order.now → mem e order.now ≡ true) }
-    ensures { result ≡ pad 64 no_list (map event_list_of (cond (has_pasts wanted) (pasts_of (length order.now) (precedes order.now)) [])) }
+fn order_pasts(wanted: Criterion, order: &View) -> [EventList; 64]
+    requires { (e : ℕ) → e < length order.now.events.now → mem e order.now.events.now ≡ true }
+    ensures { result ≡ pad 64 no_list (map event_list_of (cond (has_pasts wanted) (pasts_of (length order.now.events.now) (precedes order.now.events.now)) [])) }
 {
     if has_pasts(wanted) {
         preceding_pasts(order)
@@ -76,116 +78,134 @@ fn order_pasts(wanted: Criterion, order: &[u8]) -> [EventList; 64]
 }
 
 // From sequential: each view is the part of the order up to and with its event, or each of m views is the whole order.
-fn order_views(wanted: Criterion, order: &[u8], m: usize) -> ViewRows
-    requires { (length order.now ≤ 64) × (m ≤ 64) }
-    ensures { result ≡ view_rows_of (cond (event_each wanted) (table (length order.now) (up_to_in order.now)) (table m (λ _. order.now))) }
+fn order_views(wanted: Criterion, order: &View, m: usize) -> ViewRows
+    requires { m ≤ 64 }
+    ensures { result ≡ view_rows_of (cond (event_each wanted) (table (length order.now.events.now) (up_to_in order.now.events.now)) (table m (λ _. order.now.events.now))) }
 {
     if event_each(wanted) {
-        up_to_views(order)
+        up_to_views(order.events)
     } else {
-        whole_views(order, m)
+        whole_views(order.events, m)
     }
 }
 
-// From sequential to any other criterion.
-fn sequential_to_other(h: &History, of: &ViewedRecord, wanted: Criterion) -> ViewedRecord
-    requires { (of.now.certificate.criterion ≡ Sequential) × Passed h.now of.now.certificate of.now.views × (wanted ≡ Sequential → ⊥) }
-    ensures { IsRecordOf (weakened wanted (history_of h.now) (certificate_of h.now of.now.certificate of.now.views)) result.certificate result.views }
-{
-    let order = &of.views[0];
-    let order = &order[..h.count];
-    let named = view_numbers(wanted, &h.events[..h.count]);
-    let pasts = order_pasts(wanted, order);
-    record_of(wanted, pasts, order_views(wanted, order, named.count))
+// A certificate that passed the check of its history, with the rows of its views.
+#[derive(Clone, Copy)]
+struct Passing<'a> {
+    h: &'a History,
+    of: &'a ViewedRecord,
+    ghost passed: { Passed h.now of.now.certificate of.now.views },
+    ghost few: { h.now.count ≤ 64 },
 }
 
-fn from_sequential(h: &History, of: &ViewedRecord, wanted: Criterion) -> ViewedRecord
-    requires { (of.now.certificate.criterion ≡ Sequential) × Passed h.now of.now.certificate of.now.views }
-    ensures { IsRecordOf (weakened wanted (history_of h.now) (certificate_of h.now of.now.certificate of.now.views)) result.certificate result.views }
-{
-    match wanted {
-        Criterion::Sequential => *of,
-        _ => sequential_to_other(h, of, wanted),
+impl Passing<'_> {
+    // From sequential to any other criterion.
+    fn sequential_to_other(&self, wanted: Criterion) -> ViewedRecord
+        requires { (self.now.of.now.certificate.criterion ≡ Sequential) × (wanted ≡ Sequential → ⊥) }
+        ensures { IsRecordOf (weakened wanted (history_of self.now.h.now) (certificate_of self.now.h.now self.now.of.now.certificate self.now.of.now.views)) result.certificate result.views }
+    {
+        let n = self.h.count;
+        let line = &self.of.views[0];
+        let order = View { events: &line[..n] };
+        let named = view_numbers(wanted, &self.h.events[..n]);
+        let pasts = order_pasts(wanted, &order);
+        record_of(wanted, pasts, order_views(wanted, &order, named.count))
     }
-}
 
-// From converge to weak: the same pasts, and the view cut to past(e) and e.
-fn converge_to_weak(h: &History, of: &ViewedRecord) -> ViewedRecord
-    requires { (of.now.certificate.criterion ≡ Converge) × Passed h.now of.now.certificate of.now.views }
-    ensures { IsRecordOf (weakened Weak (history_of h.now) (certificate_of h.now of.now.certificate of.now.views)) result.certificate result.views }
-{
-    let n = h.count;
-    let order = past_rows(&of.certificate.pasts[..n]);
-    let view = &of.views[0];
-    let made = cut_views(&view[..n], &order, n);
-    record_of(Criterion::Weak, of.certificate.pasts, made)
-}
-
-// From causal to pram: the view of the process's last event, then all other events rising.
-fn causal_to_pram(h: &History, of: &ViewedRecord) -> ViewedRecord
-    requires { (of.now.certificate.criterion ≡ Causal) × Passed h.now of.now.certificate of.now.views }
-    ensures { IsRecordOf (weakened Pram (history_of h.now) (certificate_of h.now of.now.certificate of.now.views)) result.certificate result.views }
-{
-    let n = h.count;
-    let named = view_numbers(Criterion::Pram, &h.events[..n]);
-    let processes = processes_of(&h.events);
-    let views = Views {
-        rows: &of.views,
-        lengths: &of.certificate.lengths,
-        count: n,
-    };
-    let made = completed_views(&processes[..n], &views, &named.numbers[..named.count]);
-    record_of(Criterion::Pram, no_pasts(), made)
-}
-
-// From strict to weak or causal: the same pasts, and each event's view is its process's view up to and with it.
-fn strict_to_events(h: &History, of: &ViewedRecord, wanted: Criterion) -> ViewedRecord
-    requires { (of.now.certificate.criterion ≡ Strict) × Passed h.now of.now.certificate of.now.views × (event_each wanted ≡ true) }
-    ensures { IsRecordOf (weakened wanted (history_of h.now) (certificate_of h.now of.now.certificate of.now.views)) result.certificate result.views }
-{
-    let n = h.count;
-    let named = view_numbers(Criterion::Strict, &h.events[..n]);
-    let processes = processes_of(&h.events);
-    let views = Views {
-        rows: &of.views,
-        lengths: &of.certificate.lengths,
-        count: named.count,
-    };
-    let made = own_parts(&processes[..n], &views, &named.numbers[..named.count]);
-    record_of(wanted, of.certificate.pasts, made)
-}
-
-// From causal: to weak the same lists.
-fn from_causal(h: &History, of: &ViewedRecord, wanted: Criterion) -> ViewedRecord
-    requires { (of.now.certificate.criterion ≡ Causal) × Passed h.now of.now.certificate of.now.views }
-    ensures { IsRecordOf (weakened wanted (history_of h.now) (certificate_of h.now of.now.certificate of.now.views)) result.certificate result.views }
-{
-    match wanted {
-        Criterion::Pram => causal_to_pram(h, of),
-        Criterion::Weak => record_of(Criterion::Weak, of.certificate.pasts, views_of(of)),
-        _ => *of,
+    fn from_sequential(&self, wanted: Criterion) -> ViewedRecord
+        requires { self.now.of.now.certificate.criterion ≡ Sequential }
+        ensures { IsRecordOf (weakened wanted (history_of self.now.h.now) (certificate_of self.now.h.now self.now.of.now.certificate self.now.of.now.views)) result.certificate result.views }
+    {
+        match wanted {
+            Criterion::Sequential => *self.of,
+            _ => self.sequential_to_other(wanted),
+        }
     }
-}
 
-fn from_converge(h: &History, of: &ViewedRecord, wanted: Criterion) -> ViewedRecord
-    requires { (of.now.certificate.criterion ≡ Converge) × Passed h.now of.now.certificate of.now.views }
-    ensures { IsRecordOf (weakened wanted (history_of h.now) (certificate_of h.now of.now.certificate of.now.views)) result.certificate result.views }
-{
-    match wanted {
-        Criterion::Weak => converge_to_weak(h, of),
-        _ => *of,
+    // From converge to weak: the same pasts, and the view cut to past(e) and e.
+    fn converge_to_weak(&self) -> ViewedRecord
+        requires { self.now.of.now.certificate.criterion ≡ Converge }
+        ensures { IsRecordOf (weakened Weak (history_of self.now.h.now) (certificate_of self.now.h.now self.now.of.now.certificate self.now.of.now.views)) result.certificate result.views }
+    {
+        let n = self.h.count;
+        let order = past_rows(&self.of.certificate.pasts[..n]);
+        let all = &self.of.views[0];
+        let view = View { events: &all[..n] };
+        let made = cut_views(&view, &order[..n]);
+        record_of(Criterion::Weak, self.of.certificate.pasts, made)
     }
-}
 
-// From strict: to pram the same views.
-fn from_strict(h: &History, of: &ViewedRecord, wanted: Criterion) -> ViewedRecord
-    requires { (of.now.certificate.criterion ≡ Strict) × Passed h.now of.now.certificate of.now.views }
-    ensures { IsRecordOf (weakened wanted (history_of h.now) (certificate_of h.now of.now.certificate of.now.views)) result.certificate result.views }
-{
-    match wanted {
-        Criterion::Pram => record_of(Criterion::Pram, no_pasts(), views_of(of)),
-        Criterion::Weak | Criterion::Causal => strict_to_events(h, of, wanted),
-        _ => *of,
+    // From causal to pram: the view of the process's last event, then all other events rising.
+    fn causal_to_pram(&self) -> ViewedRecord
+        requires { self.now.of.now.certificate.criterion ≡ Causal }
+        ensures { IsRecordOf (weakened Pram (history_of self.now.h.now) (certificate_of self.now.h.now self.now.of.now.certificate self.now.of.now.views)) result.certificate result.views }
+    {
+        let n = self.h.count;
+        let own = view_numbers(Criterion::Causal, &self.h.events[..n]);
+        let named = view_numbers(Criterion::Pram, &self.h.events[..n]);
+        let processes = processes_of(&self.h.events);
+        let views = Views {
+            rows: &self.of.views[..n],
+            lengths: &self.of.certificate.lengths[..n],
+            numbers: &own.numbers[..n],
+        };
+        let made = completed_views(&processes[..n], &views, &named.numbers[..named.count]);
+        record_of(Criterion::Pram, no_pasts(), made)
+    }
+
+    // From strict to weak or causal: the same pasts, and each event's view is its process's view up to and with it.
+    fn strict_to_events(&self, wanted: Criterion) -> ViewedRecord
+        requires { (self.now.of.now.certificate.criterion ≡ Strict) × (event_each wanted ≡ true) }
+        ensures { IsRecordOf (weakened wanted (history_of self.now.h.now) (certificate_of self.now.h.now self.now.of.now.certificate self.now.of.now.views)) result.certificate result.views }
+    {
+        let n = self.h.count;
+        let named = view_numbers(Criterion::Strict, &self.h.events[..n]);
+        let processes = processes_of(&self.h.events);
+        let views = Views {
+            rows: &self.of.views[..named.count],
+            lengths: &self.of.certificate.lengths[..named.count],
+            numbers: &named.numbers[..named.count],
+        };
+        let made = own_parts(&processes[..n], &views);
+        record_of(wanted, self.of.certificate.pasts, made)
+    }
+
+    // From causal: to weak the same lists.
+    fn from_causal(&self, wanted: Criterion) -> ViewedRecord
+        requires { self.now.of.now.certificate.criterion ≡ Causal }
+        ensures { IsRecordOf (weakened wanted (history_of self.now.h.now) (certificate_of self.now.h.now self.now.of.now.certificate self.now.of.now.views)) result.certificate result.views }
+    {
+        match wanted {
+            Criterion::Pram => self.causal_to_pram(),
+            Criterion::Weak => record_of(
+                Criterion::Weak,
+                self.of.certificate.pasts,
+                views_of(self.of),
+            ),
+            _ => *self.of,
+        }
+    }
+
+    fn from_converge(&self, wanted: Criterion) -> ViewedRecord
+        requires { self.now.of.now.certificate.criterion ≡ Converge }
+        ensures { IsRecordOf (weakened wanted (history_of self.now.h.now) (certificate_of self.now.h.now self.now.of.now.certificate self.now.of.now.views)) result.certificate result.views }
+    {
+        match wanted {
+            Criterion::Weak => self.converge_to_weak(),
+            _ => *self.of,
+        }
+    }
+
+    // From strict: to pram the same views.
+    fn from_strict(&self, wanted: Criterion) -> ViewedRecord
+        requires { self.now.of.now.certificate.criterion ≡ Strict }
+        ensures { IsRecordOf (weakened wanted (history_of self.now.h.now) (certificate_of self.now.h.now self.now.of.now.certificate self.now.of.now.views)) result.certificate result.views }
+    {
+        match wanted {
+            Criterion::Pram => record_of(Criterion::Pram, no_pasts(), views_of(self.of)),
+            Criterion::Weak | Criterion::Causal => self.strict_to_events(wanted),
+            _ => *self.of,
+        }
     }
 }
 
@@ -194,11 +214,12 @@ pub fn weakened_record(h: &History, of: &ViewedRecord, wanted: Criterion) -> Vie
     requires { Passed h.now of.now.certificate of.now.views }
     ensures { IsRecordOf (weakened wanted (history_of h.now) (certificate_of h.now of.now.certificate of.now.views)) result.certificate result.views }
 {
+    let passing = Passing { h, of };
     match of.certificate.criterion {
-        Criterion::Causal => from_causal(h, of, wanted),
-        Criterion::Converge => from_converge(h, of, wanted),
-        Criterion::Sequential => from_sequential(h, of, wanted),
-        Criterion::Strict => from_strict(h, of, wanted),
+        Criterion::Causal => passing.from_causal(wanted),
+        Criterion::Converge => passing.from_converge(wanted),
+        Criterion::Sequential => passing.from_sequential(wanted),
+        Criterion::Strict => passing.from_strict(wanted),
         _ => *of,
     }
 }

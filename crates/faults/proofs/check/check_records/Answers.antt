@@ -1,10 +1,11 @@
 -- `check_records` meets its contract: what the first step with a fault finds is the answer. Assumes nothing.
-use Rattle.std.proofs.Common.{rules, arith, ◌≡◌, ◌<◌, ◌∙◌, ap, refl, sym, length}
+use Rattle.std.proofs.Common.{rules, arith, ◌≡◌, ◌<◌, ◌∙◌, ap, sym, length}
 use Rattle.std.proofs.Math.Seq.{get_or-take}
 use Rattle.std.proofs.lemmas.Result.{err_from_is_err_and}
 use Rattle.certificate.specs.Record.{no_list}
+use Rattle.orders.proofs.ViewLaws.{views-first}
 use Rattle.faults.specs.Finding.{finding_of}
-use Rattle.faults.proofs.RecordFacts.{process-small}
+use Rattle.faults.proofs.RecordFacts.{process-small, numbers-long}
 use Rattle.faults.proofs.CheckLaws.{few-of, short-past, short-views, event-views, few-views, order-stops, views-stop, replay-stops, take-few, taken}
 use Rattle.faults.proofs.check.check_records.Goals as goal
 
@@ -32,7 +33,9 @@ order_rows-rows-requires c =
 pub invariant_of-views-clause-events : goal.invariant_of-views-clause-events
 invariant_of-views-clause-events c =
     let views = few-views c.args.h c.args.c c.args.views.now c.requires c.view_numbers-named.result c.view_numbers-named.ensures in
-    short-views c.args.h c.requires.0 c.args.c c.args.views.now c.requires.1 views c.view_numbers-named.result.count c.view_numbers-named.ensures.1
+    let m = c.view_numbers-named.result.count in
+    rw (numbers-long c.view_numbers-named.result _ c.view_numbers-named.ensures.0)
+    (views-first c.args.views.now c.args.c.lengths m 64 (short-views c.args.h c.requires.0 c.args.c c.args.views.now c.requires.1 views m c.view_numbers-named.ensures.1))
 
 pub returns-in_err-order_fault : goal.returns-in_err-order_fault
 returns-in_err-order_fault c =
@@ -56,11 +59,13 @@ returns-in_err-view_fault c =
 
 pub replay_fault-requires : goal.replay_fault-requires
 replay_fault-requires c =
-    let views = few-views c.args.h c.args.c c.args.views.now c.requires c.view_numbers-named.result c.view_numbers-named.ensures in (
+    let views = few-views c.args.h c.args.c c.args.views.now c.requires c.view_numbers-named.result c.view_numbers-named.ensures in
+    let m = c.view_numbers-named.result.count in
+    let long = numbers-long c.view_numbers-named.result _ c.view_numbers-named.ensures.0 in (
       c.requires.0,
       c.view_numbers-named.ensures.0,
-      refl,
-      event-views c.args.h c.requires.0 c.args.c c.args.views.now c.requires.1 views c.view_numbers-named.result.count c.view_numbers-named.ensures.1,
+      long,
+      rw long (views-first c.args.views.now c.args.c.lengths m c.args.h.count (event-views c.args.h c.requires.0 c.args.c c.args.views.now c.requires.1 views m c.view_numbers-named.ensures.1)),
     )
 
 pub returns : goal.returns

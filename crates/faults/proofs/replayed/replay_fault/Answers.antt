@@ -25,21 +25,21 @@ first_wrong_cut-requires c =
     let a = c.args in
     let one : is_converge a.criterion ≡ true = sym c.is_converge.ensures ∙ c.if-is_converge.true in
     let there = view-there c.light_history-history.ensures a.criterion a.views.now a.named.now c.requires one in
-    rw c.get.ensures.view (view-ready c.light_history-history.ensures a.criterion a.views.now a.named.now c.requires 0 there)
+    rw c.get.ensures (view-ready c.light_history-history.ensures a.criterion a.views.now a.named.now c.requires 0 there)
 
 pub returns-in-Some : goal.returns-in-Some
 returns-in-Some c =
     let a = c.args in
     let one : is_converge a.criterion ≡ true = sym c.is_converge.ensures ∙ c.if-is_converge.true in
     event-is c.light_history-history.ensures a.criterion a.views.now a.named.now c.requires
-    a.rows.now one (some c.in-Some.e.0) (rw c.get.ensures.view at c.in-Some.ensures)
+    a.rows.now one (some c.in-Some.e.0) (rw c.get.ensures at c.in-Some.ensures)
 
 pub returns-in-None : goal.returns-in-None
 returns-in-None c =
     let a = c.args in
     let one : is_converge a.criterion ≡ true = sym c.is_converge.ensures ∙ c.if-is_converge.true in
     event-is c.light_history-history.ensures a.criterion a.views.now a.named.now c.requires
-    a.rows.now one none (rw c.get.ensures.view at c.in-None.ensures)
+    a.rows.now one none (rw c.get.ensures at c.in-None.ensures)
 
 pub first_wrong-requires : goal.first_wrong-requires
 first_wrong-requires c =

@@ -1,10 +1,11 @@
 -- `by_place` meets its contract: the line so far has the events of the places below m. Assumes nothing.
 use Rattle.std.proofs.Common.{◌≡◌, ◌+◌, ◌∙◌, length, get_or, arith}
-use Rattle.one_line.proofs.LineLaws.{no-events, line-room}
+use Rattle.orders.proofs.CutLaws.{nothing-listed}
+use Rattle.one_line.proofs.LineLaws.{line-room}
 use Rattle.one_line.proofs.line.by_place.Goals as goal
 
 pub loop-m-init : goal.loop-m-init
-loop-m-init c = c.no_list-line.ensures ∙ no-events
+loop-m-init c = c.no_list-line.ensures ∙ nothing-listed
 
 pub returns : goal.returns
 returns c =

@@ -18,3 +18,6 @@ updates_of-requires c =
     let few = few-of c.args.h.now c.requires.history in
     let n = length-take c.args.h.now.count c.args.h.now.events in
     omega arith
+
+pub invariant_of-result : goal.invariant_of-result
+invariant_of-result c = record { few = few-of c.args.h.now c.requires.history }

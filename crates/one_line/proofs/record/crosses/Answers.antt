@@ -1,16 +1,12 @@
 -- `crosses` meets its contract: the rows are the order of the pasts. Assumes nothing.
-use Rattle.std.proofs.Common.{ℕ, ap, ◌∙◌, arith}
+use Rattle.std.proofs.Common.{ℕ, ap, ◌∙◌}
 use Rattle.criteria.specs.Tests.{any}
 use Rattle.criteria.specs.OneLine.{crosses}
 use Rattle.criteria.specs.Records.{history_of}
-use Rattle.faults.proofs.CheckLaws.{few-of}
 use Rattle.weakened_records.proofs.RecordLaws.{pasts-order}
 use Rattle.one_line.specs.Steps.{crosses_at}
 use Rattle.one_line.proofs.RecordLaws.{crosses-is}
 use Rattle.one_line.proofs.record.crosses.Goals as goal
-
-pub crossing-requires : goal.crossing-requires
-crossing-requires c = let few = few-of c.args.h.now c.requires.history in let q = c.order_of.ensures.size in omega arith
 
 pub returns : goal.returns
 returns c =

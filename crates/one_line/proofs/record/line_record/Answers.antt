@@ -1,5 +1,5 @@
 -- `line_record` meets its contract: the record is that of the lists. Assumes nothing.
-use Rattle.std.proofs.Common.{ℕ, ◌≡◌, ◌<◌, get_or, ap, ◌∙◌, arith, length-take}
+use Rattle.std.proofs.Common.{ℕ, ◌≡◌, ◌<◌, get_or, ap, ◌∙◌, arith}
 use Rattle.certificate.specs.Record.{event_list_of}
 use Rattle.criteria.specs.OneLine.{one_line}
 use Rattle.criteria.specs.Records.{history_of}
@@ -8,23 +8,6 @@ use Rattle.weakened_records.proofs.RecordLaws.{pasts-order}
 use Rattle.one_line.specs.Steps.{place_in}
 use Rattle.one_line.proofs.RecordLaws.{first-places, line-is, record_is}
 use Rattle.one_line.proofs.record.line_record.Goals as goal
-
-pub places_of-places-requires : goal.places_of-places-requires
-places_of-places-requires c =
-    let few = few-of c.args.h.now c.requires.history in
-    let q = c.order_of.ensures.size in
-    omega arith
-
-pub slice_bounds-places-end : goal.slice_bounds-places-end
-slice_bounds-places-end c =
-    let few = few-of c.args.h.now c.requires.history in
-    omega (arith, c.places_of-places.ensures.0)
-
-pub slice_bounds-by_place-end : goal.slice_bounds-by_place-end
-slice_bounds-by_place-end c =
-    let few = few-of c.args.h.now c.requires.history in
-    let n = length-take c.args.h.now.count c.places_of-places.result in
-    omega (arith, c.places_of-places.ensures.0)
 
 pub returns : goal.returns
 returns c =

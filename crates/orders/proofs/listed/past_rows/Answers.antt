@@ -6,8 +6,11 @@ use Rattle.orders.proofs.listed.past_rows.Goals as goal
 pub loop-i-init : goal.loop-i-init
 loop-i-init c = (refl, rows-begin c.args.pasts.now)
 
-pub marks-requires : goal.marks-requires
-marks-requires c = past_small c.args.pasts.now c.loop-i.i _ c.loop-i-test.true c.requires.1
+pub invariant_of-listed-clause-few : goal.invariant_of-listed-clause-few
+invariant_of-listed-clause-few c = (past_small c.args.pasts.now c.loop-i.i _ c.loop-i-test.true c.requires.1).0
+
+pub invariant_of-listed-clause-inside : goal.invariant_of-listed-clause-inside
+invariant_of-listed-clause-inside c = (past_small c.args.pasts.now c.loop-i.i _ c.loop-i-test.true c.requires.1).1
 
 pub loop-i-preserved : goal.loop-i-preserved
 loop-i-preserved c = (

@@ -3,6 +3,7 @@ use native.Mathlib.Omega.{arith}
 use mathlib.Core.Path.{◌≡◌, ap, ◌∙◌}
 use mathlib.Core.Bool.{true}
 use lib.ListN.{get_or, length-take}
+use Rattle.orders.proofs.CutLaws.{entries-listed}
 use Rattle.replays.specs.Replay.{no_light, history_in}
 use Rattle.replayed_views.specs.Steps.{its_start, one_wrong}
 use Rattle.replayed_views.proofs.ObjectLaws.{silent-part}
@@ -16,9 +17,11 @@ returns-then-history-from c =
 
 pub replay_object-requires : goal.replay_object-requires
 replay_object-requires c =
-    part-ready c.args.row c.requires c.cut_to-cut.ensures.0 (omega (arith, length-take c.cut_to-cut.result.count c.cut_to-cut.result.events, c.cut_to-cut.ensures.1))
+    let kept = entries-listed c.cut_to-cut.result _ c.cut_to-cut.ensures.list in
+    part-ready c.args.row c.requires kept (omega (arith, length-take c.cut_to-cut.result.count c.cut_to-cut.result.events, c.cut_to-cut.ensures.few))
 
 pub returns : goal.returns
 returns c =
+    let kept = entries-listed c.cut_to-cut.result _ c.cut_to-cut.ensures.list in
     c.replay_object.ensures
-    ∙ ap (one_wrong (history_in c.args.history.now) c.args.e.0 (get_or c.args.history.now.events c.args.e.0 no_light).object (its_start c.args.history.now c.args.e.0)) c.cut_to-cut.ensures.0
+    ∙ ap (one_wrong (history_in c.args.history.now) c.args.e.0 (get_or c.args.history.now.events c.args.e.0 no_light).object (its_start c.args.history.now c.args.e.0)) kept

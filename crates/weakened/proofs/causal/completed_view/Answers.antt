@@ -5,11 +5,11 @@ use Rattle.weakened.proofs.causal.completed_view.Goals as goal
 
 pub joined-requires : goal.joined-requires
 joined-requires c =
-    let few = behind-few c.args.n c.args.view.now c.requires.2 c.requires.3 c.marks.result c.others.result c.requires.0 c.marks.ensures c.others.ensures
+    let few = behind-few c.args.n c.args.view.now.events.now c.requires.1 c.requires.2 c.marks.result c.others.result c.requires.0 c.marks.ensures c.others.ensures
     c.rising-behind.result c.rising-behind.ensures.0 in
     omega (arith, few)
 
 pub returns : goal.returns
 returns c =
-    completed-is c.args.n c.args.view.now c.requires.2 c.requires.3 c.marks.result c.others.result c.requires.0 c.marks.ensures c.others.ensures
+    completed-is c.args.n c.args.view.now.events.now c.requires.1 c.requires.2 c.marks.result c.others.result c.requires.0 c.marks.ensures c.others.ensures
     c.rising-behind.result c.rising-behind.ensures.0 c.joined.result c.joined.ensures

@@ -1,22 +1,27 @@
 -- `rising` meets its contract. Assumes nothing.
-use Rattle.std.proofs.Common.{rules, arith, refl, sym, ◌∙◌, ◌≡◌, ◌<◌}
+use Rattle.std.proofs.Common.{arith, sym, ap, ◌∙◌}
+use Rattle.certificate.specs.Record.{event_list_of}
 use Rattle.orders.specs.Rows.{in_row}
-use Rattle.weakened.proofs.ListLaws.{kept-none, kept-more, kept-less, kept-done}
+use Rattle.orders.proofs.CutLaws.{nothing-listed}
+use Rattle.weakened.proofs.ListLaws.{rising-kept, rising-left}
 use Rattle.weakened.proofs.list.rising.Goals as goal
 use Rattle.weakened.proofs.list.rising.Goals.{then-in_row, else-in_row}
 
 pub loop-e-init : goal.loop-e-init
-loop-e-init c = kept-none (in_row c.args.row) _ refl
+loop-e-init c = (omega (arith, ap (λ l. l.count) c.no_list-list.ensures), c.no_list-list.ensures ∙ nothing-listed)
 
 pub loop-e-preserved : goal.loop-e-preserved
 loop-e-preserved c =
-    let next : c.loop-e.e < c.args.n = search rules in
+    let f = in_row c.args.row in
     elim c.if-in_row.branch [
-      | then-in_row w ↦ rw (w.count-is, w.events-is) (kept-more (in_row c.args.row) c.loop-e.count c.loop-e.events c.loop-e.e c.loop-e.invariant (omega (arith, next, c.requires)) (sym c.in_row.ensures ∙ w.if-in_row.true))
-      | else-in_row w ↦ rw (w.count-is, w.events-is) (kept-less (in_row c.args.row) c.loop-e.count c.loop-e.events c.loop-e.e c.loop-e.invariant (sym c.in_row.ensures ∙ w.if-in_row.false))
+      | then-in_row w ↦
+          rw w.list-is (
+            omega (arith, w.push.ensures.count),
+            w.push.ensures.list _ c.loop-e.invariant.1 ∙ ap event_list_of (rising-kept f c.loop-e.e (sym c.in_row.ensures ∙ w.if-in_row.true)),
+          )
+      | else-in_row w ↦
+          rw w.list-is (
+            omega arith,
+            c.loop-e.invariant.1 ∙ ap event_list_of (rising-left f c.loop-e.e (sym c.in_row.ensures ∙ w.if-in_row.false)),
+          )
     ]
-
-pub returns : goal.returns
-returns c =
-    let done : c.loop-e.e ≡ c.args.n = search rules in
-    kept-done (in_row c.args.row) c.loop-e.count c.loop-e.events c.loop-e.e c.loop-e.invariant c.args.n done

@@ -4,4 +4,4 @@ use Rattle.weakened.proofs.sequential.preceding.Goals as goal
 
 pub returns : goal.returns
 returns c =
-    preceding-done c.args.view.now c.before_event.result.now c.args.e c.marks.result c.rising.result c.requires.2 c.before_event.ensures.0 c.marks.ensures c.rising.ensures.0
+    preceding-done c.args.view.now.events.now c.before_event.result.now c.args.e c.marks.result c.rising.result c.requires c.before_event.ensures.0 c.marks.ensures c.rising.ensures.0

@@ -7,4 +7,4 @@ use Rattle.weakened.proofs.SequentialLaws.{past_of}
 use Rattle.weakened.proofs.sequential.preceding_pasts.Given as goal
 
 abbrev pub invariant-loop-e : goal.invariant-loop-e
-invariant-loop-e l = l.pasts ≡ pad 64 no_list (map event_list_of (table l.e (past_of l.view)))
+invariant-loop-e l = l.pasts ≡ pad 64 no_list (map event_list_of (table l.e (past_of l.view.events.now)))
