@@ -130,6 +130,6 @@ printed-whole v n bytes q e =
     ap₂ {C = Printed} (λ (k : ℕ) (l : List ℕ). record { length = k; bytes = l }) q (e ∙ fill-zeros (printed v))
 
 -- the lines lie within the array
-pub printed-fits : (v : Verdict) (r : Printed) → r ≡ printed_in v → r.length ≤ length r.bytes
+pub printed_fits : (v : Verdict) (r : Printed) → r ≡ printed_in v → r.length ≤ length r.bytes
 unfolding pad
-printed-fits v r q = rw q (omega (arith, length-append (printed v) (replicate (128 - length (printed v)) 0)))
+printed_fits v r q = rw q (omega (arith, length-append (printed v) (replicate (128 - length (printed v)) 0)))
