@@ -209,14 +209,14 @@ module _ (n : ℕ) (f : List ℕ) where
   not-spelling : (value f ≡ n → ⊥) → same f (spell n) ≡ false
   not-spelling h = same_false f (spell n) (λ e. h (ap (value_from 0) e ∙ value-spell n))
 
-  pub own-not : number_of (n + 1) f ≡ Err NotNumber → same f (spell n) ≡ false
+  own-not : number_of (n + 1) f ≡ Err NotNumber → same f (spell n) ≡ false
   own-not q =
       same_false f (spell n) (λ e. false≢true (sym (not-number (n + 1) f q) ∙ ap is_number e ∙ number-spell n))
 
-  pub own-over : number_of (n + 1) f ≡ Err Over → same f (spell n) ≡ false
+  own-over : number_of (n + 1) f ≡ Err Over → same f (spell n) ≡ false
   own-over q = not-spelling (λ e. omega (arith, (over-number (n + 1) f q).1))
 
-  pub own_value : (v : ℕ) → number_of (n + 1) f ≡ Ok v → eqb v n ≡ same f (spell n)
+  own_value : (v : ℕ) → number_of (n + 1) f ≡ Ok v → eqb v n ≡ same f (spell n)
   own_value v q =
       let t = value-number (n + 1) f v q in
       by-eq v n

@@ -20,6 +20,7 @@ pub enum NumberFault {
 }
 
 // One digit more. A value that is not below the bound stands still.
+#[tactic(auto, unfolding(crate::specs::Steps::Number::push_digit))]
 fn push_digit(v: u64, bound: u64, b: u8) -> u64
     requires { (48 ≤ b) × (b ≤ 57) × (bound ≤ 4294967296) × (v ≤ 10 * bound + 9) }
     ensures { (result ≡ push_digit bound v b) × (result ≤ 10 * bound + 9) }
@@ -31,6 +32,7 @@ fn push_digit(v: u64, bound: u64, b: u8) -> u64
 }
 
 // Whether bytes begin as a number does: there is one, and the first of several is not `0`.
+#[tactic(auto, unfolding(crate::specs::Number::starts_well))]
 fn starts_well(field: &[u8]) -> bool
     ensures { result ≡ starts_well field.now }
 {
