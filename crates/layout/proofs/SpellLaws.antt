@@ -225,10 +225,10 @@ module _ (n : ℕ) (f : List ℕ) where
       (λ e. rw (ne_eqb v n e) (sym (not-spelling (λ k. e (sym t.1 ∙ k)))))
 
   -- what is read is the number itself
-  pub own-is : (E : NumberFault → NumberFault → Bool) (q : Result ℕ NumberFault) → q ≡ number_of (n + 1) f → result_eq eqb E q (Ok n) ≡ same f (spell n)
-  own-is E (Ok v) q = own_value v (sym q)
-  own-is E (Err NotNumber) q = sym (own-not (sym q))
-  own-is E (Err Over) q = sym (own-over (sym q))
+  pub own_is : (E : NumberFault → NumberFault → Bool) (q : Result ℕ NumberFault) → q ≡ number_of (n + 1) f → result_eq eqb E q (Ok n) ≡ same f (spell n)
+  own_is E (Ok v) q = own_value v (sym q)
+  own_is E (Err NotNumber) q = sym (own-not (sym q))
+  own_is E (Err Over) q = sym (own-over (sym q))
 
 -- ---- a loop that writes the digits from the last one on
 pub last-spell : (n : ℕ) (r : List ℕ) → last_digits (length (spell n)) n r ≡ spell_before n r

@@ -105,6 +105,7 @@ pub fn spaced_number(s: &[u8], from: usize, bound: u64) -> Option<At<u64>>
 }
 
 // Whether a field is the spelling of a number: a line's own number.
+#[tactic(auto, using(crate::proofs::SpellLaws::own_is))]
 pub fn is_spelling(field: &[u8], n: u32) -> bool
     ensures { result ≡ same field.now (spell n) }
 {
