@@ -5,9 +5,9 @@ use native.Mathlib.Numerals.{add-one}
 use native.Mathlib.Omega.{arith}
 use mathlib.Core.Path.{◌≡◌, refl, sym, ap, ◌∙◌}
 use mathlib.Core.List.{List, [], ◌∷◌, ◌++◌, append_assoc}
-use lib.ListN.{length, get_or, take, set, replicate, length-set, length-append, length-replicate, get_or-append, get_or-eq_default}
+use lib.ListN.{length, get_or, take, drop, set, replicate, length-set, length-append, length-replicate, get_or-append, get_or-eq_default}
 use lib.Seq.{take-append_seam, set-append_seam, take-suc, take-suc-set, length-take-le, get_or-append-add}
-use Rattle.std.proofs.lemmas.List.{drop-replicate}
+use Rattle.std.proofs.lemmas.List.{drop-replicate, take-replicate, replicate-append-replicate}
 use Rattle.layout.specs.Fill.{fill}
 use Rattle.layout.proofs.Cases.{by-lt}
 use Rattle.history.specs.Record.{pad}
@@ -58,6 +58,15 @@ module _ {A : Type 0} (places : ℕ) (blank : A) where
 pub pad_filled : (places : ℕ) (xs : List ℕ) → fill xs (replicate places 0) ≡ pad places 0 xs
 unfolding fill pad
 pad_filled places xs = rw (drop-replicate {X = ℕ} (length xs) places 0)
+
+-- or over the first of some of them
+pub pad_part : (places some : ℕ) (xs : List ℕ) → length xs ≤ some → some ≤ places
+    → fill xs (take some (replicate places 0)) ++ drop some (replicate places 0) ≡ pad places 0 xs
+unfolding fill pad
+pad_part places some xs few room =
+    let m : some - length xs + (places - some) ≡ places - length xs = omega arith in
+    rw (take-replicate {X = ℕ} some places 0 room, drop-replicate {X = ℕ} (length xs) some 0, drop-replicate {X = ℕ} some places 0, append_assoc,
+      replicate-append-replicate {A = ℕ} (some - length xs) (places - some) 0, m)
 
 -- each number there is below a bound, where those of the list are
 pub pad_below : (places : ℕ) (xs : List ℕ) (bound : ℕ) → 0 < bound → ((i : ℕ) → i < length xs → get_or xs i 0 < bound)

@@ -209,14 +209,14 @@ module _ (n : ℕ) (f : List ℕ) where
   not-spelling : (value f ≡ n → ⊥) → same f (spell n) ≡ false
   not-spelling h = same_false f (spell n) (λ e. h (ap (value_from 0) e ∙ value-spell n))
 
-  pub own-not : number_of (n + 1) f ≡ Err NotNumber → same f (spell n) ≡ false
+  own-not : number_of (n + 1) f ≡ Err NotNumber → same f (spell n) ≡ false
   own-not q =
       same_false f (spell n) (λ e. false≢true (sym (not-number (n + 1) f q) ∙ ap is_number e ∙ number-spell n))
 
-  pub own-over : number_of (n + 1) f ≡ Err Over → same f (spell n) ≡ false
+  own-over : number_of (n + 1) f ≡ Err Over → same f (spell n) ≡ false
   own-over q = not-spelling (λ e. omega (arith, (over-number (n + 1) f q).1))
 
-  pub own_value : (v : ℕ) → number_of (n + 1) f ≡ Ok v → eqb v n ≡ same f (spell n)
+  own_value : (v : ℕ) → number_of (n + 1) f ≡ Ok v → eqb v n ≡ same f (spell n)
   own_value v q =
       let t = value-number (n + 1) f v q in
       by-eq v n
@@ -225,10 +225,10 @@ module _ (n : ℕ) (f : List ℕ) where
       (λ e. rw (ne_eqb v n e) (sym (not-spelling (λ k. e (sym t.1 ∙ k)))))
 
   -- what is read is the number itself
-  pub own-is : (E : NumberFault → NumberFault → Bool) (q : Result ℕ NumberFault) → q ≡ number_of (n + 1) f → result_eq eqb E q (Ok n) ≡ same f (spell n)
-  own-is E (Ok v) q = own_value v (sym q)
-  own-is E (Err NotNumber) q = sym (own-not (sym q))
-  own-is E (Err Over) q = sym (own-over (sym q))
+  pub own_is : (E : NumberFault → NumberFault → Bool) (q : Result ℕ NumberFault) → q ≡ number_of (n + 1) f → result_eq eqb E q (Ok n) ≡ same f (spell n)
+  own_is E (Ok v) q = own_value v (sym q)
+  own_is E (Err NotNumber) q = sym (own-not (sym q))
+  own_is E (Err Over) q = sym (own-over (sym q))
 
 -- ---- a loop that writes the digits from the last one on
 pub last-spell : (n : ℕ) (r : List ℕ) → last_digits (length (spell n)) n r ≡ spell_before n r

@@ -60,6 +60,7 @@ fn read_items(field: &[u8], bound: u64, items: &mut [u32]) -> Result<usize, List
 
 // Reads a field as a list of numbers below a bound, at most as many as there are places in items, and keeps the numbers in
 // the first of them: all of them where the field is such a list.
+#[tactic(auto, using(crate::proofs::ListLaws::leading_empty), unfolding(crate::specs::List::list_of, crate::specs::List::items_of, crate::specs::List::judged, crate::specs::List::all_numbers, crate::specs::List::all_below, crate::specs::Fill::fill))]
 pub fn read_list(field: &[u8], bound: u64, items: &mut [u32]) -> Result<usize, ListFault>
     requires { bound ≤ 4294967296 }
     ensures { (result ≡ list_of bound (length items.old) field.now) × (items.new ≡ fill (leading bound (length items.old) (items_of field.now)) items.old) }

@@ -21,6 +21,7 @@ pub enum NumberFault {
 }
 
 // One digit more. A value that is not below the bound stands still.
+#[tactic(auto, unfolding(crate::specs::Steps::Number::push_digit))]
 fn push_digit(v: u64, bound: u64, b: u8) -> u64
     requires { (48 ≤ b) × (b ≤ 57) × (bound ≤ 4294967296) × (v ≤ 10 * bound + 9) }
     ensures { (result ≡ push_digit bound v b) × (result ≤ 10 * bound + 9) }
@@ -32,6 +33,7 @@ fn push_digit(v: u64, bound: u64, b: u8) -> u64
 }
 
 // Whether bytes begin as a number does: there is one, and the first of several is not `0`.
+#[tactic(auto, unfolding(crate::specs::Number::starts_well))]
 fn starts_well(field: &[u8]) -> bool
     ensures { result ≡ starts_well field.now }
 {
@@ -124,6 +126,7 @@ pub fn number_before_space(text: &[u8], bound: u64) -> Option<(u64, &[u8])>
 }
 
 // Whether a field is the spelling of a number: a line's own number.
+#[tactic(auto, using(crate::proofs::SpellLaws::own_is))]
 pub fn is_spelling(field: &[u8], n: u32) -> bool
     ensures { result ≡ same field.now (spell n) }
 {

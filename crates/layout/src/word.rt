@@ -5,6 +5,7 @@ ghost use Rattle.layout.specs.Steps.Stands.{stands_at};
 ghost use Rattle.layout.specs.Steps.Table.{named};
 
 // Whether a field is a word.
+#[tactic(auto, using(crate::proofs::WordLaws::same_is_pointwise))]
 pub fn is_word(field: &[u8], word: &[u8]) -> bool
     ensures { result ≡ same field.now word.now }
 {
