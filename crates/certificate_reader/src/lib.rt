@@ -2,4 +2,5 @@
 
 #![tactic(auto)]
 
+mod left;
 pub mod read;
