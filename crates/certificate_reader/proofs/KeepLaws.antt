@@ -18,7 +18,7 @@ use Rattle.layout.specs.Number.{value}
 use Rattle.layout.specs.List.{items_of, all_below, numbers_of}
 use Rattle.layout.proofs.Cases.{by_bool, by-lt, by-eq, and_right}
 use Rattle.layout.proofs.SplitLaws.{find-le, split-more, split-last}
-use Rattle.layout.proofs.StandsLaws.{at-cons}
+use Rattle.layout.proofs.LeadingLaws.{at-cons}
 use Rattle.history.specs.Record.{pad}
 use Rattle.history.specs.declared.fault.Fault.{Fault}
 use Rattle.history.specs.Faults.{fault_number}

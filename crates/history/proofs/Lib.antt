@@ -2,7 +2,6 @@ pub mod AllLaws
 pub mod PadLaws
 pub mod ListedLaws
 pub mod ZeroLaws
-pub mod ListingLaws
 pub mod LinesLaws
 pub mod FaultLaws
 pub mod ObjectLaws

@@ -34,18 +34,18 @@ listed_begins places bound text xs e = record { filled = filled_none places 0 xs
 -- the rest begins with one number more
 module _ {places bound : ℕ} {text xs : List ℕ} {k : ℕ} {rest : List ℕ} (r : Listed places bound text xs k rest) (room : k < places) (v : ℕ)
     (behind : List ℕ) (number : rest ≡ spell v ++ behind) (below : v < bound) where
-  more_numbers : take (k + 1) (set xs k v) ≡ take k xs ++ v ∷ []
-  more_numbers = filled-take r.filled v room
+  pub listed_numbers : take (k + 1) (set xs k v) ≡ take k xs ++ v ∷ []
+  listed_numbers = filled-take r.filled v room
 
   pub listed-filled : Filled places 0 (set xs k v) (k + 1)
   listed-filled = filled_more r.filled v room
 
   pub listed-small : all_less bound (take (k + 1) (set xs k v)) ≡ true
-  listed-small = rw more_numbers (less-more bound (take k xs) v r.small below)
+  listed-small = rw listed_numbers (less-more bound (take k xs) v r.small below)
 
   more-spelt : 44 ∷ text ≡ tail_text (take (k + 1) (set xs k v)) ++ behind
   more-spelt =
-      rw (more_numbers, tail_more (take k xs) v)
+      rw (listed_numbers, tail_more (take k xs) v)
       (r.spelt
       ∙ ap (λ (l : List ℕ). tail_text (take k xs) ++ 44 ∷ l) number
       ∙ sym (append_assoc (tail_text (take k xs)) (44 ∷ spell v) behind))

@@ -1,17 +1,19 @@
 -- Laws of what a text begins with. Assumes nothing.
-use Prim.Native.Nat.{ℕ, ◌-◌, ◌≤◌, ◌<◌}
+use Prim.Native.Nat.{ℕ, ◌+◌, ◌-◌, ◌≤◌, ◌<◌}
+use native.Mathlib.Numerals.{add-one}
 use native.Mathlib.Omega.{arith}
 use mathlib.Core.Path.{◌≡◌, refl, sym, ap, ap₂, ◌∙◌}
 use mathlib.Core.Bool.{true, false}
 use mathlib.Core.List.{List, [], ◌∷◌, ◌++◌}
 use lib.ListN.{length, get_or, take, drop, take-append-drop}
+use lib.Seq.{drop-cons}
 use lib.Dec.{eqb}
 use lib.Pointwise.{pointwise}
 use Rattle.std.specs.Result.{result_ok}
 use Rattle.std.specs.Prelude.{Option, Some, None, Result, Ok, Err}
 use Rattle.layout.specs.declared.number.NumberFault.{NumberFault}
 use Rattle.layout.specs.Word.{same}
-use Rattle.layout.specs.Number.{is_number, value, number_of, spell}
+use Rattle.layout.specs.Number.{number_of, spell}
 use Rattle.layout.specs.Steps.Number.{digits}
 use Rattle.layout.specs.Steps.Leading.{told, leading_number, behind_space, number_before_space}
 use Rattle.layout.proofs.Cases.{by_bool}
@@ -21,6 +23,9 @@ use Rattle.layout.proofs.NumberLaws.{digits-prefix, value-number}
 use Rattle.layout.proofs.SpellLaws.{spell-value}
 
 -- ---- a byte, and what stands behind it
+pub at-cons : (s : List ℕ) (a : ℕ) → a < length s → drop a s ≡ get_or s a 0 ∷ drop (a + 1) s
+at-cons s a h = rw add-one (drop-cons s a 0 h)
+
 pub byte-leads : (s : List ℕ) (b : ℕ) → 1 ≤ length s → get_or s 0 0 ≡ b → s ≡ b ∷ take (length s - 1) (drop 1 s)
 byte-leads [] b h e = absurd (omega arith)
 byte-leads (x ∷ s) b h e = ap₂ {C = List ℕ} ◌∷◌ e (sym (tail-part (x ∷ s) 1))

@@ -5,7 +5,6 @@ pub mod TableLaws
 pub mod NumberLaws
 pub mod SpellLaws
 pub mod LeadingLaws
-pub mod StandsLaws
 pub mod FillLaws
 pub mod PiecesLaws
 pub mod LineLaws

@@ -4,7 +4,6 @@
 
 #![tactic(auto)]
 
-pub mod at;
 pub mod fields;
 pub mod fill;
 pub mod line;

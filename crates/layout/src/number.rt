@@ -1,5 +1,5 @@
 // Numbers in base ten: read from a field of any length, and measured.
-ghost use Rattle.std.specs.Prelude.{◌≡◌, ◌+◌, ◌*◌, ◌≤◌, ◌<◌, length, not, IfSome, MatchOption, Some, None};
+ghost use Rattle.std.specs.Prelude.{◌≡◌, ◌+◌, ◌*◌, ◌≤◌, ◌<◌, length, not, MatchOption, Some, None};
 ghost use Rattle.std.specs.Char.{is_ascii_digit};
 ghost use Rattle.std.specs.List.{position};
 ghost use Rattle.layout.specs.Word.{same};
@@ -7,10 +7,6 @@ ghost use Rattle.layout.specs.Number.{starts_well, number_of, spell};
 ghost use Rattle.layout.specs.Fill.{fill};
 ghost use Rattle.layout.specs.Steps.Number.{digits, push_digit};
 ghost use Rattle.layout.specs.Steps.Leading.{leading_number, number_before_space};
-ghost use Rattle.layout.specs.Steps.Stands.{number_at, spaced_number};
-
-use crate::at::At;
-use crate::word::stands_at;
 
 // Why a field is no number below a bound.
 #[derive(Clone, Copy, Debug, PartialEq, Eq)]
@@ -77,32 +73,6 @@ fn digits_len(s: &[u8]) -> usize
     ensures { (result ≡ length (digits s.now)) × (result ≤ length s.now) }
 {
     first_other(s).unwrap_or(s.len())
-}
-
-// The number below a bound that stands at a place of s.
-pub fn number_at(s: &[u8], from: usize, bound: u64) -> Option<At<u64>>
-    requires { (from ≤ length s.now) × (bound ≤ 4294967296) }
-    ensures { (result ≡ number_at bound from s.now) × IfSome result (λ n. (n.value < bound) × (n.end ≤ length s.now)) }
-{
-    let end = from + digits_len(&s[from..]);
-    let value = read_number(&s[from..end], bound).ok()?;
-    Some(At { value, end })
-}
-
-// The number below a bound that stands at a place of s with a space behind it, and the place behind the space.
-#[tactic(auto, unfolding(crate::specs::Steps::Stands::spaced_number, crate::specs::Steps::Stands::spaced))]
-pub fn spaced_number(s: &[u8], from: usize, bound: u64) -> Option<At<u64>>
-    requires { (from ≤ length s.now) × (bound ≤ 4294967296) }
-    ensures { (result ≡ spaced_number bound from s.now) × IfSome result (λ n. (n.value < bound) × (n.end ≤ length s.now)) }
-{
-    let At { value, end } = number_at(s, from, bound)?;
-    if !stands_at(s, end, b" ") {
-        return None;
-    }
-    Some(At {
-        value,
-        end: end + 1,
-    })
 }
 
 // The number below a bound that a text begins with, and what stands behind it.

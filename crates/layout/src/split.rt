@@ -10,15 +10,6 @@ fn first_place(s: &[u8], b: u8) -> Option<usize>
     s.iter().position(|x| *x == b)
 }
 
-// The place of the first byte b of s from a place on.
-pub fn find_from(s: &[u8], from: usize, b: u8) -> Option<usize>
-    requires { from ≤ length s.now }
-    ensures { MatchOption result (find b (drop from s.now) ≡ length (drop from s.now)) (λ e. (e ≡ from + find b (drop from s.now)) × (from ≤ e) × (e < length s.now)) }
-{
-    let i = first_place(&s[from..], b)?;
-    Some(from + i)
-}
-
 // The bytes before the first byte b of s, and those behind it.
 pub fn split_once<'a>(s: &'a [u8], b: u8) -> Option<(&'a [u8], &'a [u8])>
     ensures { MatchOption result ((find b s.now ≡ length s.now) × (split b s.now ≡ s.now ∷ [])) (λ p. (find b s.now < length s.now) × (p.0.now ≡ take (find b s.now) s.now) × (p.1.now ≡ drop (find b s.now + 1) s.now) × (split b s.now ≡ p.0.now ∷ split b p.1.now)) }

@@ -1,7 +1,6 @@
 // Words, compared whole, and tables of words.
-ghost use Rattle.std.specs.Prelude.{◌≡◌, ◌≤◌, length};
+ghost use Rattle.std.specs.Prelude.{◌≡◌};
 ghost use Rattle.layout.specs.Word.{same};
-ghost use Rattle.layout.specs.Steps.Stands.{stands_at};
 ghost use Rattle.layout.specs.Steps.Table.{named};
 
 // Whether a field is a word.
@@ -22,12 +21,4 @@ pub fn named<T: Copy>(field: &[u8], table: &[(&[u8], T)]) -> Option<T>
         }
     }
     None
-}
-
-// Whether a word stands at a place of s.
-pub fn stands_at(s: &[u8], from: usize, word: &[u8]) -> bool
-    requires { from ≤ length s.now }
-    ensures { result ≡ stands_at word.now from s.now }
-{
-    s[from..].starts_with(word)
 }

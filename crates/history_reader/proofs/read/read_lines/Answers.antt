@@ -1,8 +1,5 @@
 -- `read_lines` meets its contract: the first line is the heading of the objects. Assumes nothing.
-use native.Mathlib.Omega.{arith}
-use Prim.Native.Nat.{◌+◌, ◌≤◌}
-use mathlib.Core.Path.{◌≡◌, sym, ap, ◌∙◌}
-use lib.ListN.{length, drop}
+use mathlib.Core.Path.{sym, ◌∙◌}
 use Rattle.std.proofs.lemmas.Result.{err_from_is_err_and}
 use Rattle.history_reader.proofs.ReadLaws.{lines_end, lines-heading, lines-bad, first-rest}
 use Rattle.history_reader.proofs.read.read_lines.Goals as goal

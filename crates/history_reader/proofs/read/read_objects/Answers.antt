@@ -3,7 +3,7 @@ use native.Mathlib.Omega.{arith}
 use Prim.Native.Nat.{◌<◌, ◌-◌, ◌+◌}
 use mathlib.Core.Path.{◌≡◌, refl, sym, ap, ◌∙◌}
 use mathlib.Core.List.{List}
-use lib.ListN.{length, drop, length-drop}
+use lib.ListN.{length, drop}
 use Rattle.std.specs.Prelude.{Err}
 use borrow.Author.Rules.{rules}
 use Rattle.std.proofs.lemmas.Result.{err_from_is_err_and}
@@ -31,14 +31,14 @@ pub returns-then-is_word : goal.returns-then-is_word
 returns-then-is_word c =
     let p = part-told 10 c.args.text.now c.loop-line.start c.in-Some.line.now c.loop-line.invariant.to c.in-Some.ensures.0 c.in-Some.ensures.1 in
     record {
-  few = c.loop-line.invariant.filled.few;
-  pads = c.loop-line.invariant.filled.pads;
-  to = omega (arith, p.1);
-  says =
-      c.loop-line.invariant.says
-      ∙ objects-heading (c.loop-line.declared + 2) c.args.text.now c.loop-line.start _ p.0 c.loop-line.invariant.to (omega (arith, p.1)) _ p.1
-      (c.loop-line.declared + 3) (omega arith) (rw p.2 at (sym c.is_word.ensures ∙ c.if-is_word.true));
-}
+      few = c.loop-line.invariant.filled.few;
+      pads = c.loop-line.invariant.filled.pads;
+      to = omega (arith, p.1);
+      says =
+          c.loop-line.invariant.says
+          ∙ objects-heading (c.loop-line.declared + 2) c.args.text.now c.loop-line.start _ p.0 c.loop-line.invariant.to (omega (arith, p.1)) _ p.1
+          (c.loop-line.declared + 3) (omega arith) (rw p.2 at (sym c.is_word.ensures ∙ c.if-is_word.true));
+    }
 
 pub returns-in_err-objects : goal.returns-in_err-objects
 returns-in_err-objects c =

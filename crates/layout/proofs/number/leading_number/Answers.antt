@@ -1,5 +1,4 @@
 -- `leading_number` meets its contract. Assumes nothing.
-use Rattle.std.proofs.Common.{sym, ◌∙◌}
 use Rattle.layout.proofs.LeadingLaws.{leads-not, leads}
 use Rattle.layout.proofs.number.leading_number.Goals as goal
 

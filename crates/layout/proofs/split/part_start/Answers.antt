@@ -1,8 +1,5 @@
 -- `part_start` meets its contract: the part with the number k is one of those that are left of the rest. Assumes nothing.
-use Rattle.std.proofs.Common.{◌≡◌, ◌<◌, ◌+◌, ◌-◌, ℕ, ap, arith, sym, ◌∙◌, length, drop, length-drop, le_refl}
-use lib.Seq.{length-take-le}
-use Rattle.layout.specs.Split.{find}
-use Rattle.layout.proofs.FillLaws.{tail-part}
+use Rattle.std.proofs.Common.{◌≡◌, ◌<◌, ◌+◌, ◌-◌, arith, sym, ◌∙◌, length, drop, le_refl}
 use Rattle.layout.proofs.SplitLaws.{part-told, part-last, part-next, part_none, part_end, start_first, start-next, start_none}
 use Rattle.layout.proofs.split.part_start.Goals as goal
 
