@@ -6,7 +6,7 @@ ghost use Rattle.certificate.specs.Faults.{criterion_line};
 
 use crate::record::Criterion;
 use layout::split::split_once;
-use layout::word::is_word;
+use layout::word::{is_word, named};
 
 // Whether a certificate of the criterion has the past of each event.
 pub fn has_pasts(c: Criterion) -> bool
@@ -48,27 +48,22 @@ pub fn past_count(c: Criterion, count: usize) -> usize
     if has_pasts(c) { count } else { 0 }
 }
 
+// The words of the criteria.
+const WORDS: [(&[u8], Criterion); 6] = [
+    (b"weak", Criterion::Weak),
+    (b"causal", Criterion::Causal),
+    (b"converge", Criterion::Converge),
+    (b"sequential", Criterion::Sequential),
+    (b"strict", Criterion::Strict),
+    (b"pram", Criterion::Pram),
+];
+
 // The criterion of a word.
-// Kept: no `match` on the words, as in history's `read_kind`: some forty goals come, one for each byte.
-#[tactic(auto, unfolding(crate::specs::Criteria::is_criterion, crate::specs::Criteria::criterion_of))]
+#[tactic(auto, unfolding(crate::specs::Criteria::is_criterion, crate::specs::Criteria::criterion_of, layout::specs::Steps::Table::named))]
 fn read_word(word: &[u8]) -> Option<Criterion>
     ensures { result ≡ cond (is_criterion word.now) (Some (criterion_of word.now)) None }
 {
-    if is_word(word, b"weak") {
-        Some(Criterion::Weak)
-    } else if is_word(word, b"causal") {
-        Some(Criterion::Causal)
-    } else if is_word(word, b"converge") {
-        Some(Criterion::Converge)
-    } else if is_word(word, b"sequential") {
-        Some(Criterion::Sequential)
-    } else if is_word(word, b"strict") {
-        Some(Criterion::Strict)
-    } else if is_word(word, b"pram") {
-        Some(Criterion::Pram)
-    } else {
-        None
-    }
+    named(word, &WORDS)
 }
 
 // Reads the first line of a certificate, without its line feed: the criterion, or none where the line is not a criterion's.

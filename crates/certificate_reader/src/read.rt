@@ -162,9 +162,9 @@ impl<'a> LinesLeft<'a> {
 
 // Hands the rows of the views over, and gives back their lengths.
 // Kept: two `map`s of the array were tried: they prove, and take 17,952 bytes more of stack.
-fn put_rows(views: [EventList; 64], rows: &mut [[u8; 64]; 64]) -> [u8; 64]
-    requires { (k : ℕ) → (get_or views k no_list).count ≤ 64 }
-    ensures { (result ≡ map (λ (l : EventList). l.count) views) × (rows.new ≡ map (λ (l : EventList). l.events) views) }
+fn put_rows(views: &[EventList; 64], rows: &mut [[u8; 64]; 64]) -> [u8; 64]
+    requires { (k : ℕ) → (get_or views.now k no_list).count ≤ 64 }
+    ensures { (result ≡ map (λ (l : EventList). l.count) views.now) × (rows.new ≡ map (λ (l : EventList). l.events) views.now) }
 {
     let mut lengths = [0u8; 64];
     for (i, view) in views.iter().enumerate() {
@@ -191,7 +191,7 @@ fn read_lines(
     let criterion = lines.criterion()?;
     let pasts = lines.pasts(criterion, events)?;
     let views = lines.views(criterion, events)?;
-    let lengths = put_rows(views, rows);
+    let lengths = put_rows(&views, rows);
     Ok(Certificate {
         criterion,
         pasts,
