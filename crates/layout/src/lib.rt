@@ -1,5 +1,7 @@
 // The parts of a line: how bytes are cut into lines, fields and items, and how words, numbers and comma lists are
 // spelt, read and written. Everything above knows these functions by their contracts alone.
+// Kept: `bound ≤ 4294967296` of five contracts is a bound of one number, and no type of its own: `is_spelling` reads below 2^32, which
+// no u32 holds.
 
 #![tactic(auto)]
 
