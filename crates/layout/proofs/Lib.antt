@@ -4,6 +4,7 @@ pub mod WordLaws
 pub mod NumberLaws
 pub mod SpellLaws
 pub mod LeadingLaws
+pub mod StandsLaws
 pub mod FillLaws
 pub mod PiecesLaws
 pub mod LineLaws

@@ -136,6 +136,10 @@ module _ (s : List ℕ) (a e : ℕ) (from : a ≤ e) (to : e ≤ length s) where
 
 -- ---- a field as a number
 module _ (f : List ℕ) where
+  pub number-starts : is_number f ≡ true → starts_well f ≡ true
+  unfolding is_number
+  number-starts e = and_left (starts_well f) (all_digits f) e
+
   pub starts-not : starts_well f ≡ false → is_number f ≡ false
   unfolding is_number
   starts-not e = rw e

@@ -3,3 +3,4 @@ pub mod Number
 pub mod List
 pub mod Fill
 pub mod Leading
+pub mod Stands
