@@ -45,15 +45,15 @@ module _ (own : ℕ) (os : List Object) (text : List ℕ) where
         ∙ event-written own os e first.numbered first.good
 
   -- what the line is, in one pass or cut and read
-  pub next-is : (q : Option (Event × Bor (List ℕ))) (n : Next Event) → IfSome q (λ r. EventFirst own os text r.0 r.1.now)
+  pub next_is : (q : Option (Event × Bor (List ℕ))) (n : Next Event) → IfSome q (λ r. EventFirst own os text r.0 r.1.now)
       → MatchOption q
       ((n.length ≡ find 10 text) × (find 10 text < length text → event_read n.read ≡ event_line own os (take (find 10 text) text)) × (length text ≤ find 10 text → n.read ≡ Err Layout))
       (λ r. (n.length + 1 + length r.1.now ≡ length text) × (n.read ≡ Ok r.0))
       → (event_read n.read ≡ next_read own os text) × (n.length ≡ find 10 text) × (n.length ≤ length text)
-  next-is None n first m = (
+  next_is None n first m = (
     by-lt (find 10 text) (length text) (λ h. m.1 h ∙ sym (next-line h)) (λ h. ap event_read (m.2 h) ∙ sym (next-cut h)),
     m.0,
     omega (arith, m.0, find-le 10 text),
   )
-  next-is (Some (e, rest)) n first m =
+  next_is (Some (e, rest)) n first m =
       (ap event_read m.1 ∙ sym (first-read e rest.now first), omega (arith, m.0, first-long e rest.now first), omega (arith, m.0))

@@ -4,9 +4,14 @@ use native.Mathlib.Omega.{arith}
 use mathlib.Core.Path.{◌≡◌, sym, ap, ap₂, ◌∙◌}
 use mathlib.Core.Bool.{true, false, cond}
 use mathlib.Core.List.{List, [], ◌∷◌, ◌++◌, append_assoc}
-use lib.ListN.{length, get_or, take, set}
+use lib.ListN.{length, get_or, take, drop, set}
+use lib.Dec.{eqb}
+use lib.Pointwise.{pointwise}
 use borrow.Author.Tests.{lt-ltb}
 use Rattle.std.specs.Prelude.{Option, Some, None}
+use Rattle.std.proofs.Common.{Bor}
+use Rattle.std.proofs.lemmas.Bool.Decides.{Decides-eqb}
+use Rattle.std.proofs.lemmas.Slice.Eq.{strip_prefix_is}
 use Rattle.layout.specs.Split.{join}
 use Rattle.layout.specs.Word.{dash}
 use Rattle.layout.specs.Number.{spell}
@@ -24,8 +29,8 @@ use Rattle.event_reader.specs.Steps.Next.{AnswerFirst, EventFirst}
 use Rattle.event_reader.proofs.EventRound.{word-op, made-good, made-lost}
 
 -- the op of a word that was read
-pub op-read : (word : List ℕ) (op : Op) → Some op ≡ cond (is_op word) (Some (op_of word)) None → op_word op ≡ word
-op-read word op e =
+pub op_read : (word : List ℕ) (op : Op) → Some op ≡ cond (is_op word) (Some (op_of word)) None → op_word op ≡ word
+op_read word op e =
     by_bool (is_op word)
     (λ t. let p : Some op ≡ Some (op_of word) = rw t at e in let q : op ≡ op_of word = cc in ap op_word q ∙ word-op word t)
     (λ t. let p : ◌≡◌ {A = Option Op} (Some op) None = rw t at e in absurd (cc))
@@ -58,20 +63,25 @@ values-end {k} {text} {xs} {rest} r room v behind after number below c =
       spelt = listed-ends r room v behind number below ∙ ap (λ (l : List ℕ). list_text ys ++ l) c;
     }
 
+-- a text that begins with the two bytes of an answer and its line feed, as `strip_prefix` tells it
+abbrev Begins : (text word rest : List ℕ) → Type 0
+Begins text word rest =
+    (pointwise eqb (take (length word) text) word ≡ true) × (rest ≡ drop (length word) text) × (length rest + length word ≡ length text)
+
 -- `-` and a line feed
-pub none-first : (text rest : List ℕ) (a : Answer) → a ≡ no_answer → text ≡ 45 ∷ 10 ∷ rest → AnswerFirst text a rest
+pub none_first : (text : List ℕ) (rest : Bor (List ℕ)) (a : Answer) → a ≡ no_answer → Begins text (45 ∷ 10 ∷ []) rest.now → AnswerFirst text a rest.now
 unfolding answer_text list_text good_answer all_less all_zero
-none-first text rest a q p = record {
+none_first text rest a q m = record {
   good = λ object op can. ap (good_answer object op) q ∙ rw (sym (ap (may_answer object op) q) ∙ can);
-  spelt = rw q p;
+  spelt = rw q (strip_prefix_is Decides-eqb text (45 ∷ 10 ∷ []) (Some rest) m);
 }
 
 -- `?` and a line feed
-pub lost-first : (text rest : List ℕ) (a : Answer) → a ≡ lost_answer → text ≡ 63 ∷ 10 ∷ rest → AnswerFirst text a rest
+pub lost_first : (text : List ℕ) (rest : Bor (List ℕ)) (a : Answer) → a ≡ lost_answer → Begins text (63 ∷ 10 ∷ []) rest.now → AnswerFirst text a rest.now
 unfolding answer_text
-lost-first text rest a q p = record {
+lost_first text rest a q m = record {
   good = λ object op can. ap (good_answer object op) q ∙ made-lost object op;
-  spelt = rw q p;
+  spelt = rw q (strip_prefix_is Decides-eqb text (63 ∷ 10 ∷ []) (Some rest) m);
 }
 
 -- an event of fields that are in order is good
@@ -84,7 +94,7 @@ made-event os process object op value a p o has given good =
     rw (lt-ltb process 8 p, lt-ltb object (length os) o, has, given) good
 
 -- six fields that are in order, one behind the other
-pub fields-first : (own : ℕ) (os : List Object) (number process object : ℕ) (op : Op) (value : ℕ) (a : Answer)
+pub fields_first : (own : ℕ) (os : List Object) (number process object : ℕ) (op : Op) (value : ℕ) (a : Answer)
     {text r₁ r₂ r₃ r₄ r₅ rest : List ℕ} → number ≡ own → (text ≡ spell number ++ 32 ∷ r₁) × (number < 64)
     → (r₁ ≡ spell process ++ 32 ∷ r₂) × (process < 8) → (r₂ ≡ spell object ++ 32 ∷ r₃) × (object < length os)
     → has_op (get_or os object no_object).kind op ≡ true → r₃ ≡ op_word op ++ 32 ∷ r₄
@@ -92,7 +102,7 @@ pub fields-first : (own : ℕ) (os : List Object) (number process object : ℕ) 
     → AnswerFirst r₅ a rest → may_answer (get_or os object no_object) op a ≡ true
     → EventFirst own os text (record { process = record { 0 = process }; object = object; op = op; value = value; answer = a }) rest
 unfolding event_text
-fields-first own os number process object op value a same f₁ f₂ f₃ has f₄ f₅ f₆ can =
+fields_first own os number process object op value a same f₁ f₂ f₃ has f₄ f₅ f₆ can =
     record {
       numbered = omega (arith, f₁.1);
       good = made-event os process object op value a f₂.1 f₃.1 has f₅.0 (f₆.good (get_or os object no_object) op can);

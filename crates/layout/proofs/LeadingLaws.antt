@@ -87,9 +87,9 @@ behind-some (Some (w, r)) v rest e =
 
 module _ (bound : ℕ) (text : List ℕ) where
   -- what the text is, and that the number is below the bound
-  pub spaced-leads : (v : ℕ) (rest : List ℕ) → number_before_space bound text ≡ Some (v, rest) → (text ≡ spell v ++ 32 ∷ rest) × (v < bound)
+  pub spaced_leads : (v : ℕ) (rest : List ℕ) → number_before_space bound text ≡ Some (v, rest) → (text ≡ spell v ++ 32 ∷ rest) × (v < bound)
   unfolding number_before_space
-  spaced-leads v rest e =
+  spaced_leads v rest e =
       let t = behind-some (leading_number bound text) v rest e in
       let n = number-leads bound text v t.0 t.1 in
       (n.0 ∙ ap (λ (l : List ℕ). spell v ++ l) t.2, n.1)

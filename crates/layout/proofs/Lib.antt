@@ -5,6 +5,7 @@ pub mod TableLaws
 pub mod NumberLaws
 pub mod SpellLaws
 pub mod LeadingLaws
+pub mod StandsLaws
 pub mod FillLaws
 pub mod PiecesLaws
 pub mod LineLaws

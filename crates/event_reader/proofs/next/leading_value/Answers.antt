@@ -5,14 +5,14 @@ use borrow.Author.Tests.{lt-ltb}
 use Rattle.std.specs.Prelude.{Some}
 use Rattle.std.proofs.lemmas.Bool.Decides.{Decides-eqb}
 use Rattle.std.proofs.lemmas.Slice.Eq.{strip_prefix_is}
-use Rattle.layout.proofs.LeadingLaws.{spaced-leads}
+use Rattle.layout.proofs.LeadingLaws.{spaced_leads}
 use Rattle.history.specs.Readable.{good_value}
 use Rattle.event_reader.proofs.next.leading_value.Goals as goal
 
 pub returns-then-takes_value : goal.returns-then-takes_value
 unfolding good_value
 returns-then-takes_value c =
-    let n = spaced-leads _ c.args.text.now _ _ c.in_ok-number.ensures.0 in
+    let n = spaced_leads _ c.args.text.now _ _ c.in_ok-number.ensures.0 in
     rw (sym c.takes_value.ensures ∙ c.if-takes_value.true) (lt-ltb _ _ n.1, n.0)
 
 pub returns : goal.returns
