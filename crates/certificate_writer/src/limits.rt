@@ -29,7 +29,7 @@ fn all_zero(row: &[u8]) -> bool
 }
 
 // Whether the events of a row are strictly rising.
-// Kept: one call of the library's method; a generic one would need a law that T's order is that of its number.
+// Kept: one call of the library's method; a generic one, for items of u32 too, would put `map T.number` into each caller's clauses.
 fn is_rising(row: &[u8]) -> bool
     ensures { result ≡ rising row.now }
 {

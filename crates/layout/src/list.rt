@@ -71,10 +71,12 @@ pub fn read_list(field: &[u8], bound: u64, items: &mut [u32]) -> Result<usize, L
     read_items(field, bound, items)
 }
 
-// An item of a list: a number, as wide as those that are lent.
+// An item of a list, of any width.
 pub trait Item {
+    // The number that is written for it.
     ghost number: { Self → ℕ };
 
+    // That number.
     fn number(&self) -> u32
         ensures { result ≡ number self.now };
 }
