@@ -19,11 +19,7 @@ use orders::rows::{in_own_past, lacks_own, not_transitive};
 pub fn processes_of(events: &[Event; 64]) -> [u8; 64]
     ensures { (e : ℕ) → e < 64 → get_or result e 0 ≡ (get_or events.now e no_event).process.0 }
 {
-    let mut processes = [0u8; 64];
-    for (e, event) in events.iter().enumerate() {
-        processes[e] = event.process.0;
-    }
-    processes
+    events.map(|e| e.process.0)
 }
 
 // How many of n events have a past.

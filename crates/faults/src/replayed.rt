@@ -15,7 +15,6 @@ use crate::finding::Finding;
 use certificate::numbers::ViewNumbers;
 use certificate::record::Criterion;
 use history::record::History;
-use objects::starts::starts;
 use orders::views::Views;
 use replayed_views::cut::first_wrong_cut;
 use replayed_views::search::first_wrong;
@@ -26,7 +25,7 @@ use replays::visible::visible_views;
 fn is_converge(c: Criterion) -> bool
     ensures { result ≡ is_converge c }
 {
-    matches!(c, Criterion::Converge)
+    c == Criterion::Converge
 }
 
 // 16 of the views of a certificate, whose numbers these are; `rows` are the order, which converge cuts its view by.
@@ -41,15 +40,14 @@ pub(crate) fn replay_fault(
     ensures { finding_of result ≡ find16 criterion (history_of h.now) (in_rows rows.now) (beginnings views.now.lengths.now views.now.rows.now) }
 {
     let history = light_history(h);
-    let begin = starts(h.objects);
     if is_converge(criterion) {
-        return match first_wrong_cut(&history, begin, rows, views.get(0).events) {
+        return match first_wrong_cut(&history, rows, views.get(0).events) {
             Some(e) => Err(Finding::Wrong(named.numbers[0], e)),
             None => Ok(()),
         };
     }
     let who = visible_views(criterion, named.numbers, history.events);
-    match first_wrong(&history, begin, views, &who) {
+    match first_wrong(&history, views, &who) {
         Some(place) => Err(Finding::Wrong(named.numbers[place.view], place.event)),
         None => Ok(()),
     }

@@ -158,8 +158,8 @@ changed-law s r op number e m h t g = record {
 }
 
 -- A state at two ends.
-abbrev between : State → List ℕ → ℕ → ℕ → State
-between s l h t = record { numbers = l; head = h; tail = t; newest = s.newest; limit = s.limit }
+abbrev between : State → List ℕ → (h t : ℕ) → h ≤ t → t ≤ 65 → State
+between s l h t ordered room = record { numbers = l; head = h; tail = t; newest = s.newest; limit = s.limit; ordered = ordered; room = room }
 
 -- a register and a window keep as many values as they hold at most
 keeps-by : (k : Kind) (w : ℕ) → has_op k Write ≡ true → keeps k w ≡ limit_for k w
@@ -177,7 +177,7 @@ full_by Stack w n h le = sym (lt-leb 255 n (omega arith))
 full_by Window w n h le = absurd (false≢true h)
 full_by Channel w n h le = refl
 
-module _ (s : State) (len : length s.numbers ≡ 65) (room : s.tail ≤ 65) where
+module _ (s : State) (len : length s.numbers ≡ 65) where
   full-held : (o : Object) → Suits o Push s → full o (held s) ≡ leb s.limit (s.tail - s.head)
   full-held o k =
       let n : ℕ = s.tail - s.head in
@@ -189,26 +189,22 @@ module _ (s : State) (len : length s.numbers ≡ 65) (room : s.tail ≤ 65) wher
   unfolding contents_of
   full_is vs o k = map-full (value_in vs) o (held s) ∙ full-held o k
 
-module _ (s : State) (ends : s.head ≤ s.tail) where
-  -- an op that changes nothing
-  pub kept : (op : Op) (number : ℕ) → ((o : Object) (l : List ℕ) → l ≡ after o op number l) → Changed s op number s
-  kept op number e = changed-law s s op number refl refl ends (omega arith) (λ o k. e o (held s))
-
+module _ (s : State) where
   module _ (len : length s.numbers ≡ 65) (room : s.tail < 65) (number : ℕ) where
     put : (b : Bool) → leb s.limit (s.tail - s.head) ≡ b → (o : Object) → Suits o Push s
         → after o Push number (held s) ≡ cond b (held s) (held s ++ (number ∷ []))
     put b e o k =
-        ap (λ (t : Bool). cond t (held s) (held s ++ (number ∷ []))) (full-held s len (omega arith) o k ∙ e)
+        ap (λ (t : Bool). cond t (held s) (held s ++ (number ∷ []))) (full-held s len o k ∙ e)
 
     pub push-full : leb s.limit (s.tail - s.head) ≡ true → Changed s Push number s
-    push-full e = changed-law s s Push number refl refl ends (omega arith) (λ o k. sym (put true e o k))
+    push-full e = changed-law s s Push number refl refl s.ordered (omega arith) (λ o k. sym (put true e o k))
 
-    pub push-changes : leb s.limit (s.tail - s.head) ≡ false
-        → Changed s Push number (between s (set s.numbers s.tail number) s.head (s.tail + 1))
+    pub push-changes : leb s.limit (s.tail - s.head) ≡ false → {h : s.head ≤ s.tail + 1} {t : s.tail + 1 ≤ 65}
+        → Changed s Push number (between s (set s.numbers s.tail number) s.head (s.tail + 1) h t)
     push-changes e =
         changed-law s _ Push number refl refl (omega arith) (omega arith)
         (λ o k.
-        slice-push s.numbers s.head s.tail number ends (omega arith)
+        slice-push s.numbers s.head s.tail number s.ordered (omega arith)
         ∙ sym (put false e o k))
 
     -- what a write makes of it: the last ones of what it held and the new one
@@ -216,7 +212,7 @@ module _ (s : State) (ends : s.head ≤ s.tail) where
         → after o Write number (held s) ≡ slice (s.head + (s.tail - s.head + 1 - s.limit)) (s.tail + 1) (set s.numbers s.tail number)
     last-values o k =
         let l = set s.numbers s.tail number in
-        let q : held s ++ (number ∷ []) ≡ slice s.head (s.tail + 1) l = sym (slice-push s.numbers s.head s.tail number ends (omega arith)) in
+        let q : held s ++ (number ∷ []) ≡ slice s.head (s.tail + 1) l = sym (slice-push s.numbers s.head s.tail number s.ordered (omega arith)) in
         let n : length (slice s.head (s.tail + 1) l) ≡ s.tail + 1 - s.head =
         length-slice s.head (s.tail + 1) l (omega (arith, length-set s.numbers s.tail number)) in
         let z : length (slice s.head (s.tail + 1) l) - s.limit ≡ s.tail - s.head + 1 - s.limit = omega (arith, n) in
@@ -225,19 +221,19 @@ module _ (s : State) (ends : s.head ≤ s.tail) where
         ∙ ap (λ (m : ℕ). drop m (slice s.head (s.tail + 1) l)) z
         ∙ drop-drop (s.tail - s.head + 1 - s.limit) s.head (take (s.tail + 1) l)
 
-    write-at : (h : ℕ) → h ≡ s.head + (s.tail - s.head + 1 - s.limit) → h ≤ s.tail + 1
-        → Changed s Write number (between s (set s.numbers s.tail number) h (s.tail + 1))
-    write-at h e le =
+    write-at : (h : ℕ) → h ≡ s.head + (s.tail - s.head + 1 - s.limit) → {le : h ≤ s.tail + 1} {t : s.tail + 1 ≤ 65}
+        → Changed s Write number (between s (set s.numbers s.tail number) h (s.tail + 1) le t)
+    write-at h e {le} =
         changed-law s _ Write number refl refl le (omega arith)
         (λ o k. ap (λ (x : ℕ). slice x (s.tail + 1) (set s.numbers s.tail number)) e ∙ sym (last-values o k))
 
-    pub write-drops : leb s.limit (s.tail - s.head) ≡ true
-        → Changed s Write number (between s (set s.numbers s.tail number) (s.tail + 1 - s.limit) (s.tail + 1))
-    write-drops e = let le = leb-true s.limit (s.tail - s.head) e in write-at (s.tail + 1 - s.limit) (omega arith) (omega arith)
+    pub write-drops : leb s.limit (s.tail - s.head) ≡ true → {h : s.tail + 1 - s.limit ≤ s.tail + 1} {t : s.tail + 1 ≤ 65}
+        → Changed s Write number (between s (set s.numbers s.tail number) (s.tail + 1 - s.limit) (s.tail + 1) h t)
+    write-drops e = let le = leb-true s.limit (s.tail - s.head) e in write-at (s.tail + 1 - s.limit) (omega arith)
 
-    pub write-adds : leb s.limit (s.tail - s.head) ≡ false
-        → Changed s Write number (between s (set s.numbers s.tail number) s.head (s.tail + 1))
-    write-adds e = let lt = leb-false s.limit (s.tail - s.head) e in write-at s.head (omega arith) (omega arith)
+    pub write-adds : leb s.limit (s.tail - s.head) ≡ false → {h : s.head ≤ s.tail + 1} {t : s.tail + 1 ≤ 65}
+        → Changed s Write number (between s (set s.numbers s.tail number) s.head (s.tail + 1) h t)
+    write-adds e = let lt = leb-false s.limit (s.tail - s.head) e in write-at s.head (omega arith)
 
   module _ (empty : s.head ≡ s.tail) where
     none-held : held s ≡ []
@@ -245,11 +241,12 @@ module _ (s : State) (ends : s.head ≤ s.tail) where
 
     pub pop-none : (number : ℕ) → Changed s Pop number s
     pop-none number =
-        changed-law s s Pop number refl refl ends (omega arith)
+        changed-law s s Pop number refl refl s.ordered (omega arith)
         (λ o k. none-held ∙ sym (ap (untop o.kind) none-held ∙ untop-none o.kind))
 
   module _ (lt : s.head < s.tail) where
-    pub pop-oldest : s.newest ≡ false → (number : ℕ) → Changed s Pop number (between s s.numbers (s.head + 1) s.tail)
+    pub pop-oldest : s.newest ≡ false → {h : s.head + 1 ≤ s.tail} {t : s.tail ≤ 65} → (number : ℕ)
+        → Changed s Pop number (between s s.numbers (s.head + 1) s.tail h t)
     pop-oldest n number =
         changed-law s _ Pop number refl refl (omega arith) (omega arith)
         (λ o k. slice-tail s.numbers s.head s.tail ∙ sym (untop-is o.kind (held s) ∙ rw (k.newest ∙ n)))
@@ -264,7 +261,8 @@ module _ (s : State) (ends : s.head ≤ s.tail) where
       oldest-first : held s ≡ get_or s.numbers s.head 0 ∷ slice (suc s.head) s.tail s.numbers
       oldest-first = slice-cons s.head s.tail s.numbers 0 lt room
 
-      pub pop-newest : s.newest ≡ true → (number : ℕ) → Changed s Pop number (between s s.numbers s.head (s.tail - 1))
+      pub pop-newest : s.newest ≡ true → {h : s.head ≤ s.tail - 1} {t : s.tail - 1 ≤ 65} → (number : ℕ)
+          → Changed s Pop number (between s s.numbers s.head (s.tail - 1) h t)
       pop-newest n number =
           changed-law s _ Pop number refl refl (omega arith) (omega arith)
           (λ o k. sym (untop-is o.kind (held s) ∙ rw (k.newest ∙ n, newest-last, snoc-init)))
@@ -279,17 +277,17 @@ module _ (s : State) (a : Given) where
         values = λ vs o k. ap (map (value_in vs)) (g.numbers ∙ e o k) ∙ map-top (value_in vs) o.kind (held s);
       }
 
-  pub shows-none : s.head ≤ s.tail → s.head ≡ s.tail → Names [] a → Shows s a
-  shows-none ends empty g = shows-law [] g (λ o k. sym (ap (top o.kind) (none-held s ends empty) ∙ top-none o.kind))
+  pub shows-none : s.head ≡ s.tail → Names [] a → Shows s a
+  shows-none empty g = shows-law [] g (λ o k. sym (ap (top o.kind) (none-held s empty) ∙ top-none o.kind))
 
-  module _ (ends : s.head ≤ s.tail) (lt : s.head < s.tail) (room : s.tail ≤ length s.numbers) where
+  module _ (lt : s.head < s.tail) (room : s.tail ≤ length s.numbers) where
     pub shows-newest : s.newest ≡ true → Names (get_or s.numbers (s.tail - 1) 0 ∷ []) a → Shows s a
     shows-newest n g =
-        shows-law _ g (λ o k. sym (top-is o.kind (held s) ∙ rw (k ∙ n, newest-last s ends lt room, snoc-last)))
+        shows-law _ g (λ o k. sym (top-is o.kind (held s) ∙ rw (k ∙ n, newest-last s lt room, snoc-last)))
 
     pub shows-oldest : s.newest ≡ false → Names (get_or s.numbers s.head 0 ∷ []) a → Shows s a
     shows-oldest n g =
-        shows-law _ g (λ o k. sym (top-is o.kind (held s) ∙ rw (k ∙ n, oldest-first s ends lt room)))
+        shows-law _ g (λ o k. sym (top-is o.kind (held s) ∙ rw (k ∙ n, oldest-first s lt room)))
 
   pub end-answers : (op : Op) (number : ℕ) → ((o : Object) (v : ℕ) (l : List ℕ) → top o.kind l ≡ gives o op v l) → Shows s a
       → Answered s op number a
@@ -303,24 +301,24 @@ module _ (s : State) (a : Given) where
       record { few = g.few; values = λ vs o k h. ap (map (value_in vs)) g.numbers ∙ e o (value_in vs number) (contents_of vs s) }
 
   -- a push answers its value where the object holds as many as it can
-  pub push-answers : (number : ℕ) (b : Bool) → length s.numbers ≡ 65 → s.tail ≤ 65 → leb s.limit (s.tail - s.head) ≡ b
+  pub push-answers : (number : ℕ) (b : Bool) → length s.numbers ≡ 65 → leb s.limit (s.tail - s.head) ≡ b
       → Names (cond b (number ∷ []) []) a → Answered s Push number a
   unfolding given_of
-  push-answers number b len room e g = record {
+  push-answers number b len e g = record {
     few = g.few;
     values = λ vs o k h.
         ap (map (value_in vs)) g.numbers
         ∙ map_back (value_in vs) b number
-        ∙ sym (ap (λ (t : Bool). cond t (value_in vs number ∷ []) []) (full_is s len room vs o k ∙ e));
+        ∙ sym (ap (λ (t : Bool). cond t (value_in vs number ∷ []) []) (full_is s len vs o k ∙ e));
   }
 
 -- ---- the copy of a read
 -- the first n values that the object holds, from the place `first` to the place `end`; the places behind them hold what they held
-pub read-answers : (s : State) (first end n : ℕ) (copied rest : List ℕ) → s.head ≤ s.tail → s.tail ≤ length s.numbers → first ≡ s.head → end ≡ s.tail
+pub read-answers : (s : State) (first end n : ℕ) (copied rest : List ℕ) → s.tail ≤ length s.numbers → first ≡ s.head → end ≡ s.tail
     → n ≡ min (length (take (end - first) (drop first s.numbers))) 8 → copied ≡ take n (take (end - first) (drop first s.numbers)) → (number : ℕ)
     → Answered s Read number (record { numbers = copied ++ rest; count = n })
 unfolding contents_of given_of
-read-answers s first end n copied rest ends room h t few copy number =
+read-answers s first end n copied rest room h t few copy number =
     let t_is : s.tail ≡ s.head + (s.tail - s.head) = omega arith in
     let are : take (end - first) (drop first s.numbers) ≡ held s =
     rw (h, t) (sym (drop-take s.head (s.tail - s.head) s.numbers) ∙ ap (λ (k : ℕ). slice s.head k s.numbers) (sym t_is)) in

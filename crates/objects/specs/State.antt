@@ -1,5 +1,6 @@
 -- The state of an object in a replay, and what it holds. Assumes nothing.
 use Rattle.std.specs.Prelude.{ℕ, ◌+◌, ◌≤◌, ◌≡◌, Bool, true, false, List, [], map, length, get_or, take, drop}
+use Rattle.std.proofs.Common.{arith}
 use Rattle.history.specs.declared.record.Kind.{Kind}
 use Rattle.history.specs.declared.record.Kind.TheVariants.{Register, Queue, Stack, Window, Channel}
 use Rattle.history.specs.declared.record.Object.{Object}
@@ -44,7 +45,7 @@ limit_of o = limit_for o.kind o.width
 
 -- What stands in a place that is not used.
 abbrev pub no_state : State
-no_state = record { numbers = []; head = 0; tail = 0; newest = false; limit = 0 }
+no_state = record { numbers = []; head = 0; tail = 0; newest = false; limit = 0; ordered = omega arith; room = omega arith }
 
 -- A state in which an object starts.
 pub record Fresh (o : Object) (r : State) : Type 0 where

@@ -1,13 +1,14 @@
 // The state of an object in a replay: methods by value take an event and hand back state and answer (`step`), or one of the two
 // (`changed`, `answer`).
 ghost use Rattle.std.specs.Prelude.{◌≡◌, ℕ, ◌-◌, ◌≤◌, ◌<◌, [], ◌∷◌, leb};
-ghost use Rattle.objects.specs.State.{Fresh, Changed, Answered};
-ghost use Rattle.objects.specs.Steps.State.{Starts, Names, Shows};
 
 use history::record::{EventNo, Kind, Object, Op};
 
+// The number of a value of the start: that of no event.
+const START: u8 = 64;
+
 // What the object holds is the values of the events numbers[head..tail], oldest first. There is a place for each of 64 events, and one
-// for the number 64, which stands for the value 0 that a register starts with. Pop and peek take the newest of them, or the oldest.
+// for the number START, which stands for the value 0 that a register starts with. Pop and peek take the newest of them, or the oldest.
 // The object holds at most `limit` values.
 // Kept: what may not change: the definitions `Fresh` and `limit_for` have the number 64 and the limit 255 as numbers, `contents_of` reads
 // values by their numbers, and `is_stack` and `Suits` have `newest` as a bool. No heap, fixed memory.
@@ -18,6 +19,8 @@ pub struct State {
     pub tail: u8,
     pub newest: bool,
     pub limit: u8,
+    pub ghost ordered: { head ≤ tail },
+    pub ghost room: { tail ≤ 65 },
 }
 
 // An event, as its object takes it: its number and op.
@@ -42,54 +45,61 @@ pub struct Step {
     pub answer: Given,
 }
 
-// The answer of no value.
-fn none() -> Given
-    ensures { Names [] result }
-{
-    Given {
-        numbers: [64; 8],
-        count: 0,
+impl Given {
+    ghost use Rattle.objects.specs.Steps.State.{Names};
+
+    // The answer of no value.
+    fn none() -> Given
+        ensures { Names [] result }
+    {
+        Given {
+            numbers: [0; 8],
+            count: 0,
+        }
     }
-}
 
-// The answer of one value.
-fn one(number: u8) -> Given
-    ensures { Names (number ∷ []) result }
-{
-    let mut numbers = [64; 8];
-    numbers[0] = number;
-    Given { numbers, count: 1 }
-}
-
-// A state of so many values of the start, and of at most `limit` values.
-fn started(tail: u8, newest: bool, limit: u8) -> State
-    ensures { Starts tail newest limit result }
-{
-    State {
-        numbers: [64; 65],
-        head: 0,
-        tail,
-        newest,
-        limit,
+    // The answer of one value.
+    fn one(number: u8) -> Given
+        ensures { Names (number ∷ []) result }
+    {
+        let mut numbers = [0; 8];
+        numbers[0] = number;
+        Given { numbers, count: 1 }
     }
 }
 
 impl State {
+    ghost use Rattle.objects.specs.State.{Fresh, Changed, Answered};
+    ghost use Rattle.objects.specs.Steps.State.{Starts, Shows};
+
+    // A state of so many values of the start, and of at most `limit` values.
+    fn started(tail: u8, newest: bool, limit: u8) -> State
+        requires { tail ≤ 1 }
+        ensures { Starts tail newest limit result }
+    {
+        State {
+            numbers: [START; 65],
+            head: 0,
+            tail,
+            newest,
+            limit,
+        }
+    }
+
     // The state at the start.
     pub fn fresh(o: Object) -> State
         ensures { Fresh o result }
     {
         match o.kind {
-            Kind::Register => started(1, false, 1),
-            Kind::Queue => started(0, false, 255),
-            Kind::Stack => started(0, true, 255),
-            Kind::Window | Kind::Channel => started(0, false, o.width),
+            Kind::Register => State::started(1, false, 1),
+            Kind::Queue => State::started(0, false, 255),
+            Kind::Stack => State::started(0, true, 255),
+            Kind::Window | Kind::Channel => State::started(0, false, o.width),
         }
     }
 
     // Whether the object holds as many values as it can.
     fn is_full(&self) -> bool
-        requires { self.now.head ≤ self.now.tail }
         ensures { result ≡ leb self.now.limit (self.now.tail - self.now.head) }
     {
         self.limit <= self.tail - self.head
@@ -97,7 +107,7 @@ impl State {
 
     // Puts the event behind the newest, unless the object holds as many as it can.
     fn pushed(mut self, no: EventNo) -> State
-        requires { (self.head ≤ self.tail) × (self.tail < 65) }
+        requires { self.tail < 65 }
         ensures { Changed self Op.Push no.0 result }
     {
         if self.is_full() {
@@ -110,21 +120,21 @@ impl State {
 
     // Puts the event behind the newest, and keeps the last ones where the object held as many as it can.
     fn written(mut self, no: EventNo) -> State
-        requires { (self.head ≤ self.tail) × (self.tail < 65) }
+        requires { self.tail < 65 }
         ensures { Changed self Op.Write no.0 result }
     {
         let full = self.is_full();
         self.numbers[usize::from(self.tail)] = no.0;
         self.tail += 1;
-        if full {
-            self.head = self.tail - self.limit;
+        if !full {
+            return self;
         }
+        self.head = self.tail - self.limit;
         self
     }
 
     // Drops the event at the end that pop takes, if there is one.
     fn popped(mut self) -> State
-        requires { (self.head ≤ self.tail) × (self.tail < 65) }
         ensures { (no : ℕ) → Changed self Op.Pop no result }
     {
         if self.head == self.tail {
@@ -132,15 +142,15 @@ impl State {
         }
         if self.newest {
             self.tail -= 1;
-        } else {
-            self.head += 1;
+            return self;
         }
+        self.head += 1;
         self
     }
 
     // The state after the event.
     pub fn changed(self, e: EventOp) -> State
-        requires { (self.head ≤ self.tail) × (self.tail < 65) }
+        requires { self.tail < 65 }
         ensures { Changed self e.op e.no.0 result }
     {
         match e.op {
@@ -153,46 +163,46 @@ impl State {
 
     // The value that pop takes and peek shows, if there is one.
     fn ended(self) -> Given
-        requires { (self.head ≤ self.tail) × (self.tail ≤ 65) }
         ensures { Shows self result }
     {
         if self.head == self.tail {
-            return none();
+            return Given::none();
         }
         if self.newest {
-            one(self.numbers[usize::from(self.tail - 1)])
+            Given::one(self.numbers[usize::from(self.tail - 1)])
         } else {
-            one(self.numbers[usize::from(self.head)])
+            Given::one(self.numbers[usize::from(self.head)])
         }
     }
 
     // The first eight values.
     fn read(self) -> Given
-        requires { (self.head ≤ self.tail) × (self.tail ≤ 65) }
         ensures { (no : ℕ) → Answered self Op.Read no result }
     {
         let held = &self.numbers[usize::from(self.head)..usize::from(self.tail)];
         let count = held.len().min(8);
-        let mut numbers = [64; 8];
+        let mut numbers = [0; 8];
         numbers[..count].copy_from_slice(&held[..count]);
         Given { numbers, count }
     }
 
     // What a push answers: its value where the object holds as many as it can, and else nothing.
     fn push_answer(self, no: EventNo) -> Given
-        requires { (self.head ≤ self.tail) × (self.tail ≤ 65) }
         ensures { Answered self Op.Push no.0 result }
     {
-        if self.is_full() { one(no.0) } else { none() }
+        if self.is_full() {
+            Given::one(no.0)
+        } else {
+            Given::none()
+        }
     }
 
     // What the event answers: at most the first eight.
     pub fn answer(self, e: EventOp) -> Given
-        requires { (self.head ≤ self.tail) × (self.tail ≤ 65) }
         ensures { Answered self e.op e.no.0 result }
     {
         match e.op {
-            Op::Write => none(),
+            Op::Write => Given::none(),
             Op::Read => self.read(),
             Op::Push => self.push_answer(e.no),
             Op::Pop | Op::Peek => self.ended(),
@@ -201,7 +211,7 @@ impl State {
 
     // Takes an event and hands back state and answer.
     pub fn step(self, e: EventOp) -> Step
-        requires { (self.head ≤ self.tail) × (self.tail < 65) }
+        requires { self.tail < 65 }
         ensures { Changed self e.op e.no.0 result.state × Answered self e.op e.no.0 result.answer }
     {
         Step {

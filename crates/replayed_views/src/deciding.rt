@@ -13,12 +13,8 @@ fn alone(events: &[Light; 64], rest: &[u8], p: ProcessNo, e: EventNo) -> bool
     requires { (i : ℕ) → i < length rest.now → get_or rest.now i 0 < 64 }
     ensures { result ≡ true → (f : ℕ) → mem f rest.now ≡ true → (get_or events.now f no_light).process.0 ≡ p.0 → f ≡ e.0 }
 {
-    for no in rest {
-        if events[usize::from(*no)].process == p && *no != e.0 {
-            return false;
-        }
-    }
-    true
+    rest.iter()
+        .all(|no| events[usize::from(*no)].process != p || *no == e.0)
 }
 
 // Whether b goes on from a by events of which none but e is of process p, which is e's.
@@ -39,31 +35,30 @@ fn shows(who: Visible, p: ProcessNo) -> bool
     matches!(who, Visible::Of(q) if q == p)
 }
 
-// What was replayed before a view, and found right: a view, and whose answers were visible in it.
+// A view, and whose answers are visible in it.
 #[derive(Clone, Copy)]
-pub(crate) struct Before<'a> {
+pub(crate) struct ShownView<'a> {
     pub view: &'a [u8],
     pub seen: Visible,
 }
 
-// The event that alone decides view k, if the view before it is right.
+// The event that alone decides this view, the one at the place k, if the view before it is right.
 pub(crate) fn deciding(
     history: &LightHistory,
-    seen: Visible,
-    before: Before,
-    view: &[u8],
+    before: ShownView,
+    this: ShownView,
     k: usize,
 ) -> Option<EventNo>
-    requires { (history.now.size ≤ 64) × (k < 64) × ((i : ℕ) → i < length view.now → get_or view.now i 0 < history.now.size) }
-    ensures { MatchOption result Unit (λ e. (e.0 < history.now.size) × Decides history.now before.entry.seen before.entry.view.now seen view.now e.0) }
+    requires { (history.now.size ≤ 64) × (k < 64) × ((i : ℕ) → i < length this.view.now → get_or this.view.now i 0 < history.now.size) }
+    ensures { MatchOption result Unit (λ e. (e.0 < history.now.size) × Decides history.now before.entry.seen before.entry.view.now this.entry.seen this.entry.view.now e.0) }
 {
-    match seen {
+    match this.seen {
         Visible::All => None,
         Visible::Of(p) => {
             let e = EventNo(k as u8);
             if k < history.size
                 && shows(before.seen, p)
-                && goes_on(&history.events, before.view, view, p, e)
+                && goes_on(&history.events, before.view, this.view, p, e)
             {
                 return Some(e);
             }
@@ -78,17 +73,17 @@ pub(crate) fn deciding(
     }
 }
 
-// For each of the first m events the latest earlier event of its process.
-pub(crate) fn earlier_views(events: &[Light; 64], m: usize) -> [Option<u8>; 64]
-    requires { m ≤ 64 }
+// For each of the events the latest earlier event of its process.
+pub(crate) fn earlier_views(events: &[Light]) -> [Option<usize>; 64]
+    requires { length events.now ≤ 64 }
     ensures { (k : ℕ) → MatchOption (get_or result k None) Unit (λ d. d < k) }
 {
     let mut last = [None; 256];
     let mut earlier = [None; 64];
-    for (k, e) in events[..m].iter().enumerate() {
+    for (k, e) in events.iter().enumerate() {
         let p = usize::from(e.process.0);
         earlier[k] = last[p];
-        last[p] = Some(k as u8);
+        last[p] = Some(k);
     }
     earlier
 }

@@ -11,10 +11,9 @@ ghost use Rattle.replays.specs.Replay.{history_in, contents_in, is_visible, foun
 ghost use Rattle.replayed_views.specs.Steps.{ObjectRows};
 ghost use Rattle.replayed_views.specs.Search.{wrong_in};
 
-use crate::deciding::{Before, deciding, earlier_views};
+use crate::deciding::{ShownView, deciding, earlier_views};
 use crate::object::{object_rows, replay_row};
 use history::record::EventNo;
-use objects::state::State;
 use orders::views::Views;
 use replays::light::LightHistory;
 use replays::replay::{Visible, replay};
@@ -27,19 +26,21 @@ pub struct Place {
 }
 
 // What was replayed before view k, if nothing was wrong in the views before it: that of the latest earlier event of its process.
-fn before<'a>(views: &Views<'a>, who: &[Visible; 64], earlier: Option<u8>, k: usize) -> Before<'a>
+fn before<'a>(
+    views: &Views<'a>,
+    who: &[Visible; 64],
+    earlier: Option<usize>,
+    k: usize,
+) -> ShownView<'a>
     requires { (k < length views.now.numbers.now) × MatchOption earlier Unit (λ d. d < k) }
     ensures { (h : History) (s : Contents) → ((d : ℕ) → d < k → wrong_in h s who.now views.now.rows.now views.now.lengths.now d ≡ none) → first_wrong h (is_visible h result.seen) s result.view.now ≡ none }
 {
     match earlier {
-        Some(d) => {
-            let d = usize::from(d);
-            Before {
-                view: views.get(d).events,
-                seen: who[d],
-            }
-        }
-        None => Before {
+        Some(d) => ShownView {
+            view: views.get(d).events,
+            seen: who[d],
+        },
+        None => ShownView {
             view: &[],
             seen: who[k],
         },
@@ -49,40 +50,36 @@ fn before<'a>(views: &Views<'a>, who: &[Visible; 64], earlier: Option<u8>, k: us
 // The first wrong answer of view k, if the one before it is right.
 fn wrong_answer(
     history: &LightHistory,
-    starts: &[State; 16],
     rows: &[u64; 16],
-    seen: Visible,
-    known: Before,
-    view: &[u8],
+    known: ShownView,
+    this: ShownView,
     k: usize,
 ) -> Option<EventNo>
-    requires { (k < 64) × Ready history.now starts.now view.now × ObjectRows history.now.events rows.now }
-    ensures { first_wrong (history_in history.now) (is_visible (history_in history.now) known.entry.seen) (contents_in history.now.values starts.now) known.entry.view.now ≡ none → found_event result ≡ first_wrong (history_in history.now) (is_visible (history_in history.now) seen) (contents_in history.now.values starts.now) view.now }
+    requires { (k < 64) × Ready history.now this.view.now × ObjectRows history.now.events rows.now }
+    ensures { first_wrong (history_in history.now) (is_visible (history_in history.now) known.entry.seen) (contents_in history.now.values history.now.starts) known.entry.view.now ≡ none → found_event result ≡ first_wrong (history_in history.now) (is_visible (history_in history.now) this.entry.seen) (contents_in history.now.values history.now.starts) this.entry.view.now }
 {
     // Where one event's answer decides a view, only the events of its object are replayed.
-    let Some(e) = deciding(history, seen, known, view, k) else {
-        return replay(history, *starts, view, seen);
+    let Some(e) = deciding(history, known, this, k) else {
+        return replay(history, this.view, this.seen);
     };
     let o = usize::from(history.events[usize::from(e.0)].object);
-    replay_row(history, starts[o], view, rows[o], e)
+    replay_row(history, this.view, rows[o], e)
 }
 
 // The lowest view in which the replay does not give a visible answer, and the first such event.
-pub fn first_wrong(
-    history: &LightHistory,
-    starts: [State; 16],
-    views: &Views,
-    who: &[Visible; 64],
-) -> Option<Place>
-    requires { (k : ℕ) → k < length views.now.numbers.now → Ready history.now starts (view_at views.now.rows.now views.now.lengths.now k) }
-    ensures { option_in result ≡ lowest (length views.now.numbers.now) (wrong_in (history_in history.now) (contents_in history.now.values starts) who.now views.now.rows.now views.now.lengths.now) }
+pub fn first_wrong(history: &LightHistory, views: &Views, who: &[Visible; 64]) -> Option<Place>
+    requires { (k : ℕ) → k < length views.now.numbers.now → Ready history.now (view_at views.now.rows.now views.now.lengths.now k) }
+    ensures { option_in result ≡ lowest (length views.now.numbers.now) (wrong_in (history_in history.now) (contents_in history.now.values history.now.starts) who.now views.now.rows.now views.now.lengths.now) }
 {
     let rows = object_rows(&history.events);
-    let earlier = earlier_views(&history.events, views.count());
+    let earlier = earlier_views(&history.events[..views.count()]);
     for k in 0..views.count() {
-        let view = views.get(k).events;
         let known = before(views, who, earlier[k], k);
-        if let Some(event) = wrong_answer(history, &starts, &rows, who[k], known, view, k) {
+        let this = ShownView {
+            view: views.get(k).events,
+            seen: who[k],
+        };
+        if let Some(event) = wrong_answer(history, &rows, known, this, k) {
             return Some(Place { view: k, event });
         }
     }

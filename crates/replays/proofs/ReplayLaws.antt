@@ -28,6 +28,7 @@ use Rattle.criteria.specs.Replay.{changed}
 use Rattle.criteria.specs.Check.{fits, right, first_wrong}
 use Rattle.criteria.specs.OneLine.{is_update}
 use Rattle.criteria.proofs.Lists.{by-test, clash, get_or-table}
+use Rattle.criteria.proofs.Loops.{any-default}
 use Rattle.criteria.proofs.Object.{length_last}
 use Rattle.objects.specs.declared.state.State.{State}
 use Rattle.objects.specs.declared.state.Given.{Given}
@@ -200,22 +201,19 @@ unfoldable pub wrong_from : LightHistory → Visible → List State → List ℕ
 wrong_from h who states view = first_wrong (history_in h) (is_visible (history_in h) who) (contents_in h.values states) view
 
 -- Nothing is wrong in the first i entries of the view: each object's state stands, and what is left says what the whole view says.
-pub record Passed (h : LightHistory) (starts : List State) (view : List ℕ) (who : Visible) (i : ℕ) (states : List State) : Type 0 where
+pub record Passed (h : LightHistory) (view : List ℕ) (who : Visible) (i : ℕ) (states : List State) : Type 0 where
   pub places : length states ≡ 16
   pub stand : AllStand h.objects i states
-  pub same : wrong_from h who starts view ≡ wrong_from h who states (drop i view)
+  pub same : wrong_from h who h.starts view ≡ wrong_from h who states (drop i view)
 
-module _ {h : LightHistory} {starts : List State} {view : List ℕ} {who : Visible} (r : Ready h starts view) where
-  pub none-passed : length starts ≡ 16 → Passed h starts view who 0 starts
-  none-passed long = record { places = long; stand = r.start; same = refl }
-
-  pub all-passed : {states : List State} {i : ℕ} → i ≡ length view → Passed h starts view who i states
-      → math.none ≡ first_wrong (history_in h) (is_visible (history_in h) who) (contents_in h.values starts) view
+module _ {h : LightHistory} {view : List ℕ} {who : Visible} (r : Ready h view) where
+  pub all-passed : {states : List State} {i : ℕ} → i ≡ length view → Passed h view who i states
+      → math.none ≡ first_wrong (history_in h) (is_visible (history_in h) who) (contents_in h.values h.starts) view
   unfolding wrong_from
   all-passed {states} {i} e p = sym (p.same ∙ ap (wrong_from h who states) (drop_all i view (omega arith)))
 
   -- entry i of the view: event x, of the object o
-  module _ {i : ℕ} {states : List State} (p : Passed h starts view who i states) (lt : i < length view)
+  module _ {i : ℕ} {states : List State} (p : Passed h view who i states) (lt : i < length view)
       {x o : ℕ} (is : x ≡ get_or view i 0) (on : o ≡ (get_or h.events x no_light).object) where
     is-event : x < h.size
     is-event = rw is (r.event i lt)
@@ -258,7 +256,7 @@ module _ {h : LightHistory} {starts : List State} {view : List ℕ} {who : Visib
         → b ≡ fits (recorded_in (get_or h.answers x unused_answer)) (given_of h.values g) → wrong-here ≡ not b
     asked g seen a q = rw (visible-at h who x is-event, seen, right-here, q, given-is h r.parts is-event on its-state g a)
 
-    stops : wrong-here ≡ true → math.some x ≡ first_wrong (history_in h) (is_visible (history_in h) who) (contents_in h.values starts) view
+    stops : wrong-here ≡ true → math.some x ≡ first_wrong (history_in h) (is_visible (history_in h) who) (contents_in h.values h.starts) view
     unfolding wrong_from
     stops q = sym (p.same ∙ ap (wrong_from h who states) left ∙ rw q)
 
@@ -278,7 +276,7 @@ module _ {h : LightHistory} {starts : List State} {view : List ℕ} {who : Visib
             ∙ ap (λ (l : List ℕ). set (contents_in h.values states) light.object (after (get_or h.objects light.object no_object) light.op (value_in h.values x) l))
             (get_or-contents h.values states light.object)
 
-    goes-on : wrong-here ≡ false → (t : State) → Changed (get_or states o no_state) light.op x t → Passed h starts view who (i + 1) (set states o t)
+    goes-on : wrong-here ≡ false → (t : State) → Changed (get_or states o no_state) light.op x t → Passed h view who (i + 1) (set states o t)
     unfolding wrong_from
     goes-on q t c = record {
       places = length-set states o t ∙ p.places;
@@ -287,33 +285,40 @@ module _ {h : LightHistory} {starts : List State} {view : List ℕ} {who : Visib
       same = p.same ∙ ap (wrong_from h who states) left ∙ rw (q, changed-at t c);
     }
 
-    -- the way out, and the three ways on; the code names the event by the entry, and its places by x
+    -- the way out, and the three ways on; the code names the event by the entry, and its places by x, and reads the state of its object
+    -- with any default
     abbrev number : ℕ
     number = get_or view i 0
+
+    state-as : (d : State) → get_or states o d ≡ get_or states o no_state
+    state-as d = any-default states o d no_state (omega (arith, object-of h r.parts is-event on, p.places))
+
+    changed-as : (d : State) {t : State} → Changed (get_or states o d) light.op number t → Changed (get_or states o no_state) light.op x t
+    changed-as d {t} c = subst (λ (k : ℕ). Changed (get_or states o no_state) light.op k t) (sym is) (rw (state-as d) at c)
+
+    answered-as : (d : State) {g : Given} → Answered (get_or states o d) light.op number g → Answered (get_or states o no_state) light.op x g
+    answered-as d {g} a = subst (λ (k : ℕ). Answered (get_or states o no_state) light.op k g) (sym is) (rw (state-as d) at a)
 
     is-asked : not light.silent && sees_of who light.process.0 number ≡ true → sees_of who light.process.0 x ≡ true
     is-asked q = and_right (not light.silent) (sees_of who light.process.0 x) (rw (sym is) at q)
 
-    pub asked-wrong : (g : Given) → not light.silent && sees_of who light.process.0 number ≡ true → Answered (get_or states o no_state) light.op number g
+    pub asked-wrong : (d : State) (g : Given) → not light.silent && sees_of who light.process.0 number ≡ true → Answered (get_or states o d) light.op number g
         → false ≡ fits (recorded_in (get_or h.answers x unused_answer)) (given_of h.values g)
-        → math.some number ≡ first_wrong (history_in h) (is_visible (history_in h) who) (contents_in h.values starts) view
-    asked-wrong g q a f =
-        ap math.some (sym is) ∙ stops (asked g (is-asked q) (subst (λ (k : ℕ). Answered (get_or states o no_state) light.op k g) (sym is) a) f)
+        → math.some number ≡ first_wrong (history_in h) (is_visible (history_in h) who) (contents_in h.values h.starts) view
+    asked-wrong d g q a f =
+        ap math.some (sym is) ∙ stops (asked g (is-asked q) (answered-as d a) f)
 
-    changed-as : {t : State} → Changed (get_or states o no_state) light.op number t → Changed (get_or states o no_state) light.op x t
-    changed-as {t} c = subst (λ (k : ℕ). Changed (get_or states o no_state) light.op k t) (sym is) c
-
-    pub asked-right : (g : Given) (t : State) → not light.silent && sees_of who light.process.0 number ≡ true → Answered (get_or states o no_state) light.op number g
+    pub asked-right : (d : State) (g : Given) (t : State) → not light.silent && sees_of who light.process.0 number ≡ true → Answered (get_or states o d) light.op number g
         → true ≡ fits (recorded_in (get_or h.answers x unused_answer)) (given_of h.values g)
-        → Changed (get_or states o no_state) light.op number t → Passed h starts view who (i + 1) (set states o t)
-    asked-right g t q a f c =
-        goes-on (asked g (is-asked q) (subst (λ (k : ℕ). Answered (get_or states o no_state) light.op k g) (sym is) a) f) t (changed-as c)
+        → Changed (get_or states o d) light.op number t → Passed h view who (i + 1) (set states o t)
+    asked-right d g t q a f c =
+        goes-on (asked g (is-asked q) (answered-as d a) f) t (changed-as d c)
 
-    pub unasked-changes : (t : State) → not light.silent && sees_of who light.process.0 number ≡ false
-        → Changed (get_or states o no_state) light.op number t → Passed h starts view who (i + 1) (set states o t)
-    unasked-changes t q c = goes-on (unasked (rw (sym is) at q)) t (changed-as c)
+    pub unasked-changes : (d : State) (t : State) → not light.silent && sees_of who light.process.0 number ≡ false
+        → Changed (get_or states o d) light.op number t → Passed h view who (i + 1) (set states o t)
+    unasked-changes d t q c = goes-on (unasked (rw (sym is) at q)) t (changed-as d c)
 
-    pub unasked-still : not light.silent && sees_of who light.process.0 number ≡ false → is_update light.op ≡ false → Passed h starts view who (i + 1) states
+    pub unasked-still : not light.silent && sees_of who light.process.0 number ≡ false → is_update light.op ≡ false → Passed h view who (i + 1) states
     unasked-still q still =
-        subst (Passed h starts view who (i + 1)) (set-get_or states o no_state)
+        subst (Passed h view who (i + 1)) (set-get_or states o no_state)
         (goes-on (unasked (rw (sym is) at q)) (get_or states o no_state) (unchanged (get_or states o no_state) light.op x still its-state.ends))

@@ -1,21 +1,61 @@
 // A history taken apart for its replays.
-ghost use Rattle.std.specs.Prelude.{◌≡◌, ℕ, ◌≤◌, ◌<◌, get_or};
-ghost use Rattle.history.specs.Record.{no_event};
+ghost use Rattle.std.specs.Prelude.{◌≡◌, ℕ, ◌≤◌, ◌<◌, get_or, map, Decides};
+ghost use Rattle.history.specs.Record.{no_event, recorded_in};
+ghost use Rattle.criteria.specs.Check.{fits};
+ghost use Rattle.objects.specs.State.{value_in, given_of};
 ghost use Rattle.replays.specs.Light.{never_answers, is_silent, light_with, TakenApart};
 
 use crate::replay::Light;
 use history::answer::no_answer;
 use history::record::{Answer, Event, History, Kind, Object, Op, ProcessNo, Value};
 use history::word::{is_channel, takes_value};
+use objects::starts::starts;
+use objects::state::{Given, State};
 
-// The light records of the events, and beside them their values and their answers. The last of the values is 0, for the start.
+// The objects and their states at the start; the light records of the events, and beside them their values and their answers. The last
+// of the values is 0, for the start.
 #[derive(Clone, Copy)]
 pub struct LightHistory {
     pub objects: [Object; 16],
+    pub starts: [State; 16],
     pub events: [Light; 64],
     pub values: [Value; 65],
     pub answers: [Answer; 64],
     pub size: usize,
+}
+
+impl LightHistory {
+    // The value of the event with this number; 0 past the last.
+    // Kept: 0 past the last, since `value_in` of objects/specs/State gives it there, and `Fresh` has the number 64 for a value of the
+    // start.
+    fn value(&self, number: u8) -> Value
+        ensures { result ≡ value_in self.now.values number }
+    {
+        self.values.get(usize::from(number)).copied().unwrap_or(0)
+    }
+
+    // Whether the values are those of the events with these numbers, one by one.
+    fn same_values(&self, answer: &[Value], numbers: &[u8]) -> bool
+        ensures { Decides result (answer.now ≡ map (value_in self.now.values) numbers.now) }
+    {
+        answer.len() == numbers.len()
+            && answer
+                .iter()
+                .zip(numbers)
+                .all(|(v, number)| *v == self.value(*number))
+    }
+
+    // Whether the recorded answer is what the state gives; one that was lost fits whatever it gives.
+    pub fn fits_given(&self, answer: &Answer, given: &Given) -> bool
+        requires { given.now.count ≤ 8 }
+        ensures { result ≡ fits (recorded_in answer.now) (given_of self.now.values given.now) }
+    {
+        answer.lost
+            || self.same_values(
+                &answer.values[..usize::from(answer.count).min(8)],
+                &given.numbers[..given.count],
+            )
+    }
 }
 
 // Whether the op of an object of the kind never answers.
@@ -57,6 +97,7 @@ pub fn light_history(h: &History) -> LightHistory
     };
     let mut light = LightHistory {
         objects: h.objects,
+        starts: starts(h.objects),
         events: [blank; 64],
         values: [0; 65],
         answers: [no_answer(); 64],

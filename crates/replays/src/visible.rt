@@ -20,6 +20,8 @@ fn visible_in(c: Criterion, number: u8, process: ProcessNo, k: u8) -> Visible
 }
 
 // Of each of the views, whose numbers these are.
+// Kept: tried as array::from_fn: the crate proves, but rt ci cannot write for the crates above the statements of a function whose closure
+// captures.
 pub fn visible_views(c: Criterion, numbers: [u8; 64], events: [Light; 64]) -> [Visible; 64]
     ensures { (k : ℕ) → k < 64 → get_or result k no_visible ≡ visible_at c numbers events k }
 {

@@ -12,9 +12,6 @@ returns-in-Write c =
 pub returns-in-Read : goal.returns-in-Read
 returns-in-Read c = asked c.in-Read.is (c.read.ensures _)
 
-pub returns-in-Push : goal.returns-in-Push
-returns-in-Push c = asked c.in-Push.is c.push_answer.ensures
-
 pub returns-in-Pop : goal.returns-in-Pop
 returns-in-Pop c =
     elim c.in-Pop.is [

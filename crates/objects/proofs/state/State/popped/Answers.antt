@@ -7,13 +7,13 @@ use Rattle.objects.proofs.StateLaws.{pop-none, pop-newest, pop-oldest}
 use Rattle.objects.proofs.state.State.popped.Goals as goal
 
 pub returns-then-self : goal.returns-then-self
-returns-then-self c number = pop-none c.args.self c.requires.0 c.if-self.true number
+returns-then-self c number = pop-none c.args.self c.if-self.true number
 
 pub returns-then-self-2 : goal.returns-then-self-2
 returns-then-self-2 c number =
     let long : length c.args.self.numbers ≡ 65 = search rules in
-    pop-newest c.args.self c.requires.0 (omega arith) (omega arith) c.if-self-2.true number
+    pop-newest c.args.self (omega arith) (omega arith) c.if-self-2.true number
 
-pub returns-else-self-2 : goal.returns-else-self-2
-returns-else-self-2 c number =
-    pop-oldest c.args.self c.requires.0 (omega arith) c.if-self-2.false number
+pub returns : goal.returns
+returns c number =
+    pop-oldest c.args.self (omega arith) c.if-self-2.false number

@@ -8,9 +8,9 @@ use Rattle.objects.proofs.state.State.pushed.Goals as goal
 pub returns-then-is_full : goal.returns-then-is_full
 returns-then-is_full c =
     let long : length c.args.self.numbers ≡ 65 = search rules in
-    push-full c.args.self c.requires.0 long c.requires.1 _ (sym c.is_full.ensures ∙ c.if-is_full.true)
+    push-full c.args.self long c.requires _ (sym c.is_full.ensures ∙ c.if-is_full.true)
 
 pub returns : goal.returns
 returns c =
     let long : length c.args.self.numbers ≡ 65 = search rules in
-    rw c.from.ensures (push-changes c.args.self c.requires.0 long c.requires.1 _ (sym c.is_full.ensures ∙ c.if-is_full.false))
+    rw c.from.ensures (push-changes c.args.self long c.requires _ (sym c.is_full.ensures ∙ c.if-is_full.false))

@@ -5,12 +5,12 @@ use borrow.Author.Rules.{rules}
 use Rattle.objects.proofs.StateLaws.{write-drops, write-adds}
 use Rattle.objects.proofs.state.State.written.Goals as goal
 
-pub returns-then-full : goal.returns-then-full
-returns-then-full c =
+pub returns-then-not-full : goal.returns-then-not-full
+returns-then-not-full c =
     let long : length c.args.self.numbers ≡ 65 = search rules in
-    rw c.from.ensures (write-drops c.args.self c.requires.0 long c.requires.1 _ (sym c.is_full-full.ensures ∙ c.if-full.true))
+    rw c.from.ensures (write-adds c.args.self long c.requires _ (sym c.is_full-full.ensures ∙ c.if-not-full.true))
 
-pub returns-else-full : goal.returns-else-full
-returns-else-full c =
+pub returns : goal.returns
+returns c =
     let long : length c.args.self.numbers ≡ 65 = search rules in
-    rw c.from.ensures (write-adds c.args.self c.requires.0 long c.requires.1 _ (sym c.is_full-full.ensures ∙ c.if-full.false))
+    rw c.from.ensures (write-drops c.args.self long c.requires _ (sym c.is_full-full.ensures ∙ c.if-not-full.false))

@@ -5,7 +5,7 @@ use mathlib.Core.Bool.{false}
 use Rattle.std.proofs.lemmas.Grind.{common_steps}
 use Rattle.objects.specs.State.{given_of}
 use Rattle.replays.proofs.ReplayLaws.{same-decides}
-use Rattle.replays.proofs.replay.fits_given.Goals as goal
+use Rattle.replays.proofs.light.LightHistory.fits_given.Goals as goal
 
 pub returns-else-answer : goal.returns-else-answer
 unfolding given_of
