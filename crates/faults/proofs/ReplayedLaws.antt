@@ -15,8 +15,6 @@ use Rattle.certificate.specs.declared.record.Criterion.{Criterion}
 use Rattle.certificate.specs.declared.record.Criterion.TheVariants.{Pram, Weak, Causal, Converge, Sequential, Strict}
 use Rattle.certificate.specs.Record.{beginnings}
 use Rattle.certificate.specs.Criteria.{view_numbers}
-use Rattle.certificate.specs.declared.numbers.ViewNumbers.{ViewNumbers}
-use Rattle.certificate.specs.Steps.Numbers.{view_numbers_of}
 use Rattle.criteria.specs.Tests.{or, lowest, keep, mem, place}
 use Rattle.criteria.proofs.Lists.{mem-keep, place_in}
 use Rattle.criteria.specs.History.{History, size, past_with}
@@ -41,7 +39,7 @@ use Rattle.replays.proofs.HistoryLaws.{same-visible, replay-is, ready_of}
 use Rattle.replays.proofs.VisibleLaws.{visible-is}
 use Rattle.faults.specs.Steps.{is_converge}
 use Rattle.faults.proofs.FoundLaws.{lowest-same}
-use Rattle.faults.proofs.RecordFacts.{all-keep-few, objects-agree, events-long, object-declared, number-count, number_at}
+use Rattle.faults.proofs.RecordFacts.{all-keep-few, objects-agree, events-long, object-declared}
 
 -- ---- the lowest that is found
 module _ {A : Type 0} where
@@ -131,9 +129,9 @@ abbrev fault_of : Criterion → History → (ℕ → ℕ → Bool) → List (Lis
 fault_of c h R vs k = map_fault (fault16 (view_number c h k)) (first_wrong h (visible c h k) (start h) (replayed c R vs k))
 
 -- ---- what the function asks of its history, criterion and views
-abbrev pub Asked : WrittenHistory.History → Criterion → Views → ViewNumbers → Type 0
-Asked h c views named =
-    (within h ≡ true) × (named ≡ view_numbers_of (view_numbers c (events_in h))) × (length views.numbers.now ≡ named.count)
+abbrev pub Asked : WrittenHistory.History → Criterion → Views → Type 0
+Asked h c views =
+    (within h ≡ true) × (views.numbers.now ≡ view_numbers c (events_in h))
     × EventViews views.rows.now views.lengths.now (length views.numbers.now) h.count
 
 -- the entries of a view are below n
@@ -141,18 +139,18 @@ mem-below : (n : ℕ) (v : List ℕ) → ((i : ℕ) → i < length v → get_or 
 mem-below n v f e t = let p = place_in e v t in rw p.1 at (f (place e v) p.0)
 
 module _ {h : WrittenHistory.History} {l : LightHistory} (t : TakenApart h l)
-    (c : Criterion) (views : Views) (named : ViewNumbers) (asked : Asked h c views named) where
+    (c : Criterion) (views : Views) (asked : Asked h c views) where
   counted : length views.numbers.now ≡ length (view_numbers c (events_in h))
-  counted = asked.2 ∙ number-count named _ asked.1
+  counted = ap length asked.1
 
   -- each view is ready for its replay
   pub view-ready : (k : ℕ) → k < length views.numbers.now → Ready l (view_at views.rows.now views.lengths.now k)
   view-ready k b =
       ready_of h (within-sound h asked.0) l t (view_at views.rows.now views.lengths.now k) (objects-agree h asked.0) (all-keep-few h asked.0)
-      (view-few views.rows.now views.lengths.now (length views.numbers.now) h.count asked.3 k b) (view-inside views.rows.now views.lengths.now (length views.numbers.now) h.count asked.3 k b)
+      (view-few views.rows.now views.lengths.now (length views.numbers.now) h.count asked.2 k b) (view-inside views.rows.now views.lengths.now (length views.numbers.now) h.count asked.2 k b)
 
   view-below : (k : ℕ) → k < length views.numbers.now → (e : ℕ) → mem e (view_at views.rows.now views.lengths.now k) ≡ true → e < h.count
-  view-below k b = mem-below h.count (view_at views.rows.now views.lengths.now k) (view-inside views.rows.now views.lengths.now (length views.numbers.now) h.count asked.3 k b)
+  view-below k b = mem-below h.count (view_at views.rows.now views.lengths.now k) (view-inside views.rows.now views.lengths.now (length views.numbers.now) h.count asked.2 k b)
 
   replayed-is : (who : Visible) (view : List ℕ) → ((e : ℕ) → mem e view ≡ true → e < h.count)
       → first_wrong (history_in l) (is_visible (history_in l) who) (contents_in l.values l.starts) view
@@ -161,46 +159,46 @@ module _ {h : WrittenHistory.History} {l : LightHistory} (t : TakenApart h l)
       let s = within-sound h asked.0 in
       replay-is h l t s.count (events-long h asked.0) (omega (arith, s.objects, s.declared)) (objects-agree h asked.0) who view (λ e q. object-declared h asked.0 e (inside e q))
 
-  number_is : (k : ℕ) → k < length views.numbers.now → get_or named.numbers k 0 ≡ view_number c (history_of h) k
-  number_is k b = number_at named _ asked.1 k ∙ sym (view-number c h k (omega (arith, b, counted, view-count c h)))
+  number_is : (k : ℕ) → k < length views.numbers.now → get_or views.numbers.now k 0 ≡ view_number c (history_of h) k
+  number_is k b = ap (λ (ns : List ℕ). get_or ns k 0) asked.1 ∙ sym (view-number c h k (omega (arith, b, counted, view-count c h)))
 
   -- ---- one replay a view
   module _ (R : ℕ → ℕ → Bool) (who : List Visible) (other : is_converge c ≡ false)
-      (seen : (k : ℕ) → k < 64 → get_or who k no_visible ≡ visible_at c named.numbers l.events k) where
+      (seen : (k : ℕ) → k < length views.numbers.now → get_or who k no_visible ≡ visible_at c views.numbers.now l.events k) where
     -- the first wrong answer of a view
     wrong-view : (k : ℕ) → k < length views.numbers.now
-        → at_place named.numbers (wrong_in (history_in l) (contents_in l.values l.starts) who views.rows.now views.lengths.now k)
+        → at_place views.numbers.now (wrong_in (history_in l) (contents_in l.values l.starts) who views.rows.now views.lengths.now k)
         ≡ fault_of c (history_of h) R (beginnings views.lengths.now views.rows.now) k
     wrong-view k b =
         let view : List ℕ = view_at views.rows.now views.lengths.now k in
         let there : k < view_count c (history_of h) = omega (arith, b, counted, view-count c h) in
-        place_view named.numbers k (first_wrong (history_in l) (is_visible (history_in l) (get_or who k no_visible)) (contents_in l.values l.starts) view)
+        place_view views.numbers.now k (first_wrong (history_in l) (is_visible (history_in l) (get_or who k no_visible)) (contents_in l.values l.starts) view)
         ∙ ap₂ (λ (i : ℕ) (o : Option ℕ). map_fault (fault16 i) o) (number_is k b)
         (replayed-is (get_or who k no_visible) view (view-below k b)
-        ∙ ap (λ (x : Visible). first_wrong (history_of h) (is_visible (history_of h) x) (start (history_of h)) view) (seen k (omega (arith, b, views.few)))
-        ∙ same-visible (history_of h) (is_visible (history_of h) (visible_at c named.numbers l.events k)) (visible c (history_of h) k)
-        (visible-is h l.events named.numbers (within-sound h asked.0).count (within-sound h asked.0).events t.lights c k (omega (arith, there, count_same c (history_of h) other)) (λ _. number_at named _ asked.1 k))
+        ∙ ap (λ (x : Visible). first_wrong (history_of h) (is_visible (history_of h) x) (start (history_of h)) view) (seen k b)
+        ∙ same-visible (history_of h) (is_visible (history_of h) (visible_at c views.numbers.now l.events k)) (visible c (history_of h) k)
+        (visible-is h l.events views.numbers.now (within-sound h asked.0).count (within-sound h asked.0).events t.lights c k (omega (arith, there, count_same c (history_of h) other)) (λ _. ap (λ (ns : List ℕ). get_or ns k 0) asked.1))
         (start (history_of h)) view
         ∙ ap (first_wrong (history_of h) (visible c (history_of h) k) (start (history_of h)))
         (sym (beginning-at views.lengths.now views.rows.now k) ∙ replayed-same c R (beginnings views.lengths.now views.rows.now) k other))
 
     module _ (found : Option Place) (q : found ≡ lowest (length views.numbers.now) (wrong_in (history_in l) (contents_in l.values l.starts) who views.rows.now views.lengths.now)) where
-      pub place_is : at_place named.numbers found ≡ find16 c (history_of h) R (beginnings views.lengths.now views.rows.now)
+      pub place_is : at_place views.numbers.now found ≡ find16 c (history_of h) R (beginnings views.lengths.now views.rows.now)
       place_is =
           let f : ℕ → Option Place = wrong_in (history_in l) (contents_in l.values l.starts) who views.rows.now views.lengths.now in
           let n : length views.numbers.now ≡ replay_count c (history_of h) = counted ∙ sym (view-count c h) ∙ sym (count_same c (history_of h) other) in
-          ap (at_place named.numbers) q
-          ∙ sym (lowest-places named.numbers (length views.numbers.now) f)
-          ∙ lowest-same (length views.numbers.now) (λ k. at_place named.numbers (f k)) (fault_of c (history_of h) R (beginnings views.lengths.now views.rows.now)) wrong-view
+          ap (at_place views.numbers.now) q
+          ∙ sym (lowest-places views.numbers.now (length views.numbers.now) f)
+          ∙ lowest-same (length views.numbers.now) (λ k. at_place views.numbers.now (f k)) (fault_of c (history_of h) R (beginnings views.lengths.now views.rows.now)) wrong-view
           ∙ ap (λ (i : ℕ). lowest i (fault_of c (history_of h) R (beginnings views.lengths.now views.rows.now))) n
 
-      pub place-below : (p : Place) → found ≡ some p → p.view < 64
+      pub place-below : (p : Place) → found ≡ some p → p.view < length views.numbers.now
       place-below p is =
-          lowest-holds (λ (x : Place). x.view < 64) (length views.numbers.now) (wrong_in (history_in l) (contents_in l.values l.starts) who views.rows.now views.lengths.now) p
+          lowest-holds (λ (x : Place). x.view < length views.numbers.now) (length views.numbers.now) (wrong_in (history_in l) (contents_in l.values l.starts) who views.rows.now views.lengths.now) p
           (λ k b e.
           let z : p.view ≡ k =
           view-at k (first_wrong (history_in l) (is_visible (history_in l) (get_or who k no_visible)) (contents_in l.values l.starts) (view_at views.rows.now views.lengths.now k)) p e in
-          omega (arith, z, b, views.few)) (sym q ∙ is)
+          omega (arith, z, b)) (sym q ∙ is)
 
   -- ---- converge: one replay an event
   pub view-there : is_converge c ≡ true → 0 < length views.numbers.now
@@ -219,11 +217,11 @@ module _ {h : WrittenHistory.History} {l : LightHistory} (t : TakenApart h l)
         (sym (beginning-at views.lengths.now views.rows.now 0))
 
     module _ (found : Option ℕ) (q : found ≡ lowest l.size (wrong_cut (history_in l) (contents_in l.values l.starts) rows (view_at views.rows.now views.lengths.now 0))) where
-      event-is-converge : map_fault (fault16 (get_or named.numbers 0 0)) found
+      event-is-converge : map_fault (fault16 (get_or views.numbers.now 0 0)) found
           ≡ find16 Converge (history_of h) (in_rows rows) (beginnings views.lengths.now views.rows.now)
       event-is-converge =
           let f : ℕ → Option ℕ = wrong_cut (history_in l) (contents_in l.values l.starts) rows (view_at views.rows.now views.lengths.now 0) in
-          let zero-is : get_or named.numbers 0 0 ≡ 0 = number_is 0 (view-there one) ∙ ap (λ (x : Criterion). view_number x (history_of h) 0) (converge-is c one) in
+          let zero-is : get_or views.numbers.now 0 0 ≡ 0 = number_is 0 (view-there one) ∙ ap (λ (x : Criterion). view_number x (history_of h) 0) (converge-is c one) in
           let n : l.size ≡ size (history_of h) = t.size ∙ sym (size_is h ∙ (within-sound h asked.0).events) in
           ap₂ (λ (i : ℕ) (o : Option ℕ). map_fault (fault16 i) o) zero-is q
           ∙ sym (lowest-events (fault16 0) l.size f)
@@ -231,7 +229,7 @@ module _ {h : WrittenHistory.History} {l : LightHistory} (t : TakenApart h l)
           (λ k b. ap (map_fault (fault16 0)) (wrong-part k))
           ∙ ap (λ (i : ℕ). lowest i (fault_of Converge (history_of h) (in_rows rows) (beginnings views.lengths.now views.rows.now))) n
 
-      pub event-is : map_fault (fault16 (get_or named.numbers 0 0)) found
+      pub event-is : map_fault (fault16 (get_or views.numbers.now 0 0)) found
           ≡ find16 c (history_of h) (in_rows rows) (beginnings views.lengths.now views.rows.now)
       event-is =
           event-is-converge

@@ -35,5 +35,5 @@ pub fn check_records(h: History, c: Certificate, views: &[[u8; 64]; 64]) -> Resu
     };
     order_fault(&rows, &program, past_count(c.criterion, n))?;
     view_fault(c.criterion, &views, &rows, &processes, n)?;
-    replay_fault(&h, c.criterion, &views, &named, &rows)
+    replay_fault(&h, c.criterion, &views, &rows)
 }

@@ -4,7 +4,6 @@ ghost use Rattle.history.specs.Record.{events_in};
 ghost use Rattle.history.specs.Readable.{within};
 ghost use Rattle.certificate.specs.Record.{beginnings};
 ghost use Rattle.certificate.specs.Criteria.{view_numbers};
-ghost use Rattle.certificate.specs.Steps.Numbers.{view_numbers_of};
 ghost use Rattle.criteria.specs.Check.{find16};
 ghost use Rattle.criteria.specs.Records.{history_of};
 ghost use Rattle.orders.specs.Rows.{in_rows, EventViews};
@@ -12,7 +11,6 @@ ghost use Rattle.faults.specs.Finding.{finding_of};
 ghost use Rattle.faults.specs.Steps.{is_converge};
 
 use crate::finding::Finding;
-use certificate::numbers::ViewNumbers;
 use certificate::record::Criterion;
 use history::record::History;
 use orders::views::Views;
@@ -28,27 +26,26 @@ fn is_converge(c: Criterion) -> bool
     c == Criterion::Converge
 }
 
-// 16 of the views of a certificate, whose numbers these are; `rows` are the order, which converge cuts its view by.
+// 16 of the views of a certificate; `rows` are the order, which converge cuts its view by.
 pub(crate) fn replay_fault(
     h: &History,
     criterion: Criterion,
     views: &Views,
-    named: &ViewNumbers,
     rows: &[u64; 64],
 ) -> Result<(), Finding>
-    requires { (within h.now ≡ true) × (named.now ≡ view_numbers_of (view_numbers criterion (events_in h.now))) × (length views.now.numbers.now ≡ named.now.count) × EventViews views.now.rows.now views.now.lengths.now (length views.now.numbers.now) h.now.count }
+    requires { (within h.now ≡ true) × (views.now.numbers.now ≡ view_numbers criterion (events_in h.now)) × EventViews views.now.rows.now views.now.lengths.now (length views.now.numbers.now) h.now.count }
     ensures { finding_of result ≡ find16 criterion (history_of h.now) (in_rows rows.now) (beginnings views.now.lengths.now views.now.rows.now) }
 {
     let history = light_history(h);
     if is_converge(criterion) {
         return match first_wrong_cut(&history, rows, views.get(0).events) {
-            Some(e) => Err(Finding::Wrong(named.numbers[0], e)),
+            Some(e) => Err(Finding::Wrong(views.numbers[0], e)),
             None => Ok(()),
         };
     }
-    let who = visible_views(criterion, named.numbers, history.events);
+    let who = visible_views(criterion, views.numbers, &history.events);
     match first_wrong(&history, views, &who) {
-        Some(place) => Err(Finding::Wrong(named.numbers[place.view], place.event)),
+        Some(place) => Err(Finding::Wrong(views.numbers[place.view], place.event)),
         None => Ok(()),
     }
 }

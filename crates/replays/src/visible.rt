@@ -1,5 +1,5 @@
 // Which answers are visible in the replay of each view.
-ghost use Rattle.std.specs.Prelude.{◌≡◌, ℕ, ◌<◌, get_or};
+ghost use Rattle.std.specs.Prelude.{◌≡◌, ℕ, ◌≤◌, ◌<◌, length, get_or};
 ghost use Rattle.replays.specs.Visible.{visible_in, visible_at};
 ghost use Rattle.replays.specs.Visible.{no_visible};
 
@@ -20,14 +20,13 @@ fn visible_in(c: Criterion, number: u8, process: ProcessNo, k: u8) -> Visible
 }
 
 // Of each of the views, whose numbers these are.
-// Kept: tried as array::from_fn: the crate proves, but rt ci cannot write for the crates above the statements of a function whose closure
-// captures.
-pub fn visible_views(c: Criterion, numbers: [u8; 64], events: [Light; 64]) -> [Visible; 64]
-    ensures { (k : ℕ) → k < 64 → get_or result k no_visible ≡ visible_at c numbers events k }
+pub fn visible_views(c: Criterion, numbers: &[u8], events: &[Light; 64]) -> [Visible; 64]
+    requires { length numbers.now ≤ 64 }
+    ensures { (k : ℕ) → k < length numbers.now → get_or result k no_visible ≡ visible_at c numbers.now events.now k }
 {
     let mut views = [Visible::All; 64];
-    for k in 0..64 {
-        views[k] = visible_in(c, numbers[k], events[k].process, k as u8);
+    for (k, number) in numbers.iter().enumerate() {
+        views[k] = visible_in(c, *number, events[k].process, k as u8);
     }
     views
 }

@@ -5,7 +5,7 @@ use Rattle.std.proofs.lemmas.Result.{err_from_is_err_and}
 use Rattle.certificate.specs.Record.{no_list}
 use Rattle.orders.proofs.ViewLaws.{views-first}
 use Rattle.faults.specs.Finding.{finding_of}
-use Rattle.faults.proofs.RecordFacts.{process-small, numbers-long}
+use Rattle.faults.proofs.RecordFacts.{process-small, numbers-in, numbers-long}
 use Rattle.faults.proofs.CheckLaws.{few-of, short-past, short-views, event-views, few-views, order-stops, views-stop, replay-stops, take-few, taken}
 use Rattle.faults.proofs.check.check_records.Goals as goal
 
@@ -63,8 +63,7 @@ replay_fault-requires c =
     let m = c.view_numbers-named.result.count in
     let long = numbers-long c.view_numbers-named.result _ c.view_numbers-named.ensures.0 in (
       c.requires.0,
-      c.view_numbers-named.ensures.0,
-      long,
+      numbers-in c.view_numbers-named.result _ c.view_numbers-named.ensures.0,
       rw long (views-first c.args.views.now c.args.c.lengths m c.args.h.count (event-views c.args.h c.requires.0 c.args.c c.args.views.now c.requires.1 views m c.view_numbers-named.ensures.1)),
     )
 

@@ -3,8 +3,8 @@ use native.Mathlib.Omega.{arith}
 use mathlib.Core.Path.{◌≡◌, ap, ◌∙◌}
 use mathlib.Core.Bool.{true}
 use lib.ListN.{get_or, length-take}
-use Rattle.orders.proofs.CutLaws.{entries-listed}
 use Rattle.replays.specs.Replay.{no_light, history_in}
+use Rattle.orders.proofs.CutLaws.{entries-listed}
 use Rattle.replayed_views.specs.Steps.{its_start, one_wrong}
 use Rattle.replayed_views.proofs.ObjectLaws.{silent-part}
 use Rattle.replayed_views.proofs.CutLaws.{part-ready}
