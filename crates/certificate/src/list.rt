@@ -1,6 +1,6 @@
 // A line of a number and a list of events: a past or a view.
-ghost use Rattle.std.specs.Prelude.{◌≡◌, ℕ, ◌≤◌, ◌<◌, not, ◌&&◌, ◌||◌, length, get_or, leb, ltb};
-ghost use Rattle.certificate.specs.Record.{event_list_of, no_list};
+ghost use Rattle.std.specs.Prelude.{◌≡◌, ◌≤◌, not, ◌&&◌, ◌||◌, leb, ltb};
+ghost use Rattle.certificate.specs.Record.{no_list};
 ghost use Rattle.certificate.specs.Faults.{rising};
 ghost use Rattle.certificate.specs.Steps.Lists.{is_past, list_line_of, list_read, pair_read};
 
@@ -51,25 +51,11 @@ pub fn no_list() -> EventList
 }
 
 // Whether the items are strictly rising.
+// Kept: one call of the library's method; a generic one for the writer's u8 too needs a law that T's order is that of its number.
 fn is_rising(items: &[u32]) -> bool
     ensures { result ≡ rising items.now }
 {
     items.is_sorted_by(|a, b| *a < *b)
-}
-
-// The list of the items, which are events.
-fn narrow(items: &[u32]) -> EventList
-    requires { (length items.now ≤ 64) × ((i : ℕ) → i < length items.now → get_or items.now i 0 < 64) }
-    ensures { result ≡ event_list_of items.now }
-{
-    let mut events = [0u8; 64];
-    for (i, x) in items.iter().enumerate() {
-        events[i] = *x as u8;
-    }
-    EventList {
-        count: items.len(),
-        events,
-    }
 }
 
 // Reads the two fields of a line of a part.
@@ -82,11 +68,13 @@ fn read_pair(number: &[u8], list: &[u8], own: u32, part: Part) -> Result<EventLi
     let mut items = [0u32; 64];
     let places = &mut items[..part.count];
     let n = read_list(list, part.count as u64, places)?;
-    let listed = &places[..n];
-    if !part.in_order(listed) {
+    if !part.in_order(&items[..n]) {
         return Err(Fault::NotRising);
     }
-    Ok(narrow(listed))
+    Ok(EventList {
+        count: n,
+        events: items.map(|e| e as u8),
+    })
 }
 
 // Reads the line of a part whose number is `own`, without its line feed.

@@ -1,6 +1,7 @@
 pub mod Cases
 pub mod SplitLaws
 pub mod WordLaws
+pub mod TableLaws
 pub mod NumberLaws
 pub mod SpellLaws
 pub mod LeadingLaws

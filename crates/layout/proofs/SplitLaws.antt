@@ -13,7 +13,7 @@ use lib.Dec.{eqb}
 use borrow.Author.Tests.{eq-eqb, eqb-true, ne_eqb, not-true, lt-ltb, le-ltb}
 use Rattle.std.specs.Prelude.{Option, Some, None, MatchOption}
 use Rattle.std.specs.Option.{unwrap_or}
-use Rattle.std.specs.List.{position, position_or_len}
+use Rattle.std.specs.List.{position, position_or_len, slice_split, onto_first}
 use Rattle.layout.specs.Split.{find, on_first, split, join, part_start}
 use Rattle.layout.proofs.FillLaws.{tail-part}
 use Rattle.layout.proofs.Cases.{by_bool, by-eq, by-lt, and_left, and_right}
@@ -275,6 +275,20 @@ pub split-some : (b : ℕ) (s : List ℕ) → 0 < length (split b s)
 unfolding split
 split-some b [] = suc-le-suc zero-le
 split-some b (x ∷ s) = split-some-by x (split b s) (eqb x b) (split-some b s)
+
+-- the same by a name that an attribute of a function can write
+pub ruleset some_part = (split-some)
+
+-- `split` is the library's word
+on_first_is : (x : ℕ) (ps : List (List ℕ)) → 0 < length ps → onto_first x ps ≡ on_first x ps
+unfolding on_first
+on_first_is x [] h = absurd (not-suc-le-zero h)
+on_first_is x (p ∷ ps) h = refl
+
+pub split_is : (b : ℕ) (s : List ℕ) → slice_split (λ x. eqb x b) s ≡ split b s
+unfolding split
+split_is b [] = refl
+split_is b (x ∷ s) = rw (split_is b s, on_first_is x (split b s) (split-some b s))
 
 join-skip : (b : ℕ) (l : List (List ℕ)) → 0 < length l → join b ([] ∷ l) ≡ b ∷ join b l
 unfolding join

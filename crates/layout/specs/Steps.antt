@@ -4,3 +4,4 @@ pub mod List
 pub mod Fill
 pub mod Leading
 pub mod Stands
+pub mod Table

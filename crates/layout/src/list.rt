@@ -8,7 +8,6 @@ ghost use Rattle.layout.specs.Steps.List.{pushed, kept, tail_text};
 
 use crate::fill::put_bytes;
 use crate::number::{NumberFault, number_len, put_number, read_number};
-use crate::split::split_once;
 use crate::word::is_word;
 
 // Why a field is no list of at most so many numbers below a bound.
@@ -48,22 +47,20 @@ fn push_item(
 }
 
 // Reads items with commas between them.
-// Kept: the loop takes the field apart at its commas and counts nothing; no `for` is plainer.
 fn read_items(field: &[u8], bound: u64, items: &mut [u32]) -> Result<usize, ListFault>
     requires { bound ≤ 4294967296 }
     ensures { (result ≡ judged bound (length items.old) (split 44 field.now)) × (items.new ≡ fill (leading bound (length items.old) (split 44 field.now)) items.old) }
 {
     let mut so_far = Ok(0);
-    let mut rest = field;
-    while let Some((item, more)) = split_once(rest, b',') {
+    for item in field.split(|b| *b == b',') {
         so_far = push_item(items, so_far, item, bound);
-        rest = more;
     }
-    push_item(items, so_far, rest, bound)
+    so_far
 }
 
 // Reads a field as a list of numbers below a bound, at most as many as there are places in items, and keeps the numbers in
 // the first of them: all of them where the field is such a list.
+#[tactic(auto, using(crate::proofs::ListLaws::leading_empty), unfolding(crate::specs::List::list_of, crate::specs::List::items_of, crate::specs::List::judged, crate::specs::List::all_numbers, crate::specs::List::all_below, crate::specs::Fill::fill))]
 pub fn read_list(field: &[u8], bound: u64, items: &mut [u32]) -> Result<usize, ListFault>
     requires { bound ≤ 4294967296 }
     ensures { (result ≡ list_of bound (length items.old) field.now) × (items.new ≡ fill (leading bound (length items.old) (items_of field.now)) items.old) }

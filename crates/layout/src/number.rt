@@ -17,6 +17,7 @@ pub enum NumberFault {
 }
 
 // One digit more. A value that is not below the bound stands still.
+#[tactic(auto, unfolding(crate::specs::Steps::Number::push_digit))]
 fn push_digit(v: u64, bound: u64, b: u8) -> u64
     requires { (48 ≤ b) × (b ≤ 57) × (bound ≤ 4294967296) × (v ≤ 10 * bound + 9) }
     ensures { (result ≡ push_digit bound v b) × (result ≤ 10 * bound + 9) }
@@ -28,6 +29,7 @@ fn push_digit(v: u64, bound: u64, b: u8) -> u64
 }
 
 // Whether bytes begin as a number does: there is one, and the first of several is not `0`.
+#[tactic(auto, unfolding(crate::specs::Number::starts_well))]
 fn starts_well(field: &[u8]) -> bool
     ensures { result ≡ starts_well field.now }
 {
@@ -94,6 +96,7 @@ pub fn number_before_space(text: &[u8], bound: u64) -> Option<(u64, &[u8])>
 }
 
 // Whether a field is the spelling of a number: a line's own number.
+#[tactic(auto, using(crate::proofs::SpellLaws::own_is))]
 pub fn is_spelling(field: &[u8], n: u32) -> bool
     ensures { result ≡ same field.now (spell n) }
 {
@@ -101,17 +104,11 @@ pub fn is_spelling(field: &[u8], n: u32) -> bool
 }
 
 // How many digits the spelling of a number has.
-// Kept: the loop divides and counts digits, with no index; no `for` is plainer.
+#[tactic(auto, using(crate::proofs::SpellLaws::spell_none, crate::proofs::SpellLaws::spell_counted))]
 pub fn number_len(n: u32) -> usize
     ensures { (result ≡ length (spell n)) × (result ≤ 10) }
 {
-    let mut k = 1;
-    let mut rest = n;
-    while 10 <= rest {
-        rest /= 10;
-        k += 1;
-    }
-    k
+    n.checked_ilog10().map_or(1, |k| k as usize + 1)
 }
 
 // Writes the spelling of a number into the first bytes of a part that has room, and says how many there are.

@@ -1,10 +1,24 @@
-// Words, compared whole.
+// Words, compared whole, and tables of words.
 ghost use Rattle.std.specs.Prelude.{◌≡◌};
 ghost use Rattle.layout.specs.Word.{same};
+ghost use Rattle.layout.specs.Steps.Table.{named};
 
 // Whether a field is a word.
+#[tactic(auto, using(crate::proofs::WordLaws::same_is_pointwise))]
 pub fn is_word(field: &[u8], word: &[u8]) -> bool
     ensures { result ≡ same field.now word.now }
 {
     field == word
+}
+
+// What a table has beside the word that a field is.
+pub fn named<T: Copy>(field: &[u8], table: &[(&[u8], T)]) -> Option<T>
+    ensures { result ≡ named field.now table.now }
+{
+    for (word, meaning) in table {
+        if is_word(field, word) {
+            return Some(*meaning);
+        }
+    }
+    None
 }
