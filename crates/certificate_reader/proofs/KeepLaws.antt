@@ -34,8 +34,8 @@ use Rattle.certificate.specs.Criteria.{has_pasts, count_from, view_numbers}
 use Rattle.certificate.specs.Faults.{list_layout, list_limits, pair_fault, list_fault, list_said}
 use Rattle.certificate.specs.declared.numbers.ViewNumbers.{ViewNumbers}
 use Rattle.certificate.specs.Steps.Numbers.{view_numbers_of}
-use Rattle.certificate.specs.Steps.Lists.{list_line_of, list_with, list_read}
-use Rattle.certificate.specs.Steps.Next.{NextList, ending_at, next_read}
+use Rattle.certificate.specs.Steps.Lists.{ListLine, list_line_of, list_with, list_read}
+use Rattle.certificate.specs.Steps.Next.{next_read}
 use Rattle.certificate.proofs.NumberingLaws.{numbers-in}
 use Rattle.certificate.proofs.NextLaws.{next-cut, next-line}
 use Rattle.certificate_reader.specs.declared.left.LinesLeft.{LinesLeft}
@@ -50,37 +50,29 @@ with-fault k xs = by-eq k 0 (λ z. rw (eq-eqb k 0 z) (sym z)) (λ z. rw (ne_eqb 
 with-list : (k : ℕ) (xs : List ℕ) → k ≡ 0 → (list_with k xs).list ≡ event_list_of xs
 with-list k xs z = rw (eq-eqb k 0 z)
 
--- x is what the next line is read as
-module _ (past : Bool) (count n : ℕ) (s : List ℕ) (x : NextList) (q : x ≡ next_read past count n 0 s) (found : x.end ≡ find 10 s) where
-  found_there : x.end ≡ 0 + find 10 s
-  found_there = omega (arith, found)
+-- x is what the next line is read as, which has e bytes
+module _ (past : Bool) (count n : ℕ) (s : List ℕ) (x : ListLine) (e : ℕ) (q : x ≡ next_read past count n s) (found : e ≡ find 10 s) where
+  read-at : e < length s → x ≡ list_read past count n (take e s)
+  read-at k = q ∙ next-line past count n s (omega arith) ∙ ap (λ (m : ℕ). list_read past count n (take m s)) (sym found)
 
-  all-taken : take (x.end - 0) s ≡ take x.end s
-  all-taken = let z : x.end - 0 ≡ x.end = omega arith in ap (λ (k : ℕ). take k s) z
+  read-cut : length s ≤ e → x.fault ≡ 2
+  read-cut k = ap (λ (y : ListLine). y.fault) (q ∙ next-cut past count n s (omega arith))
 
-  read-cut : length s ≤ x.end → x.fault ≡ 2
-  read-cut k = ap (λ (y : NextList). y.fault) (q ∙ next-cut past count n s 0 x.end found_there (omega arith) k)
-
-  read-fault : x.end < length s → x.fault ≡ list_fault past count n (take x.end s)
+  read-fault : e < length s → x.fault ≡ list_fault past count n (take e s)
   unfolding list_read
-  read-fault k =
-      ap (λ (y : NextList). y.fault) (q ∙ next-line past count n s 0 x.end found_there (omega arith) k)
-      ∙ with-fault (list_fault past count n (take (x.end - 0) s)) (list_said (take (x.end - 0) s))
-      ∙ ap (list_fault past count n) all-taken
+  read-fault k = ap (λ (y : ListLine). y.fault) (read-at k) ∙ with-fault (list_fault past count n (take e s)) (list_said (take e s))
 
   -- a line without a fault has its line feed
-  pub read_short : x.fault ≡ 0 → x.end < length s
-  read_short z = by-lt x.end (length s) (λ k. k) (λ k. absurd (omega (arith, read-cut k)))
+  pub read_short : x.fault ≡ 0 → e < length s
+  read_short z = by-lt e (length s) (λ k. k) (λ k. absurd (omega (arith, read-cut k)))
 
-  read_none : x.fault ≡ 0 → list_fault past count n (take x.end s) ≡ 0
+  read_none : x.fault ≡ 0 → list_fault past count n (take e s) ≡ 0
   read_none z = sym (read-fault (read_short z)) ∙ z
 
-  read-list : x.fault ≡ 0 → x.list ≡ event_list_of (list_said (take x.end s))
+  read-list : x.fault ≡ 0 → x.list ≡ event_list_of (list_said (take e s))
   unfolding list_read
   read-list z =
-      ap (λ (y : NextList). y.list) (q ∙ next-line past count n s 0 x.end found_there (omega arith) (read_short z))
-      ∙ with-list (list_fault past count n (take (x.end - 0) s)) (list_said (take (x.end - 0) s)) (ap (list_fault past count n) all-taken ∙ read_none z)
-      ∙ ap (λ (l : List ℕ). event_list_of (list_said l)) all-taken
+      ap (λ (y : ListLine). y.list) (read-at (read_short z)) ∙ with-list (list_fault past count n (take e s)) (list_said (take e s)) (read_none z)
 
 -- a list without a fault has no more entries than the history has events
 pair-few : (past : Bool) (count n : ℕ) (a s : List ℕ) → pair_fault past count n a s ≡ 0 → length (items_of s) ≤ count
@@ -103,32 +95,32 @@ list-few past count n line z =
     (λ t. let b : ◌≡◌ {A = ℕ} 2 0 = rw t at z in absurd (omega arith))
 
 -- ---- the next line is x, and its number is n
-module _ (line at : ℕ) (s : List ℕ) (x : NextList) (found : x.end ≡ find 10 s)
+module _ (line at : ℕ) (s : List ℕ) (x : ListLine) (e : ℕ) (found : e ≡ find 10 s)
     (past : Bool) (count : ℕ) (next : List (List ℕ) → ℕ → ℕ → List (List ℕ) → Lines) (n : ℕ) (ns : List ℕ) (ls : List (List ℕ))
-    (q : x ≡ next_read past count n 0 s) where
-  cut-here : x.end < length s → split 10 s ≡ take x.end s ∷ split 10 (drop (x.end + 1) s)
+    (q : x ≡ next_read past count n s) where
+  cut-here : e < length s → split 10 s ≡ take e s ∷ split 10 (drop (e + 1) s)
   cut-here k = rw (found, add-one) (split-more 10 s (omega (arith, found)))
 
-  long : x.end < length s → length (take x.end s) ≡ x.end
-  long k = length-take-le x.end s (omega arith)
+  long : e < length s → length (take e s) ≡ e
+  long k = length-take-le e s (omega arith)
 
-  list-bad : (x.fault ≡ 0 → ⊥) → lists_from past count next (n ∷ ns) ls line at (split 10 s) ≡ refusal x.fault line at x.end
+  list-bad : (x.fault ≡ 0 → ⊥) → lists_from past count next (n ∷ ns) ls line at (split 10 s) ≡ refusal x.fault line at e
   list-bad z =
-      by-lt x.end (length s)
+      by-lt e (length s)
       (λ k.
-      lists-bad line at s (take x.end s) (drop (x.end + 1) s) (cut-here k) past count next n ns ls x.fault (read-fault past count n s x q found k) z
+      lists-bad line at s (take e s) (drop (e + 1) s) (cut-here k) past count next n ns ls x.fault (read-fault past count n s x e q found k) z
       ∙ ap (refusal x.fault line at) (long k))
       (λ k.
-      let m : length s ≡ x.end = omega (arith, found, find-le 10 s) in
+      let m : length s ≡ e = omega (arith, found, find-le 10 s) in
       lists-cut line at s (split-last 10 s (omega (arith, found))) past count next n ns ls
-      ∙ ap₂ (λ (f e : ℕ). refusal f line at e) (sym (read-cut past count n s x q found k)) m)
+      ∙ ap₂ (λ (f m : ℕ). refusal f line at m) (sym (read-cut past count n s x e q found k)) m)
 
   list-more : x.fault ≡ 0 → lists_from past count next (n ∷ ns) ls line at (split 10 s)
-      ≡ lists_from past count next ns (ls ++ list_said (take x.end s) ∷ []) (line + 1) (at + x.end + 1) (split 10 (drop (x.end + 1) s))
+      ≡ lists_from past count next ns (ls ++ list_said (take e s) ∷ []) (line + 1) (at + e + 1) (split 10 (drop (e + 1) s))
   list-more z =
-      let k = read_short past count n s x q found z in
-      lists-more line at s (take x.end s) (drop (x.end + 1) s) (cut-here k) past count next n ns ls x.fault (read-fault past count n s x q found k) z
-      ∙ ap (λ (e : ℕ). lists_from past count next ns (ls ++ list_said (take x.end s) ∷ []) (line + 1) (at + e + 1) (split 10 (drop (x.end + 1) s))) (long k)
+      let k = read_short past count n s x e q found z in
+      lists-more line at s (take e s) (drop (e + 1) s) (cut-here k) past count next n ns ls x.fault (read-fault past count n s x e q found k) z
+      ∙ ap (λ (m : ℕ). lists_from past count next ns (ls ++ list_said (take e s) ∷ []) (line + 1) (at + m + 1) (split 10 (drop (e + 1) s))) (long k)
 
 -- ---- the lines that are left behind the next one, which has e bytes
 abbrev pub Behind : LinesLeft → ℕ → LinesLeft → Type 0
@@ -197,7 +189,7 @@ module _ (past : Bool) (count : ℕ) (numbers : List ℕ) (old : LinesLeft) wher
 
     -- the next line is r, and has e bytes
     module _ (h : i < length numbers) (e : ℕ) (r : Result EventList Fault)
-        (q : ending_at e (list_line_of r) ≡ next_read past count (get_or numbers i 0) 0 now.text.now) (found : e ≡ find 10 now.text.now) where
+        (q : list_line_of r ≡ next_read past count (get_or numbers i 0) now.text.now) (found : e ≡ find 10 now.text.now) where
       abbrev own : ℕ
       own = get_or numbers i 0
 
@@ -211,7 +203,7 @@ module _ (past : Bool) (count : ℕ) (numbers : List ℕ) (old : LinesLeft) wher
       reading-bad f z next =
           let k : (list_line_of r).fault ≡ fault_number f = ap (λ (r : Result EventList Fault). (list_line_of r).fault) z in
           next-is next
-          ∙ list-bad now.line now.start now.text.now (ending_at e (list_line_of r)) found past count next own (drop (i + 1) numbers) v.said q
+          ∙ list-bad now.line now.start now.text.now (list_line_of r) e found past count next own (drop (i + 1) numbers) v.said q
           (λ n. fault-some f (sym k ∙ n))
           ∙ ap (λ (n : ℕ). refusal n now.line now.start e) k
 
@@ -220,7 +212,7 @@ module _ (past : Bool) (count : ℕ) (numbers : List ℕ) (old : LinesLeft) wher
         no-fault = ap (λ (r : Result EventList Fault). (list_line_of r).fault) z
 
         pub reading-short : e < length now.text.now
-        reading-short = read_short past count own now.text.now (ending_at e (list_line_of r)) q found no-fault
+        reading-short = read_short past count own now.text.now (list_line_of r) e q found no-fault
 
         abbrev entries : List ℕ
         entries = list_said (take e now.text.now)
@@ -228,10 +220,10 @@ module _ (past : Bool) (count : ℕ) (numbers : List ℕ) (old : LinesLeft) wher
         list-is : l ≡ event_list_of entries
         list-is =
             sym (ap (λ (r : Result EventList Fault). (list_line_of r).list) z)
-            ∙ read-list past count own now.text.now (ending_at e (list_line_of r)) q found no-fault
+            ∙ read-list past count own now.text.now (list_line_of r) e q found no-fault
 
         few : length entries ≤ count
-        few = list-few past count own (take e now.text.now) (read_none past count own now.text.now (ending_at e (list_line_of r)) q found no-fault)
+        few = list-few past count own (take e now.text.now) (read_none past count own now.text.now (list_line_of r) e q found no-fault)
 
         small : count ≤ 64 → l.count ≤ 64
         unfolding event_list_of
@@ -254,7 +246,7 @@ module _ (past : Bool) (count : ℕ) (numbers : List ℕ) (old : LinesLeft) wher
               says =
                   λ next.
                   next-is next
-                  ∙ list-more now.line now.start now.text.now (ending_at e (list_line_of r)) found past count next own (drop (i + 1) numbers) v.said q no-fault
+                  ∙ list-more now.line now.start now.text.now (list_line_of r) e found past count next own (drop (i + 1) numbers) v.said q no-fault
                   ∙ behind-say (lists_from past count next (drop (i + 1) numbers) (v.said ++ entries ∷ [])) now e after b;
             }
 

@@ -1,19 +1,19 @@
 -- Laws of reading a certificate text, a line at a time. Assumes nothing.
-use Prim.Native.Nat.{ℕ, ◌+◌, ◌≤◌, ◌<◌}
+use Prim.Native.Nat.{ℕ, suc, ◌+◌, ◌≤◌, ◌<◌}
 use native.Mathlib.Nat.{not-suc-le-zero}
 use native.Mathlib.Omega.{arith}
 use mathlib.Core.Path.{◌≡◌, refl, sym, ap, ◌∙◌}
 use mathlib.Core.Bool.{Bool, true, false, cond}
 use mathlib.Core.List.{List, [], ◌∷◌, ◌++◌}
 use lib.ListN.{length, get_or, take, drop}
-use lib.Seq.{length-take-le}
+use lib.Seq.{length-take-le, take_all}
 use lib.Dec.{eqb}
 use borrow.Author.Tests.{eq-eqb, ne_eqb, le-leb, lt-leb}
 use Rattle.std.specs.Prelude.{Option, Some, None}
 use Rattle.layout.specs.Split.{find, split}
 use Rattle.layout.specs.Word.{same}
-use Rattle.layout.proofs.Cases.{by_bool}
-use Rattle.layout.proofs.SplitLaws.{split-some}
+use Rattle.layout.proofs.Cases.{by_bool, by-lt}
+use Rattle.layout.proofs.SplitLaws.{split-some, split-more, split-last}
 use Rattle.history.specs.declared.record.Event.{Event}
 use Rattle.certificate.specs.declared.record.Criterion.{Criterion}
 use Rattle.certificate.specs.Faults.{criterion_line, list_fault, list_said}
@@ -115,6 +115,14 @@ pub end-here : (r : Lines) (line at : ℕ) (s : List ℕ) → length s ≡ 0 →
 unfolding split end_from
 end-here r line at [] h = refl
 end-here r line at (x ∷ s) h = absurd (omega (arith, h))
+
+-- some line is left, and its bytes are p
+pub end-bad : (line at : ℕ) (s p : List ℕ) → p ≡ take (find 10 s) s → (length s ≡ 0 → ⊥) → (r : Lines)
+    → end_from r line at (split 10 s) ≡ refusal 2 line at (length p)
+end-bad line at s p is z r =
+    by-lt (find 10 s) (length s)
+    (λ h. end-more line at s (take (find 10 s) s) (drop (suc (find 10 s)) s) (split-more 10 s h) r ∙ ap (λ (l : List ℕ). refusal 2 line at (length l)) (sym is))
+    (λ h. end-cut line at s (split-last 10 s h) z r ∙ ap (λ (l : List ℕ). refusal 2 line at (length l)) (sym (is ∙ take_all (find 10 s) s h)))
 
 -- ---- the first line
 pub lines_cut : (es : List Event) (s : List ℕ) → split 10 s ≡ s ∷ [] → lines_from es (split 10 s) ≡ refusal 2 1 0 (length s)

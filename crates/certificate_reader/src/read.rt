@@ -18,7 +18,7 @@ use history::fault::Fault;
 use history::record::{Event, History};
 use history_reader::place::{Place, Text, faulty_place};
 use history_reader::read::{Refusal, read_history};
-use layout::split::split_once;
+use layout::split::{first_part, split_once};
 use layout::word::is_word;
 
 // The longest certificate text that is read.
@@ -104,10 +104,10 @@ impl<'a> LinesLeft<'a> {
     {
         let mut lists = [no_list(); 64];
         for (i, own) in numbers.iter().enumerate() {
-            let next = next_list(self.text, 0, u32::from(*own), part);
-            let place = self.place(next.end);
-            lists[i] = next.list.map_err(|fault| Refusal { fault, place })?;
-            self.pass(next.end);
+            let next = next_list(self.text, u32::from(*own), part);
+            let place = self.place(next.length);
+            lists[i] = next.read.map_err(|fault| Refusal { fault, place })?;
+            self.pass(next.length);
         }
         Ok(lists)
     }
@@ -153,10 +153,7 @@ impl<'a> LinesLeft<'a> {
         if self.text.is_empty() {
             return Ok(());
         }
-        match split_once(self.text, b'\n') {
-            Some((line, _)) => Err(self.refuse(line.len())),
-            None => Err(self.refuse(self.text.len())),
-        }
+        Err(self.refuse(first_part(self.text, b'\n').len()))
     }
 }
 

@@ -8,8 +8,6 @@ use lib.ListN.{length, get_or, take, drop, length-append, length-drop, length-ta
 use lib.Seq.{length-take-le}
 use lib.Dec.{eqb, leb}
 use borrow.Author.Tests.{eqb-true, lt-ltb, le-ltb}
-use Rattle.std.specs.Prelude.{Option, Some, None, MatchOption}
-use Rattle.std.specs.Option.{unwrap_or}
 use Rattle.layout.specs.Split.{find, split, part_start}
 use Rattle.layout.specs.Word.{same, object_heading, event_heading}
 use Rattle.layout.proofs.Cases.{by-lt}
@@ -101,13 +99,6 @@ line-ends text p a h e =
     let t = tail-part text a in
     let n : length p ≡ find 10 (drop a text) = ap length (rw t at e) ∙ length-take-le (find 10 (drop a text)) (drop a text) (find-le 10 (drop a text)) in
     (omega (arith, n), omega (arith, n, find-le 10 (drop a text), length-drop a text))
-
--- a line goes up to its line feed, or to the end of the text
-pub line-end : (text : List ℕ) (a : ℕ) (o : Option ℕ) → a ≤ length text
-    → MatchOption o (find 10 (drop a text) ≡ length (drop a text)) (λ e. (e ≡ a + find 10 (drop a text)) × (a ≤ e) × (e < length text))
-    → (unwrap_or o (length text) ≡ a + find 10 (drop a text)) × (unwrap_or o (length text) ≤ length text)
-line-end text a None h p = (omega (arith, length-drop a text, p), omega arith)
-line-end text a (Some e) h p = (p.0, omega (arith, p.2))
 
 -- the line that begins at a place and goes up to its line feed
 pub line-places : (text : List ℕ) (declared e a b : ℕ) → a ≡ part_start 10 (declared + 2 + e) text → a ≤ length text → b ≡ a + find 10 (drop a text)
