@@ -5,7 +5,7 @@ use native.Mathlib.Omega.{arith}
 use mathlib.Core.Path.{◌≡◌, refl, sym, ap, ◌∙◌}
 use mathlib.Core.Bool.{Bool, cond}
 use mathlib.Core.List.{List, [], ◌∷◌, ◌++◌, map, append_assoc, append-nil}
-use lib.ListN.{length, get_or, take, drop, length-append, length-take, length-drop, length-map, drop_of_length-le}
+use lib.ListN.{length, get_or, take, drop, length-take, length-drop, length-map, drop_of_length-le}
 use lib.Seq.{slice-cons, length-take-le}
 use lib.Dec.{eqb}
 use borrow.Author.Tests.{eq-eqb, ne_eqb}
@@ -43,18 +43,6 @@ module _ {F : Type 0} (none : F) (g : F → List ℕ) (fields : List F) (n i : �
       ∙ pieces_step (g (get_or fields i none)) (map g (drop (i + 1) (take n fields)))
       ∙ ap (λ (t : Bool). (g (get_or fields i none) ++ cond t 10 32 ∷ []) ++ pieces_text (map g (drop (i + 1) (take n fields)))) (last-is h)
       ∙ ap (λ (x : ℕ). (g (get_or fields i none) ++ x ∷ []) ++ pieces_text (map g (drop (i + 1) (take n fields)))) (sym e)
-
-  pub pieces-long : i < n
-      → length (pieces_text (map g (drop i (take n fields))))
-      ≡ length (g (get_or fields i none)) + 1 + length (pieces_text (map g (drop (i + 1) (take n fields))))
-  pieces-long h =
-      let b : ℕ = cond (eqb (i + 1) n) 10 32 in
-      omega (
-        arith,
-        ap length (pieces-at h b refl),
-        length-append (g (get_or fields i none) ++ b ∷ []) (pieces_text (map g (drop (i + 1) (take n fields)))),
-        length-append (g (get_or fields i none)) (b ∷ []),
-      )
 
   pub pieces_end : n ≤ i → pieces_text (map g (drop i (take n fields))) ≡ []
   pieces_end h =
