@@ -41,10 +41,6 @@ pub numbers-in : (x : ViewNumbers) (ns : List ℕ) → x ≡ view_numbers_of ns 
 unfolding view_numbers_of
 numbers-in x ns q = rw q (take-pad 64 0 ns)
 
-pub one-is : ◌≡◌ {A = ViewNumbers} (record { count = 1; numbers = replicate 64 0 }) (view_numbers_of (0 ∷ []))
-unfolding view_numbers_of pad
-one-is = refl
-
 -- ---- the first events, one more at a time
 count-suc : (k n : ℕ) → count_from k (suc n) ≡ count_from k n ++ (k + n) ∷ []
 unfolding count_from

@@ -50,6 +50,7 @@ fn event_numbers(n: usize) -> ViewNumbers
 }
 
 // The one view 0.
+#[tactic(auto, unfolding(crate::specs::Steps::Numbers::view_numbers_of, history::specs::Record::pad))]
 fn one_number() -> ViewNumbers
     ensures { result ≡ view_numbers_of (0 ∷ []) }
 {

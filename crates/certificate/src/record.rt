@@ -1,6 +1,5 @@
 // The certificate record, by value. The views stand beside it, as rows of event numbers. Every place that a record or a row does
 // not use holds zeros, so that two records of one certificate are equal.
-
 ghost use Rattle.std.specs.Prelude.{◌≡◌, ◌+◌, ◌<◌, ℕ, List, [], ◌∷◌, ◌++◌};
 ghost use Rattle.certificate.specs.Record.{event_list_of};
 
