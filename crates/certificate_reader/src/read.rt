@@ -158,7 +158,7 @@ impl<'a> LinesLeft<'a> {
 }
 
 // Hands the rows of the views over, and gives back their lengths.
-// Kept: two `map`s of the array were tried: they prove, and take 17,952 bytes more of stack.
+// Kept: two `map`s of the array were tried: they prove, and took 17,952 bytes more of the stack of `read_certificate`.
 fn put_rows(views: &[EventList; 64], rows: &mut [[u8; 64]; 64]) -> [u8; 64]
     requires { (k : ℕ) → (get_or views.now k no_list).count ≤ 64 }
     ensures { (result ≡ map (λ (l : EventList). l.count) views.now) × (rows.new ≡ map (λ (l : EventList). l.events) views.now) }
