@@ -14,7 +14,7 @@ use Rattle.std.specs.List.{list_any}
 use Rattle.layout.proofs.Cases.{by_bool}
 use Rattle.history.specs.declared.record.Event.{Event}
 use Rattle.history.specs.Record.{pad}
-use Rattle.history.proofs.PadLaws.{Filled, filled_none, filled-count, filled-take, filled_more}
+use Rattle.history.proofs.PadLaws.{take-pad, Filled, filled_none, filled-count, filled-take, filled_more}
 use Rattle.certificate.specs.declared.record.Criterion.{Criterion}
 use Rattle.certificate.specs.declared.record.Criterion.TheVariants.{Pram, Weak, Causal, Converge, Sequential, Strict}
 use Rattle.certificate.specs.declared.numbers.ViewNumbers.{ViewNumbers}
@@ -35,6 +35,11 @@ numbers-are numbers count ns f e =
     ap₂ {C = ViewNumbers} (λ (k : ℕ) (xs : List ℕ). record { count = k; numbers = xs })
     (sym (filled-count f) ∙ ap length e)
     (f.pads ∙ ap (pad 64 0) e)
+
+-- the numbers that are in their array
+pub numbers-in : (x : ViewNumbers) (ns : List ℕ) → x ≡ view_numbers_of ns → take x.count x.numbers ≡ ns
+unfolding view_numbers_of
+numbers-in x ns q = rw q (take-pad 64 0 ns)
 
 pub one-is : ◌≡◌ {A = ViewNumbers} (record { count = 1; numbers = replicate 64 0 }) (view_numbers_of (0 ∷ []))
 unfolding view_numbers_of pad

@@ -1,12 +1,12 @@
-// The criteria: their words, and which certificates have pasts.
+// The criteria: their words and numbers, and which certificates have pasts.
 ghost use Rattle.std.specs.Prelude.{◌≡◌, cond, [], get_or};
 ghost use Rattle.layout.specs.Split.{split};
-ghost use Rattle.certificate.specs.Criteria.{has_pasts, is_criterion, criterion_of};
+ghost use Rattle.certificate.specs.Criteria.{has_pasts, is_criterion, criterion_of, criterion_numbered};
 ghost use Rattle.certificate.specs.Faults.{criterion_line};
 
 use crate::record::Criterion;
 use layout::split::split_once;
-use layout::word::is_word;
+use layout::word::{is_word, named};
 
 // Whether a certificate of the criterion has the past of each event.
 pub fn has_pasts(c: Criterion) -> bool
@@ -18,27 +18,52 @@ pub fn has_pasts(c: Criterion) -> bool
     )
 }
 
+// The number is no criterion's.
+#[derive(Clone, Copy, PartialEq, Eq)]
+pub struct NoCriterion;
+
+// The criterion of a number, as the C interface gives it.
+impl TryFrom<u32> for Criterion {
+    type Error = NoCriterion;
+
+    ghost try_from_gives = { λ n r. r ≡ criterion_numbered n };
+
+    fn try_from(number: u32) -> Result<Criterion, NoCriterion> {
+        match number {
+            0 => Ok(Criterion::Pram),
+            1 => Ok(Criterion::Weak),
+            2 => Ok(Criterion::Causal),
+            3 => Ok(Criterion::Converge),
+            4 => Ok(Criterion::Sequential),
+            5 => Ok(Criterion::Strict),
+            _ => Err(NoCriterion),
+        }
+    }
+}
+
+// How many pasts a certificate of the criterion has, of a history with so many events.
+pub fn past_count(c: Criterion, count: usize) -> usize
+    ensures { result ≡ cond (has_pasts c) count 0 }
+{
+    if has_pasts(c) { count } else { 0 }
+}
+
+// The words of the criteria.
+const WORDS: [(&[u8], Criterion); 6] = [
+    (b"weak", Criterion::Weak),
+    (b"causal", Criterion::Causal),
+    (b"converge", Criterion::Converge),
+    (b"sequential", Criterion::Sequential),
+    (b"strict", Criterion::Strict),
+    (b"pram", Criterion::Pram),
+];
+
 // The criterion of a word.
-// Kept: no `match` on the words, as in history's `read_kind`: some forty goals come, one for each byte.
-#[tactic(auto, unfolding(crate::specs::Criteria::is_criterion, crate::specs::Criteria::criterion_of))]
+#[tactic(auto, unfolding(crate::specs::Criteria::is_criterion, crate::specs::Criteria::criterion_of, layout::specs::Steps::Table::named))]
 fn read_word(word: &[u8]) -> Option<Criterion>
     ensures { result ≡ cond (is_criterion word.now) (Some (criterion_of word.now)) None }
 {
-    if is_word(word, b"weak") {
-        Some(Criterion::Weak)
-    } else if is_word(word, b"causal") {
-        Some(Criterion::Causal)
-    } else if is_word(word, b"converge") {
-        Some(Criterion::Converge)
-    } else if is_word(word, b"sequential") {
-        Some(Criterion::Sequential)
-    } else if is_word(word, b"strict") {
-        Some(Criterion::Strict)
-    } else if is_word(word, b"pram") {
-        Some(Criterion::Pram)
-    } else {
-        None
-    }
+    named(word, &WORDS)
 }
 
 // Reads the first line of a certificate, without its line feed: the criterion, or none where the line is not a criterion's.

@@ -1,35 +1,23 @@
-// The next line of a list in a text: a past or a view.
-ghost use Rattle.std.specs.Prelude.{◌≡◌, ◌+◌, ◌≤◌, ◌<◌, Bool, ℕ, length, drop, OnSome, IfSome};
+// The line of a list that a text begins with: a past or a view.
+ghost use Rattle.std.specs.Prelude.{◌≡◌, ◌+◌, ◌≤◌, ◌<◌, ◌++◌, length, IfSome};
 ghost use Rattle.layout.specs.Split.{find};
 ghost use Rattle.layout.specs.Number.{spell};
-ghost use Rattle.layout.specs.Steps.Stands.{Stands};
-ghost use Rattle.certificate.specs.Record.{no_list};
-ghost use Rattle.certificate.specs.Steps.Next.{ListFrom, next_list_of, next_read};
+ghost use Rattle.certificate.specs.Steps.Lists.{is_past, list_line_of};
+ghost use Rattle.certificate.specs.Steps.Next.{ListFirst, LineFirst, next_read};
 
-use crate::list::{no_list, read_list_line};
+use crate::list::{Part, no_list, read_list_line};
 use crate::record::EventList;
-use history::fault::Fault;
-use layout::at::At;
-use layout::number::spaced_number;
-use layout::split::find_from;
-use layout::word::stands_at;
+use history::next::{Next, next_line};
+use layout::number::number_before_space;
 
-// Where the line ends, with its list or its first fault.
-#[derive(Clone, Copy)]
-pub struct NextList {
-    pub end: usize,
-    pub list: Result<EventList, Fault>,
-}
+// The quick way goes over a line once. Each of its steps tells what the text begins with and what stands behind it, or nothing where
+// it does not know; the line is then cut and read, which also says which fault it has.
 
-// The quick way goes over a line once. Each of its steps tells what stands at a place and where that ends, or nothing where it does
-// not know; the line is then cut and read, which also says which fault it has.
-
-// The number of one or two digits that begins at a place and has a byte behind its first digit.
-fn quick_entry(text: &[u8], from: usize) -> Option<At<usize>>
-    requires { from ≤ length text.now }
-    ensures { IfSome result (λ n. (n.value < 100) × Stands (spell n.value) from n.end text.now) }
+// The number of one or two digits that a text begins with, with a byte behind its first digit, and what stands behind the number.
+fn quick_entry(text: &[u8]) -> Option<(usize, &[u8])>
+    ensures { IfSome result (λ r. (r.0 < 100) × (text.now ≡ spell r.0 ++ r.1.now)) }
 {
-    let [b, c, ..] = &text[from..] else {
+    let [b, c, ..] = text else {
         return None;
     };
     if !b.is_ascii_digit() {
@@ -37,99 +25,72 @@ fn quick_entry(text: &[u8], from: usize) -> Option<At<usize>>
     }
     let first = usize::from(*b - b'0');
     if !c.is_ascii_digit() {
-        return Some(At {
-            value: first,
-            end: from + 1,
-        });
+        return Some((first, &text[1..]));
     }
     if first == 0 {
         return None;
     }
-    Some(At {
-        value: first * 10 + usize::from(*c - b'0'),
-        end: from + 2,
-    })
+    Some((first * 10 + usize::from(*c - b'0'), &text[2..]))
 }
 
-// Reads entries with commas between them up to a line feed, in one pass. In a past each is at least `low`, one more than the one
-// before it.
-fn quick_entries(text: &[u8], from: usize, count: usize, past: bool) -> Option<At<EventList>>
-    requires { (from ≤ length text.now) × (count ≤ 64) }
-    ensures { IfSome result (λ r. ListFrom past count from (drop from text.now) r) }
+// Reads entries with commas between them up to a line feed, in one pass, and tells what stands behind the line feed. In a past each is
+// at least `low`, one more than the one before it.
+fn quick_entries(text: &[u8], part: Part) -> Option<(EventList, &[u8])>
+    ensures { IfSome result (λ r. ListFirst (is_past part.sort) part.count text.now r.0 r.1.now) }
 {
     let mut events = [0u8; 64];
-    let mut at = from;
+    let mut rest = text;
     let mut low = 0;
-    for k in 0..count {
-        let entry = quick_entry(text, at)?;
-        if entry.value >= count || past && entry.value < low {
+    for k in 0..part.count {
+        let (entry, behind) = quick_entry(rest)?;
+        if !part.may_follow(low, entry) {
             return None;
         }
-        events[k] = entry.value as u8;
-        match *text.get(entry.end)? {
-            b'\n' => {
-                return Some(At {
-                    value: EventList {
+        events[k] = entry as u8;
+        match behind {
+            [b'\n', after @ ..] => {
+                return Some((
+                    EventList {
                         count: k + 1,
                         events,
                     },
-                    end: entry.end,
-                });
+                    after,
+                ));
             }
-            b',' => {}
+            [b',', after @ ..] => rest = after,
             _ => return None,
         }
-        low = entry.value + 1;
-        at = entry.end + 1;
+        low = entry + 1;
     }
     None
 }
 
-// Reads the list that begins at a place.
-fn quick_list(text: &[u8], from: usize, count: usize, past: bool) -> Option<At<EventList>>
-    requires { (from ≤ length text.now) × (count ≤ 64) }
-    ensures { IfSome result (λ r. ListFrom past count from (drop from text.now) r) }
+// Reads the list that a text begins with, with a line feed behind it, and tells what stands behind the line feed.
+fn quick_list(text: &[u8], part: Part) -> Option<(EventList, &[u8])>
+    ensures { IfSome result (λ r. ListFirst (is_past part.sort) part.count text.now r.0 r.1.now) }
 {
-    if stands_at(text, from, b"-\n") {
-        return Some(At {
-            value: no_list(),
-            end: from + 1,
-        });
+    if let Some(rest) = text.strip_prefix(b"-\n") {
+        return Some((no_list(), rest));
     }
-    quick_entries(text, from, count, past)
+    quick_entries(text, part)
 }
 
-// Reads a line that has no fault and entries of at most two digits; of any other line it tells nothing.
-fn quick_line(text: &[u8], from: usize, own: u32, count: usize, past: bool) -> Option<At<EventList>>
-    requires { (from ≤ length text.now) × (count ≤ 64) }
-    ensures { IfSome result (λ r. record { fault = 0; end = r.end; list = r.value } ≡ next_read past count own from (drop from text.now)) }
+// Reads a line that has no fault and entries of at most two digits, and tells what stands behind its line feed; of any other line it
+// tells nothing.
+fn quick_line(text: &[u8], own: u32, part: Part) -> Option<(EventList, &[u8])>
+    ensures { IfSome result (λ r. LineFirst (is_past part.sort) part.count own text.now r.0 r.1.now) }
 {
-    let number = spaced_number(text, from, 64)?;
-    if number.value != u64::from(own) {
+    let (number, rest) = number_before_space(text, 64)?;
+    if number != u64::from(own) {
         return None;
     }
-    quick_list(text, number.end, count, past)
+    quick_list(rest, part)
 }
 
-// Reads the line of a past or of a view whose number is `own` and that begins at a place, in a history with `count` events.
-pub fn next_list(text: &[u8], from: usize, own: u32, count: usize, past: bool) -> NextList
-    requires { (from ≤ length text.now) × (count ≤ 64) }
-    ensures { (next_list_of result ≡ next_read past count own from (drop from text.now)) × (result.end ≡ from + find 10 (drop from text.now)) × (from ≤ result.end) × (result.end ≤ length text.now) }
+// Reads the line that a text begins with as that of a part whose number is `own`.
+pub fn next_list(text: &[u8], own: u32, part: Part) -> Next<EventList>
+    ensures { (list_line_of result.read ≡ next_read (is_past part.sort) part.count own text.now) × (result.length ≡ find 10 text.now) × (result.length ≤ length text.now) }
 {
-    if let Some(quick) = quick_line(text, from, own, count, past) {
-        return NextList {
-            end: quick.end,
-            list: Ok(quick.value),
-        };
-    }
-    let Some(end) = find_from(text, from, b'\n') else {
-        return NextList {
-            end: text.len(),
-            list: Err(Fault::Layout),
-        };
-    };
-    NextList {
-        end,
-        list: read_list_line(&text[from..end], own, count, past),
-    }
+    let quick = quick_line(text, own, part);
+    next_line(text, quick, |line| read_list_line(line, own, part))
 }

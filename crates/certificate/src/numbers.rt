@@ -7,7 +7,8 @@ use crate::record::Criterion;
 use history::record::{Event, ProcessNo};
 
 // The first `count` of the numbers.
-// Kept: no heap, fixed memory.
+// Kept: no heap, fixed memory; not an EventList, since the numbers are of processes under pram and strict, and `event_list_of`, of
+// which the definitions speak, has events.
 #[derive(Clone, Copy)]
 pub struct ViewNumbers {
     pub count: usize,

@@ -11,22 +11,20 @@ use checker::check::carried_line;
 use history::record::{History, ProcessNo};
 use history_reader::place::Text;
 use history_reader::read::Refusal;
-use history_writer::write::WriteFault;
 use std::io;
 use std::io::Write;
+
+// Q: a queue, process 0 pushes 7 and process 1 pops it.
+const QUEUE: &[u8] =
+    b"object kind width\n0 queue -\nevent process object op value answer\n0 0 0 push 7 -\n1 1 0 pop - 7\n";
+
+// The empty history.
+const NOTHING: &[u8] = b"object kind width\nevent process object op value answer\n";
 
 fn text_name(text: Text) -> &'static str {
     match text {
         Text::History => "history",
         Text::Certificate => "certificate",
-    }
-}
-
-// What a writer answers: its refusal's number or 0, and how many bytes it wrote.
-fn number_and_length(written: Result<usize, WriteFault>) -> (u8, usize) {
-    match written {
-        Ok(length) => (0, length),
-        Err(fault) => (fault.number(), 0),
     }
 }
 
@@ -37,19 +35,15 @@ fn say_back<W: Write>(
     rows: &[[u8; 64]; 64],
     text: &[u8],
 ) -> io::Result<()> {
-    let mut buffer = [46u8; 256];
-    let (number, length) = number_and_length(write_certificate(
-        &mut buffer,
-        texts.history,
-        texts.certificate,
-        rows,
-    ));
-    let bytes = if length <= 256 && &buffer[..length] == text {
-        "the same"
-    } else {
-        "other"
-    };
-    writeln!(out, "read, written back {number} as {bytes} bytes")
+    let mut buffer = [b'.'; 256];
+    match write_certificate(&mut buffer, texts.history, texts.certificate, rows) {
+        Ok(n) => {
+            let same = buffer.get(..n) == Some(text);
+            let bytes = if same { "the same" } else { "other" };
+            writeln!(out, "read, written back 0 as {bytes} bytes")
+        }
+        Err(fault) => writeln!(out, "read, written back {}", fault.number()),
+    }
 }
 
 fn case<W: Write>(out: &mut W, name: &str, history: &[u8], text: &[u8]) -> io::Result<()> {
@@ -69,32 +63,12 @@ fn case<W: Write>(out: &mut W, name: &str, history: &[u8], text: &[u8]) -> io::R
     }
 }
 
-// A certificate of Q: a queue, process 0 pushes 7 and process 1 pops it.
-fn of_queue<W: Write>(out: &mut W, name: &str, text: &[u8]) -> io::Result<()> {
-    case(
-        out,
-        name,
-        b"object kind width\n0 queue -\nevent process object op value answer\n0 0 0 push 7 -\n1 1 0 pop - 7\n",
-        text,
-    )
-}
-
-// A certificate of the empty history.
-fn of_nothing<W: Write>(out: &mut W, name: &str, text: &[u8]) -> io::Result<()> {
-    case(
-        out,
-        name,
-        b"object kind width\nevent process object op value answer\n",
-        text,
-    )
-}
-
 // Texts of line feeds alone: as many as a certificate may have bytes, and one more.
 fn long_texts<W: Write>(out: &mut W) -> io::Result<()> {
-    let longest = [10u8; 32768];
-    of_queue(out, "32768 bytes", &longest)?;
-    let longer = [10u8; 32769];
-    of_queue(out, "32769 bytes", &longer)
+    let longest = [b'\n'; 32768];
+    case(out, "32768 bytes", QUEUE, &longest)?;
+    let longer = [b'\n'; 32769];
+    case(out, "32769 bytes", QUEUE, &longer)
 }
 
 // Writes a record and its rows into a buffer of 64, and shows the whole buffer.
@@ -105,9 +79,11 @@ fn say_record<W: Write>(
     c: Certificate,
     rows: &[[u8; 64]; 64],
 ) -> io::Result<()> {
-    let mut buffer = [46u8; 64];
-    let (number, length) = number_and_length(write_certificate(&mut buffer, h, c, rows));
-    write!(out, "write {name}: {number}, length {length}: [")?;
+    let mut buffer = [b'.'; 64];
+    match write_certificate(&mut buffer, h, c, rows) {
+        Ok(n) => write!(out, "write {name}: 0, length {n}: [")?,
+        Err(fault) => write!(out, "write {name}: {}, length 0: [", fault.number())?,
+    }
     out.write_all(&buffer)?;
     writeln!(out, "]")
 }
@@ -132,7 +108,7 @@ fn with_past(mut c: Certificate, first: u8, second: u8) -> Certificate {
 fn records<W: Write>(out: &mut W) -> io::Result<()> {
     let mut rows = [[0u8; 64]; 64];
     let Ok(texts) = read_certificate(
-        b"object kind width\n0 queue -\nevent process object op value answer\n0 0 0 push 7 -\n1 1 0 pop - 7\n",
+        QUEUE,
         b"criterion weak\nevent past\n0 -\n1 0\nview order\n0 0\n1 0,1\n",
         &mut rows,
     ) else {
@@ -151,119 +127,149 @@ fn records<W: Write>(out: &mut W) -> io::Result<()> {
 
 // Certificates of Q that are read.
 fn of_criteria<W: Write>(out: &mut W) -> io::Result<()> {
-    of_queue(
+    case(
         out,
         "sequential",
+        QUEUE,
         b"criterion sequential\nview order\n0 0,1\n",
     )?;
-    of_queue(out, "pram", b"criterion pram\nview order\n0 0,1\n1 0,1\n")?;
-    of_queue(
+    case(
+        out,
+        "pram",
+        QUEUE,
+        b"criterion pram\nview order\n0 0,1\n1 0,1\n",
+    )?;
+    case(
         out,
         "weak",
+        QUEUE,
         b"criterion weak\nevent past\n0 -\n1 0\nview order\n0 0\n1 0,1\n",
     )?;
-    of_queue(
+    case(
         out,
         "converge",
+        QUEUE,
         b"criterion converge\nevent past\n0 -\n1 0\nview order\n0 0,1\n",
     )?;
-    of_queue(
+    case(
         out,
         "strict",
+        QUEUE,
         b"criterion strict\nevent past\n0 -\n1 0\nview order\n0 0,1\n1 0,1\n",
     )?;
-    of_queue(
+    case(
         out,
         "repeats in a view",
+        QUEUE,
         b"criterion sequential\nview order\n0 1,1\n",
     )
 }
 
 // The criterion, and the lists of a certificate.
 fn of_lists<W: Write>(out: &mut W) -> io::Result<()> {
-    of_queue(
+    case(
         out,
         "unknown criterion",
+        QUEUE,
         b"criterion atomic\nview order\n0 0,1\n",
     )?;
-    of_queue(
+    case(
         out,
         "past not rising",
+        QUEUE,
         b"criterion weak\nevent past\n0 1,0\n1 0\nview order\n0 0\n1 0,1\n",
     )?;
-    of_queue(
+    case(
         out,
         "no such event",
+        QUEUE,
         b"criterion weak\nevent past\n0 2,1\n1 0\nview order\n0 0\n1 0,1\n",
     )?;
-    of_queue(
+    case(
         out,
         "too many entries",
+        QUEUE,
         b"criterion weak\nevent past\n0 1,1,1\n1 0\nview order\n0 0\n1 0,1\n",
     )
 }
 
 // The lines of a certificate.
 fn of_lines<W: Write>(out: &mut W) -> io::Result<()> {
-    of_queue(
+    case(
         out,
         "wrong own number",
+        QUEUE,
         b"criterion pram\nview order\n0 0,1\n2 0,1\n",
     )?;
-    of_queue(
+    case(
         out,
         "a line too few",
+        QUEUE,
         b"criterion pram\nview order\n0 0,1\n",
     )?;
-    of_queue(
+    case(
         out,
         "a heading too early",
+        QUEUE,
         b"criterion weak\nevent past\n0 -\nview order\n0 0\n1 0,1\n",
     )?;
-    of_queue(
+    case(
         out,
         "a line too many",
+        QUEUE,
         b"criterion sequential\nview order\n0 0,1\n1 0,1\n",
     )?;
-    of_queue(
+    case(
         out,
         "an empty line too many",
+        QUEUE,
         b"criterion sequential\nview order\n0 0,1\n\n",
     )?;
-    of_queue(
+    case(
         out,
         "no final line feed",
+        QUEUE,
         b"criterion sequential\nview order\n0 0,1",
     )?;
-    of_queue(out, "empty text", b"")
+    case(out, "empty text", QUEUE, b"")
 }
 
 // Certificates of a history without events, and one of a history that is refused.
 fn of_other_histories<W: Write>(out: &mut W) -> io::Result<()> {
-    of_nothing(
+    case(
         out,
         "nothing, sequential",
+        NOTHING,
         b"criterion sequential\nview order\n0 -\n",
     )?;
-    of_nothing(
+    case(
         out,
         "nothing, converge",
+        NOTHING,
         b"criterion converge\nevent past\nview order\n0 -\n",
     )?;
-    of_nothing(out, "nothing, pram", b"criterion pram\nview order\n")?;
-    of_nothing(
+    case(
+        out,
+        "nothing, pram",
+        NOTHING,
+        b"criterion pram\nview order\n",
+    )?;
+    case(
         out,
         "nothing, causal",
+        NOTHING,
         b"criterion causal\nevent past\nview order\n",
     )?;
-    of_nothing(
+    case(
         out,
         "nothing, strict",
+        NOTHING,
         b"criterion strict\nevent past\nview order\n",
     )?;
-    of_nothing(
+    case(
         out,
         "nothing, pram with a view",
+        NOTHING,
         b"criterion pram\nview order\n0 -\n",
     )?;
     case(

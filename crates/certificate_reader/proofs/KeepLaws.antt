@@ -1,13 +1,14 @@
 -- Laws of the lists that are kept while the lines of pasts and of views are read. Assumes nothing.
 use Prim.Native.Nat.{ℕ, zero, suc, ◌+◌, ◌-◌, ◌≤◌, ◌<◌}
+use native.Mathlib.Numerals.{add-one}
 use native.Mathlib.Omega.{arith}
-use mathlib.Core.Path.{◌≡◌, refl, sym, ap, subst, ◌∙◌}
+use mathlib.Core.Path.{◌≡◌, refl, sym, ap, ap₂, subst, ◌∙◌}
 use mathlib.Core.Bool.{Bool, true, false, ◌&&◌}
 use mathlib.Core.List.{List, [], ◌∷◌, ◌++◌, map, map-append}
 use lib.ListN.{length, get_or, take, drop, set, replicate, length-map, length-append, drop_of_length-le}
 use Rattle.std.proofs.Common.{get_or-set_other, get_or-set_same}
 use Rattle.std.proofs.lemmas.List.{take_more_set}
-use lib.Seq.{take-length}
+use lib.Seq.{take-length, length-take-le}
 use lib.Dec.{eqb, leb}
 use borrow.Author.Tests.{eq-eqb, ne_eqb, leb-true}
 use Rattle.std.specs.Prelude.{Result, Ok, Err}
@@ -16,11 +17,12 @@ use Rattle.layout.specs.Word.{past_heading, view_heading}
 use Rattle.layout.specs.Number.{value}
 use Rattle.layout.specs.List.{items_of, all_below, numbers_of}
 use Rattle.layout.proofs.Cases.{by_bool, by-lt, by-eq, and_right}
-use Rattle.layout.proofs.StandsLaws.{at-cons}
+use Rattle.layout.proofs.SplitLaws.{find-le, split-more, split-last}
+use Rattle.layout.proofs.LeadingLaws.{at-cons}
 use Rattle.history.specs.Record.{pad}
 use Rattle.history.specs.declared.fault.Fault.{Fault}
 use Rattle.history.specs.Faults.{fault_number}
-use Rattle.history.proofs.PadLaws.{pad-set, pad-length, take-pad, take_more}
+use Rattle.history.proofs.PadLaws.{pad-set, pad-length, take_more}
 use Rattle.history.specs.declared.record.Event.{Event}
 use Rattle.history_reader.specs.declared.read.Refusal.{Refusal}
 use Rattle.history_reader.proofs.ReadLaws.{fault-some}
@@ -34,11 +36,11 @@ use Rattle.certificate.specs.declared.numbers.ViewNumbers.{ViewNumbers}
 use Rattle.certificate.specs.Steps.Numbers.{view_numbers_of}
 use Rattle.certificate.specs.Steps.Lists.{list_line_of, list_with, list_read}
 use Rattle.certificate.specs.Steps.Next.{NextList, ending_at, next_read}
+use Rattle.certificate.proofs.NumberingLaws.{numbers-in}
 use Rattle.certificate.proofs.NextLaws.{next-cut, next-line}
-use Rattle.certificate_reader.specs.declared.read.Line.{Line}
-use Rattle.certificate_reader.specs.declared.read.Lists.{Lists}
+use Rattle.certificate_reader.specs.declared.left.LinesLeft.{LinesLeft}
 use Rattle.certificate_reader.specs.ReadCertificate.{Lines, refusal, accepted, end_from, heading_from, lists_from, views_from, pasts_from, body_from}
-use Rattle.certificate_reader.specs.Steps.Lines.{refused, LinesSay, lines_at, Stands, LineDone, Kept, ListsDone, ListsRead, PastsDone, PastsRead, ViewsDone, AllDone}
+use Rattle.certificate_reader.specs.Steps.Lines.{refused, LinesSay, left_say, Kept, ListsDone, ListsRead, PastsDone, PastsRead, ViewsDone, AllDone}
 use Rattle.certificate_reader.proofs.ReadLaws.{lists-cut, lists-more, lists-bad, lists-done}
 
 -- ---- a line that was read
@@ -48,29 +50,37 @@ with-fault k xs = by-eq k 0 (λ z. rw (eq-eqb k 0 z) (sym z)) (λ z. rw (ne_eqb 
 with-list : (k : ℕ) (xs : List ℕ) → k ≡ 0 → (list_with k xs).list ≡ event_list_of xs
 with-list k xs z = rw (eq-eqb k 0 z)
 
-module _ (past : Bool) (count n : ℕ) (s : List ℕ) (a : ℕ) (from : a ≤ length s) (x : NextList) (q : x ≡ next_read past count n a (drop a s))
-    (found : x.end ≡ a + find 10 (drop a s)) where
-  read-cut : length s ≤ x.end → x.fault ≡ 2
-  read-cut k = ap (λ (y : NextList). y.fault) (q ∙ next-cut past count n s a x.end found from k)
+-- x is what the next line is read as
+module _ (past : Bool) (count n : ℕ) (s : List ℕ) (x : NextList) (q : x ≡ next_read past count n 0 s) (found : x.end ≡ find 10 s) where
+  found_there : x.end ≡ 0 + find 10 s
+  found_there = omega (arith, found)
 
-  read-fault : x.end < length s → x.fault ≡ list_fault past count n (take (x.end - a) (drop a s))
+  all-taken : take (x.end - 0) s ≡ take x.end s
+  all-taken = let z : x.end - 0 ≡ x.end = omega arith in ap (λ (k : ℕ). take k s) z
+
+  read-cut : length s ≤ x.end → x.fault ≡ 2
+  read-cut k = ap (λ (y : NextList). y.fault) (q ∙ next-cut past count n s 0 x.end found_there (omega arith) k)
+
+  read-fault : x.end < length s → x.fault ≡ list_fault past count n (take x.end s)
   unfolding list_read
   read-fault k =
-      ap (λ (y : NextList). y.fault) (q ∙ next-line past count n s a x.end found from k)
-      ∙ with-fault (list_fault past count n (take (x.end - a) (drop a s))) (list_said (take (x.end - a) (drop a s)))
+      ap (λ (y : NextList). y.fault) (q ∙ next-line past count n s 0 x.end found_there (omega arith) k)
+      ∙ with-fault (list_fault past count n (take (x.end - 0) s)) (list_said (take (x.end - 0) s))
+      ∙ ap (list_fault past count n) all-taken
 
   -- a line without a fault has its line feed
   pub read_short : x.fault ≡ 0 → x.end < length s
   read_short z = by-lt x.end (length s) (λ k. k) (λ k. absurd (omega (arith, read-cut k)))
 
-  read_none : x.fault ≡ 0 → list_fault past count n (take (x.end - a) (drop a s)) ≡ 0
+  read_none : x.fault ≡ 0 → list_fault past count n (take x.end s) ≡ 0
   read_none z = sym (read-fault (read_short z)) ∙ z
 
-  read-list : x.fault ≡ 0 → x.list ≡ event_list_of (list_said (take (x.end - a) (drop a s)))
+  read-list : x.fault ≡ 0 → x.list ≡ event_list_of (list_said (take x.end s))
   unfolding list_read
   read-list z =
-      ap (λ (y : NextList). y.list) (q ∙ next-line past count n s a x.end found from (read_short z))
-      ∙ with-list (list_fault past count n (take (x.end - a) (drop a s))) (list_said (take (x.end - a) (drop a s))) (read_none z)
+      ap (λ (y : NextList). y.list) (q ∙ next-line past count n s 0 x.end found_there (omega arith) (read_short z))
+      ∙ with-list (list_fault past count n (take (x.end - 0) s)) (list_said (take (x.end - 0) s)) (ap (list_fault past count n) all-taken ∙ read_none z)
+      ∙ ap (λ (l : List ℕ). event_list_of (list_said l)) all-taken
 
 -- a list without a fault has no more entries than the history has events
 pair-few : (past : Bool) (count n : ℕ) (a s : List ℕ) → pair_fault past count n a s ≡ 0 → length (items_of s) ≤ count
@@ -93,29 +103,60 @@ list-few past count n line z =
     (λ t. let b : ◌≡◌ {A = ℕ} 2 0 = rw t at z in absurd (omega arith))
 
 -- ---- the next line is x, and its number is n
-module _ (line : ℕ) (s : List ℕ) (a : ℕ) (from : a ≤ length s) (x : NextList) (found : x.end ≡ a + find 10 (drop a s)) (to : x.end ≤ length s)
+module _ (line at : ℕ) (s : List ℕ) (x : NextList) (found : x.end ≡ find 10 s)
     (past : Bool) (count : ℕ) (next : List (List ℕ) → ℕ → ℕ → List (List ℕ) → Lines) (n : ℕ) (ns : List ℕ) (ls : List (List ℕ))
-    (q : x ≡ next_read past count n a (drop a s)) where
-  list-bad : (x.fault ≡ 0 → ⊥) → lists_from past count next (n ∷ ns) ls line a (split 10 (drop a s)) ≡ refusal x.fault line a (x.end - a)
+    (q : x ≡ next_read past count n 0 s) where
+  cut-here : x.end < length s → split 10 s ≡ take x.end s ∷ split 10 (drop (x.end + 1) s)
+  cut-here k = rw (found, add-one) (split-more 10 s (omega (arith, found)))
+
+  long : x.end < length s → length (take x.end s) ≡ x.end
+  long k = length-take-le x.end s (omega arith)
+
+  list-bad : (x.fault ≡ 0 → ⊥) → lists_from past count next (n ∷ ns) ls line at (split 10 s) ≡ refusal x.fault line at x.end
   list-bad z =
       by-lt x.end (length s)
-      (λ k. lists-bad line s a x.end found from to past count next n ns ls k x.fault (read-fault past count n s a from x q found k) z)
-      (λ k. rw (read-cut past count n s a from x q found k) (lists-cut line s a x.end found from to past count next n ns ls k))
+      (λ k.
+      lists-bad line at s (take x.end s) (drop (x.end + 1) s) (cut-here k) past count next n ns ls x.fault (read-fault past count n s x q found k) z
+      ∙ ap (refusal x.fault line at) (long k))
+      (λ k.
+      let m : length s ≡ x.end = omega (arith, found, find-le 10 s) in
+      lists-cut line at s (split-last 10 s (omega (arith, found))) past count next n ns ls
+      ∙ ap₂ (λ (f e : ℕ). refusal f line at e) (sym (read-cut past count n s x q found k)) m)
 
-  list-more : x.fault ≡ 0 → lists_from past count next (n ∷ ns) ls line a (split 10 (drop a s))
-      ≡ lists_from past count next ns (ls ++ list_said (take (x.end - a) (drop a s)) ∷ []) (line + 1) (x.end + 1) (split 10 (drop (x.end + 1) s))
+  list-more : x.fault ≡ 0 → lists_from past count next (n ∷ ns) ls line at (split 10 s)
+      ≡ lists_from past count next ns (ls ++ list_said (take x.end s) ∷ []) (line + 1) (at + x.end + 1) (split 10 (drop (x.end + 1) s))
   list-more z =
-      let k = read_short past count n s a from x q found z in
-      lists-more line s a x.end found from to past count next n ns ls k x.fault (read-fault past count n s a from x q found k) z
+      let k = read_short past count n s x q found z in
+      lists-more line at s (take x.end s) (drop (x.end + 1) s) (cut-here k) past count next n ns ls x.fault (read-fault past count n s x q found k) z
+      ∙ ap (λ (e : ℕ). lists_from past count next ns (ls ++ list_said (take x.end s) ∷ []) (line + 1) (at + e + 1) (split 10 (drop (x.end + 1) s))) (long k)
+
+-- ---- the lines that are left behind the next one, which has e bytes
+abbrev pub Behind : LinesLeft → ℕ → LinesLeft → Type 0
+Behind now e after = (after.text.now ≡ drop (e + 1) now.text.now) × (after.line ≡ now.line + 1) × (after.start ≡ now.start + e + 1)
+
+pub behind-say : (say : LinesSay) (now : LinesLeft) (e : ℕ) (after : LinesLeft) → Behind now e after
+    → say (now.line + 1) (now.start + e + 1) (split 10 (drop (e + 1) now.text.now)) ≡ left_say say after
+behind-say say now e after b = rw (b.0, b.1, b.2)
+
+-- behind the first line
+pub first-say : (say : LinesSay) (now : LinesLeft) (e : ℕ) (after : LinesLeft) → (now.line ≡ 1) × (now.start ≡ 0) → Behind now e after
+    → say 2 (e + 1) (split 10 (drop (e + 1) now.text.now)) ≡ left_say say after
+first-say say now e after first b =
+    let l : 2 ≡ now.line + 1 = omega (arith, first.0) in
+    let k : e + 1 ≡ now.start + e + 1 = omega (arith, first.1) in
+    ap₂ (λ (x y : ℕ). say x y (split 10 (drop (e + 1) now.text.now))) l k ∙ behind-say say now e after b
+
+pub first-refused : (now : LinesLeft) (e : ℕ) (r : Refusal) → (now.line ≡ 1) × (now.start ≡ 0) → refused r ≡ refusal 2 now.line now.start e
+    → refusal 2 1 0 e ≡ refused r
+first-refused now e r first q = ap₂ (λ (x y : ℕ). refusal 2 x y e) (sym first.0) (sym first.1) ∙ sym q
 
 -- ---- the lists that are kept in an array: what the rest of the text will say
-pub record Reading (past : Bool) (count : ℕ) (numbers : List ℕ) (line : Line) (text : List ℕ) (lists : List EventList) (i : ℕ) (now : Line) : Type 0 where
+pub record Reading (past : Bool) (count : ℕ) (numbers : List ℕ) (old : LinesLeft) (lists : List EventList) (i : ℕ) (now : LinesLeft) : Type 0 where
   pub said : List (List ℕ)
   pub long : length said ≡ i
   pub kept : Kept said lists
-  pub stands : Stands now text
   pub says : (next : List (List ℕ) → LinesSay)
-      → lines_at (lists_from past count next numbers []) line text ≡ lines_at (lists_from past count next (drop i numbers) said) now text
+      → left_say (lists_from past count next numbers []) old ≡ left_say (lists_from past count next (drop i numbers) said) now
 
 blank-short : (n k : ℕ) → (get_or (replicate n no_list) k no_list).count ≤ 64
 blank-short zero zero = omega arith
@@ -137,72 +178,67 @@ kept-none lists e = record {
   short = λ k. subst (λ (l : List EventList). (get_or l k no_list).count ≤ 64) (sym e) (blank-short 64 k);
 }
 
-module _ (past : Bool) (count : ℕ) (numbers : List ℕ) (line : Line) (text : List ℕ) where
-  pub reading-begins : (lists : List EventList) → lists ≡ replicate 64 no_list → Stands line text → Reading past count numbers line text lists 0 line
-  reading-begins lists e s = record { said = []; long = refl; kept = kept-none lists e; stands = s; says = λ next. refl }
+module _ (past : Bool) (count : ℕ) (numbers : List ℕ) (old : LinesLeft) where
+  pub reading-begins : (lists : List EventList) → lists ≡ replicate 64 no_list → Reading past count numbers old lists 0 old
+  reading-begins lists e = record { said = []; long = refl; kept = kept-none lists e; says = λ next. refl }
 
-  module _ {lists : List EventList} {i : ℕ} {now : Line} (v : Reading past count numbers line text lists i now) where
+  module _ {lists : List EventList} {i : ℕ} {now : LinesLeft} (v : Reading past count numbers old lists i now) where
     -- no number is left
-    pub reading-ends : length numbers ≤ i → ListsDone past count numbers line text (record { lists = lists; next = now })
+    pub reading-ends : length numbers ≤ i → ListsDone past count numbers old now lists
     reading-ends h = record {
       said = v.said;
       kept = v.kept;
-      stands = v.stands;
       says =
           λ next.
           v.says next
-          ∙ ap (λ (ns : List ℕ). lines_at (lists_from past count next ns v.said) now text) (drop_of_length-le numbers {i = i} h)
-          ∙ lists-done past count next v.said now.number now.start (split 10 (drop now.start text));
+          ∙ ap (λ (ns : List ℕ). left_say (lists_from past count next ns v.said) now) (drop_of_length-le numbers {i = i} h)
+          ∙ lists-done past count next v.said now.line now.start (split 10 now.text.now);
     }
 
-    -- the next line is r, and goes up to e
+    -- the next line is r, and has e bytes
     module _ (h : i < length numbers) (e : ℕ) (r : Result EventList Fault)
-        (q : ending_at e (list_line_of r) ≡ next_read past count (get_or numbers i 0) now.start (drop now.start text))
-        (found : e ≡ now.start + find 10 (drop now.start text)) (to : e ≤ length text) where
+        (q : ending_at e (list_line_of r) ≡ next_read past count (get_or numbers i 0) 0 now.text.now) (found : e ≡ find 10 now.text.now) where
       abbrev own : ℕ
       own = get_or numbers i 0
 
       next-is : (next : List (List ℕ) → LinesSay)
-          → lines_at (lists_from past count next numbers []) line text ≡ lines_at (lists_from past count next (own ∷ drop (i + 1) numbers) v.said) now text
+          → left_say (lists_from past count next numbers []) old ≡ left_say (lists_from past count next (own ∷ drop (i + 1) numbers) v.said) now
       next-is next =
-          v.says next ∙ ap (λ (ns : List ℕ). lines_at (lists_from past count next ns v.said) now text) (at-cons numbers i h)
+          v.says next ∙ ap (λ (ns : List ℕ). left_say (lists_from past count next ns v.said) now) (at-cons numbers i h)
 
       pub reading-bad : (f : Fault) → r ≡ Err f → (next : List (List ℕ) → LinesSay)
-          → lines_at (lists_from past count next numbers []) line text ≡ refusal (fault_number f) now.number now.start (e - now.start)
+          → left_say (lists_from past count next numbers []) old ≡ refusal (fault_number f) now.line now.start e
       reading-bad f z next =
           let k : (list_line_of r).fault ≡ fault_number f = ap (λ (r : Result EventList Fault). (list_line_of r).fault) z in
           next-is next
-          ∙ list-bad now.number text now.start v.stands.to (ending_at e (list_line_of r)) found to past count next own (drop (i + 1) numbers) v.said q
+          ∙ list-bad now.line now.start now.text.now (ending_at e (list_line_of r)) found past count next own (drop (i + 1) numbers) v.said q
           (λ n. fault-some f (sym k ∙ n))
-          ∙ ap (λ (n : ℕ). refusal n now.number now.start (e - now.start)) k
+          ∙ ap (λ (n : ℕ). refusal n now.line now.start e) k
 
       module _ (l : EventList) (z : r ≡ Ok l) where
         no-fault : (list_line_of r).fault ≡ 0
         no-fault = ap (λ (r : Result EventList Fault). (list_line_of r).fault) z
 
-        pub reading-short : e < length text
-        reading-short = read_short past count own text now.start v.stands.to (ending_at e (list_line_of r)) q found no-fault
+        pub reading-short : e < length now.text.now
+        reading-short = read_short past count own now.text.now (ending_at e (list_line_of r)) q found no-fault
 
         abbrev entries : List ℕ
-        entries = list_said (take (e - now.start) (drop now.start text))
+        entries = list_said (take e now.text.now)
 
         list-is : l ≡ event_list_of entries
         list-is =
             sym (ap (λ (r : Result EventList Fault). (list_line_of r).list) z)
-            ∙ read-list past count own text now.start v.stands.to (ending_at e (list_line_of r)) q found no-fault
+            ∙ read-list past count own now.text.now (ending_at e (list_line_of r)) q found no-fault
 
         few : length entries ≤ count
-        few =
-            list-few past count own (take (e - now.start) (drop now.start text))
-            (read_none past count own text now.start v.stands.to (ending_at e (list_line_of r)) q found no-fault)
+        few = list-few past count own (take e now.text.now) (read_none past count own now.text.now (ending_at e (list_line_of r)) q found no-fault)
 
         small : count ≤ 64 → l.count ≤ 64
         unfolding event_list_of
         small c = let k : l.count ≡ length entries = ap (λ (l : EventList). l.count) list-is in omega (arith, few)
 
-        pub reading-more : count ≤ 64 → i < 64
-            → Reading past count numbers line text (set lists i l) (i + 1) (record { number = now.number + 1; start = e + 1 })
-        reading-more c room =
+        pub reading-more : count ≤ 64 → i < 64 → (after : LinesLeft) → Behind now e after → Reading past count numbers old (set lists i l) (i + 1) after
+        reading-more c room after b =
             let many : length (map event_list_of v.said) ≡ i = length-map v.said event_list_of ∙ v.long in
             let wide : length lists ≡ 64 = ap length v.kept.pads ∙ pad-length 64 no_list (map event_list_of v.said) (omega arith) in
             record {
@@ -215,82 +251,77 @@ module _ (past : Bool) (count : ℕ) (numbers : List ℕ) (line : Line) (text : 
                     ∙ ap (pad 64 no_list) (sym (map-append event_list_of v.said (entries ∷ [])));
                 short = set-short lists i l (small c) (omega arith) v.kept.short;
               };
-              stands = record { to = omega (arith, reading-short); numbered = omega (arith, v.stands.numbered, found) };
               says =
                   λ next.
                   next-is next
-                  ∙ list-more now.number text now.start v.stands.to (ending_at e (list_line_of r)) found to past count next own (drop (i + 1) numbers) v.said q no-fault;
+                  ∙ list-more now.line now.start now.text.now (ending_at e (list_line_of r)) found past count next own (drop (i + 1) numbers) v.said q no-fault
+                  ∙ behind-say (lists_from past count next (drop (i + 1) numbers) (v.said ++ entries ∷ [])) now e after b;
             }
 
 -- ---- the pasts
-module _ (c : Criterion) (es : List Event) (line : Line) (text : List ℕ) where
-  pub pasts-none : has_pasts c ≡ false → (lists : List EventList) → lists ≡ replicate 64 no_list → Stands line text
-      → PastsDone c es line text (record { lists = lists; next = line })
+module _ (c : Criterion) (es : List Event) (old : LinesLeft) where
+  pub pasts-none : has_pasts c ≡ false → (lists : List EventList) → lists ≡ replicate 64 no_list → PastsDone c es old old lists
   unfolding body_from
-  pasts-none h lists e s = record { pasts = []; kept = kept-none lists e; stands = s; says = rw h }
+  pasts-none h lists e = record { pasts = []; kept = kept-none lists e; says = rw h }
 
-  pub pasts-unheaded : has_pasts c ≡ true → (r : Refusal) → ((next : LinesSay) → lines_at (heading_from past_heading next) line text ≡ refused r)
-      → lines_at (body_from c es) line text ≡ refused r
+  pub pasts-unheaded : has_pasts c ≡ true → (r : Refusal) → ((next : LinesSay) → left_say (heading_from past_heading next) old ≡ refused r)
+      → left_say (body_from c es) old ≡ refused r
   unfolding body_from pasts_from
   pasts-unheaded h r p = rw h (p (lists_from true (length es) (views_from c (length es) (view_numbers c es)) (count_from 0 (length es)) []))
 
-  pub pasts-read : has_pasts c ≡ true → (l : Line) → LineDone (heading_from past_heading) line text l
-      → (numbers : List ℕ) → numbers ≡ count_from 0 (length es) → (r : Result Lists Refusal) → ListsRead true (length es) numbers l text r
-      → PastsRead c es line text r
+  pub pasts-read : has_pasts c ≡ true → (headed : LinesLeft) → ((next : LinesSay) → left_say (heading_from past_heading next) old ≡ left_say next headed)
+      → (numbers : List ℕ) → numbers ≡ count_from 0 (length es) → (new : LinesLeft) (r : Result (List EventList) Refusal)
+      → ListsRead true (length es) numbers headed new r → PastsRead c es old new r
   unfolding body_from pasts_from
-  pasts-read h l p numbers e (Ok x) d =
-      let d : ListsDone true (length es) (count_from 0 (length es)) l text x = subst (λ (ns : List ℕ). ListsDone true (length es) ns l text x) e d in record {
+  pasts-read h headed p numbers e new (Ok x) d =
+      let d : ListsDone true (length es) (count_from 0 (length es)) headed new x = subst (λ (ns : List ℕ). ListsDone true (length es) ns headed new x) e d in record {
         pasts = d.said;
         kept = d.kept;
-        stands = d.stands;
         says =
             rw h
-            (p.says (lists_from true (length es) (views_from c (length es) (view_numbers c es)) (count_from 0 (length es)) [])
+            (p (lists_from true (length es) (views_from c (length es) (view_numbers c es)) (count_from 0 (length es)) [])
             ∙ d.says (views_from c (length es) (view_numbers c es)));
       }
-  pasts-read h l p numbers e (Err f) d =
-      let d : ListsRead true (length es) (count_from 0 (length es)) l text (Err f) = subst (λ (ns : List ℕ). ListsRead true (length es) ns l text (Err f)) e d in
+  pasts-read h headed p numbers e new (Err f) d =
+      let d : ListsRead true (length es) (count_from 0 (length es)) headed new (Err f) = subst (λ (ns : List ℕ). ListsRead true (length es) ns headed new (Err f)) e d in
       rw h
-      (p.says (lists_from true (length es) (views_from c (length es) (view_numbers c es)) (count_from 0 (length es)) [])
+      (p (lists_from true (length es) (views_from c (length es) (view_numbers c es)) (count_from 0 (length es)) [])
       ∙ d (views_from c (length es) (view_numbers c es)))
 
 -- ---- the views
-module _ (c : Criterion) (es : List Event) (line : Line) (text : List ℕ) where
-  pub views-unheaded : (r : Refusal) → ((next : LinesSay) → lines_at (heading_from view_heading next) line text ≡ refused r)
-      → (pasts : List (List ℕ)) → lines_at (views_from c (length es) (view_numbers c es) pasts) line text ≡ refused r
+module _ (c : Criterion) (es : List Event) (old : LinesLeft) where
+  pub views-unheaded : (r : Refusal) → ((next : LinesSay) → left_say (heading_from view_heading next) old ≡ refused r)
+      → (pasts : List (List ℕ)) → left_say (views_from c (length es) (view_numbers c es) pasts) old ≡ refused r
   unfolding views_from
   views-unheaded r p pasts = p (lists_from false (length es) (λ (views : List (List ℕ)). end_from (accepted c pasts views)) (view_numbers c es) [])
 
-  module _ (l : Line) (p : LineDone (heading_from view_heading) line text l) (numbers : List ℕ) (e : numbers ≡ view_numbers c es) where
-    pub views-refused : (r : Refusal) → ListsRead false (length es) numbers l text (Err r)
-        → (pasts : List (List ℕ)) → lines_at (views_from c (length es) (view_numbers c es) pasts) line text ≡ refused r
+  module _ (headed : LinesLeft) (p : (next : LinesSay) → left_say (heading_from view_heading next) old ≡ left_say next headed) (numbers : List ℕ)
+      (e : numbers ≡ view_numbers c es) (new : LinesLeft) where
+    pub views-refused : (r : Refusal) → ListsRead false (length es) numbers headed new (Err r)
+        → (pasts : List (List ℕ)) → left_say (views_from c (length es) (view_numbers c es) pasts) old ≡ refused r
     unfolding views_from
     views-refused r d pasts =
-        let d : ListsRead false (length es) (view_numbers c es) l text (Err r) = subst (λ (ns : List ℕ). ListsRead false (length es) ns l text (Err r)) e d in
-        p.says (lists_from false (length es) (λ (views : List (List ℕ)). end_from (accepted c pasts views)) (view_numbers c es) [])
+        let d : ListsRead false (length es) (view_numbers c es) headed new (Err r) = subst (λ (ns : List ℕ). ListsRead false (length es) ns headed new (Err r)) e d in
+        p (lists_from false (length es) (λ (views : List (List ℕ)). end_from (accepted c pasts views)) (view_numbers c es) [])
         ∙ d (λ (views : List (List ℕ)). end_from (accepted c pasts views))
 
-    module _ (x : Lists) (d : ListsDone false (length es) numbers l text x) where
+    module _ (x : List EventList) (d : ListsDone false (length es) numbers headed new x) where
       views-say : (pasts : List (List ℕ))
-          → lines_at (views_from c (length es) (view_numbers c es) pasts) line text ≡ lines_at (end_from (accepted c pasts d.said)) x.next text
+          → left_say (views_from c (length es) (view_numbers c es) pasts) old ≡ left_say (end_from (accepted c pasts d.said)) new
       unfolding views_from
       views-say pasts =
-          p.says (lists_from false (length es) (λ (views : List (List ℕ)). end_from (accepted c pasts views)) (view_numbers c es) [])
-          ∙ ap (λ (ns : List ℕ). lines_at (lists_from false (length es) (λ (views : List (List ℕ)). end_from (accepted c pasts views)) ns []) l text) (sym e)
+          p (lists_from false (length es) (λ (views : List (List ℕ)). end_from (accepted c pasts views)) (view_numbers c es) [])
+          ∙ ap (λ (ns : List ℕ). left_say (lists_from false (length es) (λ (views : List (List ℕ)). end_from (accepted c pasts views)) ns []) headed) (sym e)
           ∙ d.says (λ (views : List (List ℕ)). end_from (accepted c pasts views))
 
-      pub views-followed : (r : Refusal) → ((w : Lines) → lines_at (end_from w) x.next text ≡ refused r)
-          → (pasts : List (List ℕ)) → lines_at (views_from c (length es) (view_numbers c es) pasts) line text ≡ refused r
+      pub views-followed : (r : Refusal) → ((w : Lines) → left_say (end_from w) new ≡ refused r)
+          → (pasts : List (List ℕ)) → left_say (views_from c (length es) (view_numbers c es) pasts) old ≡ refused r
       views-followed r q pasts = views-say pasts ∙ q (accepted c pasts d.said)
 
-      pub views-done : ((w : Lines) → lines_at (end_from w) x.next text ≡ w) → ViewsDone c es line text x.lists
+      pub views-done : ((w : Lines) → left_say (end_from w) new ≡ w) → ViewsDone c es old x
       views-done q = record { views = d.said; kept = d.kept; says = λ pasts. views-say pasts ∙ q (accepted c pasts d.said) }
 
--- the numbers in their array
-pub numbers-in : (x : ViewNumbers) (ns : List ℕ) → x ≡ view_numbers_of ns → take x.count x.numbers ≡ ns
-unfolding view_numbers_of
-numbers-in x ns q = rw q (take-pad 64 0 ns)
-
+-- the numbers of the pasts in their array
 pub event-numbers : (x : ViewNumbers) (es : List Event) → x ≡ view_numbers_of (view_numbers Weak es) → take x.count x.numbers ≡ count_from 0 (length es)
 unfolding view_numbers
 event-numbers x es q = numbers-in x (count_from 0 (length es)) q

@@ -1,19 +1,19 @@
 -- Laws of reading a certificate text, a line at a time. Assumes nothing.
-use Prim.Native.Nat.{ℕ, ◌+◌, ◌-◌, ◌≤◌, ◌<◌}
+use Prim.Native.Nat.{ℕ, ◌+◌, ◌≤◌, ◌<◌}
 use native.Mathlib.Nat.{not-suc-le-zero}
 use native.Mathlib.Omega.{arith}
 use mathlib.Core.Path.{◌≡◌, refl, sym, ap, ◌∙◌}
 use mathlib.Core.Bool.{Bool, true, false, cond}
 use mathlib.Core.List.{List, [], ◌∷◌, ◌++◌}
-use lib.ListN.{length, get_or, take, drop, drop_of_length-le}
+use lib.ListN.{length, get_or, take, drop}
+use lib.Seq.{length-take-le}
 use lib.Dec.{eqb}
 use borrow.Author.Tests.{eq-eqb, ne_eqb, le-leb, lt-leb}
 use Rattle.std.specs.Prelude.{Option, Some, None}
 use Rattle.layout.specs.Split.{find, split}
 use Rattle.layout.specs.Word.{same}
-use Rattle.layout.proofs.Cases.{by_bool, by-lt}
-use Rattle.layout.proofs.SplitLaws.{cut-more, cut-last, split-some}
-use Rattle.layout.proofs.NumberLaws.{cut-long}
+use Rattle.layout.proofs.Cases.{by_bool}
+use Rattle.layout.proofs.SplitLaws.{split-some}
 use Rattle.history.specs.declared.record.Event.{Event}
 use Rattle.certificate.specs.declared.record.Criterion.{Criterion}
 use Rattle.certificate.specs.Faults.{criterion_line, list_fault, list_said}
@@ -49,123 +49,99 @@ unfolding lines_from
 lines_step es p [] h = absurd (not-suc-le-zero h)
 lines_step es p (q ∷ l) h = refl
 
--- ---- the next line goes from a to e
-module _ (line : ℕ) (s : List ℕ) (a e : ℕ) (found : e ≡ a + find 10 (drop a s)) (from : a ≤ length s) (to : e ≤ length s) where
-  before : a ≤ e
-  before = omega arith
+-- ---- a line p that is cut off at its line feed, and q behind it
+pub line-cut : (s p q : List ℕ) → (find 10 s < length s) × (p ≡ take (find 10 s) s) × (q ≡ drop (find 10 s + 1) s) × (split 10 s ≡ p ∷ split 10 q)
+    → split 10 s ≡ p ∷ split 10 (drop (length p + 1) s)
+line-cut s p q c =
+    let n : find 10 s ≡ length p = sym (ap length c.1 ∙ length-take-le (find 10 s) s (omega (arith, c.0))) in
+    c.3 ∙ ap (λ (l : List ℕ). p ∷ split 10 l) (c.2 ∙ ap (λ (k : ℕ). drop (k + 1) s) n)
 
-  long : length (take (e - a) (drop a s)) ≡ e - a
-  long = cut-long s a e before to
+-- ---- the next line has no line feed
+module _ (line at : ℕ) (s : List ℕ) (cut : split 10 s ≡ s ∷ []) where
+  pub end-cut : (length s ≡ 0 → ⊥) → (r : Lines) → end_from r line at (split 10 s) ≡ refusal 2 line at (length s)
+  unfolding end_from
+  end-cut z r = rw (cut, ne_eqb (length s) 0 z)
 
-  behind : a + length (take (e - a) (drop a s)) + 1 ≡ e + 1
-  behind = omega (arith, long, before)
+  pub heading-cut : (heading : List ℕ) (next : ℕ → ℕ → List (List ℕ) → Lines) → heading_from heading next line at (split 10 s) ≡ refusal 2 line at (length s)
+  unfolding heading_from
+  heading-cut heading next = rw cut
 
-  rest_some : 0 < length (split 10 (drop (e + 1) s))
-  rest_some = split-some 10 (drop (e + 1) s)
+  pub lists-cut : (past : Bool) (count : ℕ) (next : List (List ℕ) → ℕ → ℕ → List (List ℕ) → Lines) (n : ℕ) (ns : List ℕ) (ls : List (List ℕ))
+      → lists_from past count next (n ∷ ns) ls line at (split 10 s) ≡ refusal 2 line at (length s)
+  unfolding lists_from
+  lists-cut past count next n ns ls = rw cut
 
-  -- no line is left
-  module _ (r : Lines) where
-    pub end-bad : (a ≡ length s → ⊥) → end_from r line a (split 10 (drop a s)) ≡ refusal 2 line a (e - a)
-    unfolding end_from
-    end-bad z =
-        by-lt e (length s)
-        (λ h.
-        ap (end_from r line a) (cut-more 10 s a e found from h)
-        ∙ end_step r line a (take (e - a) (drop a s)) (split 10 (drop (e + 1) s)) rest_some
-        ∙ rw long)
-        (λ h. let n : e - a ≡ 0 → ⊥ = λ q. z (omega (arith, before)) in rw (cut-last 10 s a e found from h, long, ne_eqb (e - a) 0 n))
+-- ---- the next line is p, and q is behind its line feed
+module _ (line at : ℕ) (s p q : List ℕ) (cut : split 10 s ≡ p ∷ split 10 q) where
+  pub end-more : (r : Lines) → end_from r line at (split 10 s) ≡ refusal 2 line at (length p)
+  end-more r = ap (end_from r line at) cut ∙ end_step r line at p (split 10 q) (split-some 10 q)
 
   -- a heading
   module _ (heading : List ℕ) (next : ℕ → ℕ → List (List ℕ) → Lines) where
-    pub heading-cut : length s ≤ e → heading_from heading next line a (split 10 (drop a s)) ≡ refusal 2 line a (e - a)
-    unfolding heading_from
-    heading-cut h = rw (cut-last 10 s a e found from h, long)
+    heading-turn : heading_from heading next line at (split 10 s)
+        ≡ cond (same p heading) (next (line + 1) (at + length p + 1) (split 10 q)) (refusal 2 line at (length p))
+    heading-turn = ap (heading_from heading next line at) cut ∙ heading-step heading next line at p (split 10 q) (split-some 10 q)
 
-    module _ (h : e < length s) where
-      heading-turn : heading_from heading next line a (split 10 (drop a s))
-          ≡ cond (same (take (e - a) (drop a s)) heading) (next (line + 1) (e + 1) (split 10 (drop (e + 1) s))) (refusal 2 line a (e - a))
-      heading-turn =
-          ap (heading_from heading next line a) (cut-more 10 s a e found from h)
-          ∙ heading-step heading next line a (take (e - a) (drop a s)) (split 10 (drop (e + 1) s)) rest_some
-          ∙ rw (behind, long)
+    pub heading-is : same p heading ≡ true → heading_from heading next line at (split 10 s) ≡ next (line + 1) (at + length p + 1) (split 10 q)
+    heading-is w = heading-turn ∙ rw w
 
-      pub heading-is : same (take (e - a) (drop a s)) heading ≡ true
-          → heading_from heading next line a (split 10 (drop a s)) ≡ next (line + 1) (e + 1) (split 10 (drop (e + 1) s))
-      heading-is w = heading-turn ∙ rw w
-
-      pub heading-not : same (take (e - a) (drop a s)) heading ≡ false
-          → heading_from heading next line a (split 10 (drop a s)) ≡ refusal 2 line a (e - a)
-      heading-not w = heading-turn ∙ rw w
+    pub heading-not : same p heading ≡ false → heading_from heading next line at (split 10 s) ≡ refusal 2 line at (length p)
+    heading-not w = heading-turn ∙ rw w
 
   -- a line of a past or of a view
-  module _ (past : Bool) (count : ℕ) (next : List (List ℕ) → ℕ → ℕ → List (List ℕ) → Lines) (n : ℕ) (ns : List ℕ) (ls : List (List ℕ)) where
-    pub lists-cut : length s ≤ e → lists_from past count next (n ∷ ns) ls line a (split 10 (drop a s)) ≡ refusal 2 line a (e - a)
-    unfolding lists_from
-    lists-cut h = rw (cut-last 10 s a e found from h, long)
+  module _ (past : Bool) (count : ℕ) (next : List (List ℕ) → ℕ → ℕ → List (List ℕ) → Lines) (n : ℕ) (ns : List ℕ) (ls : List (List ℕ)) (fault : ℕ)
+      (is : fault ≡ list_fault past count n p) where
+    lists-turn : lists_from past count next (n ∷ ns) ls line at (split 10 s)
+        ≡ cond (eqb fault 0) (lists_from past count next ns (ls ++ list_said p ∷ []) (line + 1) (at + length p + 1) (split 10 q)) (refusal fault line at (length p))
+    lists-turn =
+        ap (lists_from past count next (n ∷ ns) ls line at) cut
+        ∙ lists-step past count next n ns ls line at p (split 10 q) (split-some 10 q)
+        ∙ rw (← is)
 
-    module _ (h : e < length s) (fault : ℕ) (q : fault ≡ list_fault past count n (take (e - a) (drop a s))) where
-      lists-turn : lists_from past count next (n ∷ ns) ls line a (split 10 (drop a s))
-          ≡ cond (eqb fault 0)
-          (lists_from past count next ns (ls ++ list_said (take (e - a) (drop a s)) ∷ []) (line + 1) (e + 1) (split 10 (drop (e + 1) s)))
-          (refusal fault line a (e - a))
-      lists-turn =
-          ap (lists_from past count next (n ∷ ns) ls line a) (cut-more 10 s a e found from h)
-          ∙ lists-step past count next n ns ls line a (take (e - a) (drop a s)) (split 10 (drop (e + 1) s)) rest_some
-          ∙ rw (← q, behind, long)
+    pub lists-more : fault ≡ 0
+        → lists_from past count next (n ∷ ns) ls line at (split 10 s)
+        ≡ lists_from past count next ns (ls ++ list_said p ∷ []) (line + 1) (at + length p + 1) (split 10 q)
+    lists-more z = lists-turn ∙ rw (eq-eqb fault 0 z)
 
-      pub lists-more : fault ≡ 0
-          → lists_from past count next (n ∷ ns) ls line a (split 10 (drop a s))
-          ≡ lists_from past count next ns (ls ++ list_said (take (e - a) (drop a s)) ∷ []) (line + 1) (e + 1) (split 10 (drop (e + 1) s))
-      lists-more z = lists-turn ∙ rw (eq-eqb fault 0 z)
-
-      pub lists-bad : (fault ≡ 0 → ⊥)
-          → lists_from past count next (n ∷ ns) ls line a (split 10 (drop a s)) ≡ refusal fault line a (e - a)
-      lists-bad z = lists-turn ∙ rw (ne_eqb fault 0 z)
+    pub lists-bad : (fault ≡ 0 → ⊥) → lists_from past count next (n ∷ ns) ls line at (split 10 s) ≡ refusal fault line at (length p)
+    lists-bad z = lists-turn ∙ rw (ne_eqb fault 0 z)
 
 pub lists-done : (past : Bool) (count : ℕ) (next : List (List ℕ) → ℕ → ℕ → List (List ℕ) → Lines) (ls : List (List ℕ)) (line at : ℕ) (ps : List (List ℕ))
     → lists_from past count next [] ls line at ps ≡ next ls line at ps
 unfolding lists_from
 lists-done past count next ls line at ps = refl
 
-pub end-here : (r : Lines) (line a : ℕ) (s : List ℕ) → a ≡ length s → end_from r line a (split 10 (drop a s)) ≡ r
+pub end-here : (r : Lines) (line at : ℕ) (s : List ℕ) → length s ≡ 0 → end_from r line at (split 10 s) ≡ r
 unfolding split end_from
-end-here r line a s h = let k : length s ≤ a = omega arith in rw (drop_of_length-le s k)
+end-here r line at [] h = refl
+end-here r line at (x ∷ s) h = absurd (omega (arith, h))
 
 -- ---- the first line
-module _ (es : List Event) (s : List ℕ) (e : ℕ) (found : e ≡ 0 + find 10 (drop 0 s)) (to : e ≤ length s) where
-  first-long : length (take (e - 0) s) ≡ e - 0
-  first-long = cut-long s 0 e (omega arith) to
+pub lines_cut : (es : List Event) (s : List ℕ) → split 10 s ≡ s ∷ [] → lines_from es (split 10 s) ≡ refusal 2 1 0 (length s)
+unfolding lines_from
+lines_cut es s cut = rw cut
 
-  pub lines_cut : length s ≤ e → lines_from es (split 10 s) ≡ refusal 2 1 0 (e - 0)
-  unfolding lines_from
-  lines_cut h = ap (lines_from es) (cut-last 10 s 0 e found (omega arith) h) ∙ rw first-long
+-- it is p, q is behind its line feed, and r is what it is read as
+module _ (es : List Event) (s p q : List ℕ) (cut : split 10 s ≡ p ∷ split 10 q) (r : Option Criterion)
+    (is : r ≡ cond (criterion_line p) (Some (criterion_of (get_or (split 32 p) 1 []))) None) where
+  lines-turn : lines_from es (split 10 s)
+      ≡ cond (criterion_line p) (body_from (criterion_of (get_or (split 32 p) 1 [])) es 2 (length p + 1) (split 10 q)) (refusal 2 1 0 (length p))
+  lines-turn = ap (lines_from es) cut ∙ lines_step es p (split 10 q) (split-some 10 q)
 
-  module _ (h : e < length s) where
-    lines-turn : lines_from es (split 10 s)
-        ≡ cond (criterion_line (take e s)) (body_from (criterion_of (get_or (split 32 (take e s)) 1 [])) es 2 (e + 1) (split 10 (drop (e + 1) s)))
-        (refusal 2 1 0 (e - 0))
-    lines-turn =
-        let z : e - 0 ≡ e = omega arith in
-        ap (lines_from es) (cut-more 10 s 0 e found (omega arith) h)
-        ∙ lines_step es (take (e - 0) s) (split 10 (drop (e + 1) s)) (split-some 10 (drop (e + 1) s))
-        ∙ rw (first-long, z)
+  pub lines-named : (c : Criterion) → r ≡ Some c → lines_from es (split 10 s) ≡ body_from c es 2 (length p + 1) (split 10 q)
+  lines-named c z =
+      by_bool (criterion_line p)
+      (λ t.
+      let k : ◌≡◌ {A = Option Criterion} (Some (criterion_of (get_or (split 32 p) 1 []))) (Some c) = sym (is ∙ rw t) ∙ z in
+      let m : criterion_of (get_or (split 32 p) 1 []) ≡ c = cc in
+      lines-turn ∙ rw (t, m))
+      (λ t. let k : ◌≡◌ {A = Option Criterion} None (Some c) = sym (is ∙ rw t) ∙ z in absurd (cc))
 
-    -- what the first line is read as
-    module _ (r : Option Criterion) (q : r ≡ cond (criterion_line (take e s)) (Some (criterion_of (get_or (split 32 (take e s)) 1 []))) None) where
-      pub lines-named : (c : Criterion) → r ≡ Some c → lines_from es (split 10 s) ≡ body_from c es 2 (e + 1) (split 10 (drop (e + 1) s))
-      lines-named c z =
-          by_bool (criterion_line (take e s))
-          (λ t.
-          let k : ◌≡◌ {A = Option Criterion} (Some (criterion_of (get_or (split 32 (take e s)) 1 []))) (Some c) = sym (q ∙ rw t) ∙ z in
-          let m : criterion_of (get_or (split 32 (take e s)) 1 []) ≡ c = cc in
-          lines-turn ∙ rw (t, m))
-          (λ t. let k : ◌≡◌ {A = Option Criterion} None (Some c) = sym (q ∙ rw t) ∙ z in absurd (cc))
-
-      pub lines-bad : r ≡ None → lines_from es (split 10 s) ≡ refusal 2 1 0 (e - 0)
-      lines-bad z =
-          by_bool (criterion_line (take e s))
-          (λ t. let k : ◌≡◌ {A = Option Criterion} (Some (criterion_of (get_or (split 32 (take e s)) 1 []))) None = sym (q ∙ rw t) ∙ z in absurd (cc))
-          (λ t. lines-turn ∙ rw t)
+  pub lines-bad : r ≡ None → lines_from es (split 10 s) ≡ refusal 2 1 0 (length p)
+  lines-bad z =
+      by_bool (criterion_line p)
+      (λ t. let k : ◌≡◌ {A = Option Criterion} (Some (criterion_of (get_or (split 32 p) 1 []))) None = sym (is ∙ rw t) ∙ z in absurd (cc))
+      (λ t. lines-turn ∙ rw t)
 
 -- ---- a text that is too long
 module _ (es : List Event) (text : List ℕ) where

@@ -1,22 +1,24 @@
 // Reading a certificate text, given its history text.
-ghost use Rattle.std.specs.Prelude.{◌≡◌, ℕ, ◌+◌, ◌-◌, ◌≤◌, map, length, get_or};
+ghost use Rattle.std.specs.Prelude.{◌≡◌, ℕ, ◌+◌, ◌≤◌, map, length, get_or};
 ghost use Rattle.layout.specs.Split.{split};
-ghost use Rattle.history.specs.Faults.{fault_number};
+ghost use Rattle.history_reader.specs.Place.{CertificateText, line_place, faulty_place};
 ghost use Rattle.certificate.specs.Record.{no_list};
+ghost use Rattle.certificate.specs.Steps.Lists.{is_past};
 ghost use Rattle.certificate.specs.declared.record.EventList.{EventList};
 ghost use Rattle.certificate_reader.specs.ReadCertificate.{refusal, heading_from, lines_from, read_lines, texts_read, refusal_in, read_certificate, rows_read};
-ghost use Rattle.certificate_reader.specs.Steps.Lines.{refused, LineRead, ListsRead, EndRead, PastsRead, ViewsRead, AllRead};
+ghost use Rattle.certificate_reader.specs.Steps.Lines.{refused, CriterionRead, LineRead, ListsRead, EndRead, PastsRead, ViewsRead, AllRead};
 
+use crate::left::LinesLeft;
 use certificate::criterion::{has_pasts, read_criterion};
-use certificate::list::no_list;
+use certificate::list::{Part, Sort, no_list};
 use certificate::next::next_list;
 use certificate::numbers::view_numbers;
 use certificate::record::{Certificate, Criterion, EventList};
 use history::fault::Fault;
 use history::record::{Event, History};
-use history_reader::place::{Text, faulty_place};
+use history_reader::place::{Place, Text, faulty_place};
 use history_reader::read::{Refusal, read_history};
-use layout::split::find_from;
+use layout::split::split_once;
 use layout::word::is_word;
 
 // The longest certificate text that is read.
@@ -46,138 +48,123 @@ impl From<Unread> for Refusal {
     }
 }
 
-// A line of a text: its number from 1, and where it begins.
-#[derive(Clone, Copy)]
-struct Line {
-    pub number: usize,
-    pub start: usize,
-}
-
-// The lists of lines that were read, in the first places of the array, and the line behind them.
-#[derive(Clone, Copy)]
-struct Lists {
-    pub lists: [EventList; 64],
-    pub next: Line,
-}
-
-fn refuse(fault: Fault, line: Line, end: usize) -> Refusal
-    requires { line.start ≤ end }
-    ensures { refused result ≡ refusal (fault_number fault) line.number line.start (end - line.start) }
-{
-    Refusal {
-        fault,
-        place: faulty_place(Text::Certificate, line.number, line.start, end),
+impl<'a> LinesLeft<'a> {
+    // The place of the next line, which has so many bytes.
+    fn place(&self, size: usize) -> Place
+        requires { size ≤ length self.now.text.now }
+        ensures { line_place result ≡ faulty_place CertificateText self.now.line self.now.start size }
+    {
+        faulty_place(Text::Certificate, self.line, self.start, self.start + size)
     }
-}
 
-// Reads a line that is a heading, and hands out the line behind it.
-fn read_heading(text: &[u8], line: Line, heading: &[u8]) -> Result<Line, Refusal>
-    requires { (line.start ≤ length text.now) × (line.number ≤ line.start + 1) }
-    ensures { LineRead (heading_from heading.now) line text.now result }
-{
-    let Some(end) = find_from(text, line.start, b'\n') else {
-        return Err(refuse(Fault::Layout, line, text.len()));
-    };
-    if !is_word(&text[line.start..end], heading) {
-        return Err(refuse(Fault::Layout, line, end));
+    // Refuses the layout of the next line, which has so many bytes.
+    fn refuse(&self, size: usize) -> Refusal
+        requires { size ≤ length self.now.text.now }
+        ensures { refused result ≡ refusal 2 self.now.line self.now.start size }
+    {
+        Refusal {
+            fault: Fault::Layout,
+            place: self.place(size),
+        }
     }
-    Ok(Line {
-        number: line.number + 1,
-        start: end + 1,
-    })
-}
 
-// Reads a line for each of the numbers, of a past or of a view, in a history with `count` events.
-fn read_lists(
-    text: &[u8],
-    line: Line,
-    numbers: &[u8],
-    count: usize,
-    past: bool,
-) -> Result<Lists, Refusal>
-    requires { (line.start ≤ length text.now) × (line.number ≤ line.start + 1) × (count ≤ 64) × (length numbers.now ≤ 64) }
-    ensures { ListsRead past count numbers.now line text.now result }
-{
-    let mut lists = [no_list(); 64];
-    let mut line = line;
-    for (i, own) in numbers.iter().enumerate() {
-        let next = next_list(text, line.start, u32::from(*own), count, past);
-        lists[i] = next.list.map_err(|fault| refuse(fault, line, next.end))?;
-        line = Line {
-            number: line.number + 1,
-            start: next.end + 1,
+    // Reads the first line, which names the criterion.
+    fn criterion(&mut self) -> Result<Criterion, Refusal>
+        requires { (self.old.line ≡ 1) × (self.old.start ≡ 0) }
+        ensures { CriterionRead self.old self.new result }
+    {
+        let Some((line, _)) = split_once(self.text, b'\n') else {
+            return Err(self.refuse(self.text.len()));
         };
+        let Some(criterion) = read_criterion(line) else {
+            return Err(self.refuse(line.len()));
+        };
+        self.pass(line.len());
+        Ok(criterion)
     }
-    Ok(Lists { lists, next: line })
-}
 
-// Reads the heading of the pasts and their lines, one for each event, where the criterion has pasts.
-fn read_pasts(
-    text: &[u8],
-    line: Line,
-    criterion: Criterion,
-    events: &[Event],
-) -> Result<Lists, Refusal>
-    requires { (line.start ≤ length text.now) × (line.number ≤ line.start + 1) × (length events.now ≤ 64) }
-    ensures { PastsRead criterion events.now line text.now result }
-{
-    if !has_pasts(criterion) {
-        return Ok(Lists {
-            lists: [no_list(); 64],
-            next: line,
-        });
+    // Reads a line that is a heading.
+    fn heading(&mut self, heading: &[u8]) -> Result<(), Refusal>
+        ensures { LineRead (heading_from heading.now) self.old self.new result }
+    {
+        let Some((line, _)) = split_once(self.text, b'\n') else {
+            return Err(self.refuse(self.text.len()));
+        };
+        if !is_word(line, heading) {
+            return Err(self.refuse(line.len()));
+        }
+        self.pass(line.len());
+        Ok(())
     }
-    // A past has the number of its event, as a view of weak has.
-    let numbers = view_numbers(Criterion::Weak, events);
-    let line = read_heading(text, line, b"event past")?;
-    read_lists(
-        text,
-        line,
-        &numbers.numbers[..numbers.count],
-        events.len(),
-        true,
-    )
-}
 
-// Reads the end of a text, where no line is left.
-fn read_end(text: &[u8], line: Line) -> Result<(), Refusal>
-    requires { line.start ≤ length text.now }
-    ensures { EndRead line text.now result }
-{
-    if line.start == text.len() {
-        return Ok(());
+    // Reads a line of a part for each of the numbers.
+    fn lists(&mut self, numbers: &[u8], part: Part) -> Result<[EventList; 64], Refusal>
+        requires { length numbers.now ≤ 64 }
+        ensures { ListsRead (is_past part.sort) part.count numbers.now self.old self.new result }
+    {
+        let mut lists = [no_list(); 64];
+        for (i, own) in numbers.iter().enumerate() {
+            let next = next_list(self.text, 0, u32::from(*own), part);
+            let place = self.place(next.end);
+            lists[i] = next.list.map_err(|fault| Refusal { fault, place })?;
+            self.pass(next.end);
+        }
+        Ok(lists)
     }
-    let end = find_from(text, line.start, b'\n').unwrap_or(text.len());
-    Err(refuse(Fault::Layout, line, end))
-}
 
-// Reads the heading of the views and their lines, which are the last.
-fn read_views(
-    text: &[u8],
-    line: Line,
-    criterion: Criterion,
-    events: &[Event],
-) -> Result<[EventList; 64], Refusal>
-    requires { (line.start ≤ length text.now) × (line.number ≤ line.start + 1) × (length events.now ≤ 64) }
-    ensures { ViewsRead criterion events.now line text.now result }
-{
-    let numbers = view_numbers(criterion, events);
-    let line = read_heading(text, line, b"view order")?;
-    let views = read_lists(
-        text,
-        line,
-        &numbers.numbers[..numbers.count],
-        events.len(),
-        false,
-    )?;
-    read_end(text, views.next)?;
-    Ok(views.lists)
+    // Reads the heading of the pasts and their lines, one for each event, where the criterion has pasts.
+    fn pasts(&mut self, criterion: Criterion, events: &[Event]) -> Result<[EventList; 64], Refusal>
+        requires { length events.now ≤ 64 }
+        ensures { PastsRead criterion events.now self.old self.new result }
+    {
+        if !has_pasts(criterion) {
+            return Ok([no_list(); 64]);
+        }
+        // A past has the number of its event, as a view of weak has.
+        let numbers = view_numbers(Criterion::Weak, events);
+        let part = Part {
+            sort: Sort::Past,
+            count: events.len(),
+        };
+        self.heading(b"event past")?;
+        self.lists(&numbers.numbers[..numbers.count], part)
+    }
+
+    // Reads the heading of the views and their lines, which are the last.
+    fn views(&mut self, criterion: Criterion, events: &[Event]) -> Result<[EventList; 64], Refusal>
+        requires { length events.now ≤ 64 }
+        ensures { ViewsRead criterion events.now self.old result }
+    {
+        let numbers = view_numbers(criterion, events);
+        let part = Part {
+            sort: Sort::View,
+            count: events.len(),
+        };
+        self.heading(b"view order")?;
+        let views = self.lists(&numbers.numbers[..numbers.count], part)?;
+        self.end()?;
+        Ok(views)
+    }
+
+    // Reads the end of a text, where no line is left.
+    fn end(&self) -> Result<(), Refusal>
+        ensures { EndRead self.now result }
+    {
+        if self.text.is_empty() {
+            return Ok(());
+        }
+        match split_once(self.text, b'\n') {
+            Some((line, _)) => Err(self.refuse(line.len())),
+            None => Err(self.refuse(self.text.len())),
+        }
+    }
 }
 
 // Hands the rows of the views over, and gives back their lengths.
-fn put_rows(views: [EventList; 64], rows: &mut [[u8; 64]; 64]) -> [u8; 64]
-    requires { (k : ℕ) → (get_or views k no_list).count ≤ 64 }
-    ensures { (result ≡ map (λ (l : EventList). l.count) views) × (rows.new ≡ map (λ (l : EventList). l.events) views) }
+// Kept: two `map`s of the array were tried: they prove, and take 17,952 bytes more of stack.
+fn put_rows(views: &[EventList; 64], rows: &mut [[u8; 64]; 64]) -> [u8; 64]
+    requires { (k : ℕ) → (get_or views.now k no_list).count ≤ 64 }
+    ensures { (result ≡ map (λ (l : EventList). l.count) views.now) × (rows.new ≡ map (λ (l : EventList). l.events) views.now) }
 {
     let mut lengths = [0u8; 64];
     for (i, view) in views.iter().enumerate() {
@@ -193,27 +180,18 @@ fn read_lines(
     events: &[Event],
     rows: &mut [[u8; 64]; 64],
 ) -> Result<Certificate, Refusal>
-    requires { length events.now ≤ 64 }
+    requires { (length events.now ≤ 64) × (length text.now ≤ 32768) }
     ensures { AllRead (lines_from events.now (split 10 text.now)) rows.old rows.new result }
 {
-    let first = Line {
-        number: 1,
+    let mut lines = LinesLeft {
+        text,
+        line: 1,
         start: 0,
     };
-    let Some(end) = find_from(text, 0, b'\n') else {
-        return Err(refuse(Fault::Layout, first, text.len()));
-    };
-    let Some(criterion) = read_criterion(&text[..end]) else {
-        return Err(refuse(Fault::Layout, first, end));
-    };
-    let second = Line {
-        number: 2,
-        start: end + 1,
-    };
-    let pasts = read_pasts(text, second, criterion, events)?;
-    let views = read_views(text, pasts.next, criterion, events)?;
-    let pasts = pasts.lists;
-    let lengths = put_rows(views, rows);
+    let criterion = lines.criterion()?;
+    let pasts = lines.pasts(criterion, events)?;
+    let views = lines.views(criterion, events)?;
+    let lengths = put_rows(&views, rows);
     Ok(Certificate {
         criterion,
         pasts,
@@ -231,11 +209,10 @@ fn read_text(
     ensures { AllRead (read_lines events.now text.now) rows.old rows.new result }
 {
     if text.len() > LONGEST {
-        let nowhere = Line {
-            number: 0,
-            start: 0,
-        };
-        return Err(refuse(Fault::TooLong, nowhere, 0));
+        return Err(Refusal {
+            fault: Fault::TooLong,
+            place: faulty_place(Text::Certificate, 0, 0, 0),
+        });
     }
     read_lines(text, events, rows)
 }
@@ -249,15 +226,12 @@ pub fn read_certificate(
 ) -> Result<Texts, Unread>
     ensures { (texts_read result ≡ read_certificate history.now text.now) × (rows.new ≡ rows_read history.now text.now rows.old) }
 {
-    let history = match read_history(history) {
-        Ok(history) => history,
-        Err(refusal) => return Err(Unread::NoHistory(refusal)),
-    };
-    match read_text(text, &history.events[..history.count], rows) {
-        Ok(certificate) => Ok(Texts {
-            history,
-            certificate,
-        }),
-        Err(refusal) => Err(Unread::NoCertificate(history, refusal)),
-    }
+    let history = read_history(history).map_err(|refusal| Unread::NoHistory(refusal))?;
+    let certificate = read_text(text, &history.events[..history.count], rows).map_err(
+        |refusal| Unread::NoCertificate(history, refusal),
+    )?;
+    Ok(Texts {
+        history,
+        certificate,
+    })
 }

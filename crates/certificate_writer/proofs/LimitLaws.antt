@@ -7,7 +7,6 @@ use mathlib.Core.Bool.{Bool, true, ◌&&◌, cond, false≢true}
 use mathlib.Core.List.{List, [], ◌∷◌}
 use lib.ListN.{length, get_or, take, drop}
 use lib.Dec.{eqb, leb}
-use lib.Seq.{length-take-le, get_or-take}
 use borrow.Author.Tests.{leb-true, eqb-true}
 use Rattle.layout.proofs.Cases.{and_left, and_right}
 use Rattle.history.specs.declared.record.History.{History}
@@ -83,15 +82,11 @@ module _ (count k m : ℕ) (c : Certificate) (rows : List (List ℕ)) where
       }
 
   module _ (p : Parts) (i : ℕ) where
-    pub past_short : k ≤ 64 → i < k → (get_or c.pasts i no_list).count ≤ count
-    past_short h l =
-        let few : k ≤ length c.pasts = omega (arith, p.long) in
-        rw (get_or-take k c.pasts i no_list l) at (past_few count (take k c.pasts) i (omega (arith, length-take-le k c.pasts few)) p.pasts)
+    pub past_short : i < length (take k c.pasts) → (get_or (take k c.pasts) i no_list).count ≤ count
+    past_short h = past_few count (take k c.pasts) i h p.pasts
 
-    pub view_short : m ≤ 64 → i < m → get_or c.lengths i 0 ≤ count
-    view_short h l =
-        let few : m ≤ length c.lengths = omega (arith, p.lengths_long) in
-        rw (get_or-take m c.lengths i 0 l) at (view_few count (take m c.lengths) (take m rows) i (omega (arith, length-take-le m c.lengths few)) p.views)
+    pub view_short : i < length (take m c.lengths) → get_or (take m c.lengths) i 0 ≤ count
+    view_short h = view_few count (take m c.lengths) (take m rows) i h p.views
 
 -- ---- the limits are those of so many pasts and views as the history's events say
 module _ (h : History) (c : Certificate) (rows : List (List ℕ)) (all : length (events_in h) ≡ h.count) (v : ViewNumbers)

@@ -1,32 +1,25 @@
 -- The lines of pasts and of views as pieces of a text. Assumes nothing.
-use Prim.Native.Nat.{ℕ, zero, suc, ◌+◌, ◌<◌, ◌≤◌}
+use Prim.Native.Nat.{ℕ, zero, suc, ◌+◌, ◌<◌}
 use native.Mathlib.Nat.{not-suc-le-zero}
 use native.Mathlib.Omega.{arith}
 use mathlib.Core.Path.{◌≡◌, refl, sym, ap, ap₂, ◌∙◌}
+use mathlib.Core.Bool.{Bool, true, false, cond}
 use mathlib.Core.List.{List, [], ◌∷◌, ◌++◌, map, append_assoc}
 use lib.ListN.{length, get_or, take, length-map}
-use lib.Seq.{length-take-le, get_or-take}
 use Rattle.std.proofs.lemmas.List.{get_or-map}
 use Rattle.layout.specs.Number.{spell}
 use Rattle.layout.specs.List.{list_text}
 use Rattle.layout.specs.Pieces.{pieces_from}
+use Rattle.layout.specs.Word.{past_heading, view_heading}
 use Rattle.history.specs.HistoryText.{lines_text}
+use Rattle.history.proofs.LinesLaws.{lines_more, lines_append}
+use Rattle.certificate.specs.declared.record.Criterion.{Criterion}
 use Rattle.certificate.specs.declared.record.EventList.{EventList}
 use Rattle.certificate.specs.Record.{no_list, entries_in, beginnings}
-use Rattle.certificate.specs.Criteria.{count_from}
-use Rattle.certificate.specs.CertificateText.{list_line, list_lines}
+use Rattle.certificate.specs.Criteria.{has_pasts, count_from}
+use Rattle.certificate.specs.CertificateText.{list_line, list_lines, criterion_text, past_part, view_part, text_of}
 use Rattle.certificate.proofs.NumberingLaws.{count_long}
-use Rattle.certificate_writer.specs.Steps.Lines.{line_bytes, past_piece, view_piece}
-
-pub lines_more : (l : List ℕ) (ls : List (List ℕ)) → lines_text (l ∷ ls) ≡ (l ++ 10 ∷ []) ++ lines_text ls
-unfolding lines_text
-lines_more l ls = sym (append_assoc l (10 ∷ []) (lines_text ls))
-
-pub lines_append : (ls ms : List (List ℕ)) → lines_text (ls ++ ms) ≡ lines_text ls ++ lines_text ms
-unfolding lines_text
-lines_append [] ms = refl
-lines_append (l ∷ ls) ms =
-    ap (λ (r : List ℕ). l ++ 10 ∷ r) (lines_append ls ms) ∙ sym (append_assoc l (10 ∷ lines_text ls) (lines_text ms))
+use Rattle.certificate_writer.specs.Steps.Lines.{first_bytes, line_bytes, past_piece, view_piece, past_bytes, view_bytes}
 
 -- ---- a line: the number and its space, and the list and its line feed
 line_is : (own : ℕ) (xs : List ℕ) → line_bytes own xs ≡ list_line own xs ++ 10 ∷ []
@@ -34,7 +27,7 @@ unfolding list_line
 line_is own xs = append_assoc (spell own) (32 ∷ []) (list_text xs ++ 10 ∷ []) ∙ sym (append_assoc (spell own) (32 ∷ list_text xs) (10 ∷ []))
 
 -- ---- pieces that are such lines
-pub pieces_are : (piece : ℕ → List ℕ) (ns : List ℕ) (ls : List (List ℕ)) (k : ℕ) → length ls ≡ length ns
+pieces_are : (piece : ℕ → List ℕ) (ns : List ℕ) (ls : List (List ℕ)) (k : ℕ) → length ls ≡ length ns
     → ((j : ℕ) → j < length ns → piece (k + j) ≡ line_bytes (get_or ns j 0) (get_or ls j []))
     → pieces_from piece k (length ns) ≡ lines_text (list_lines ns ls)
 unfolding pieces_from list_lines lines_text
@@ -55,24 +48,26 @@ count_at k zero j d h = absurd (not-suc-le-zero h)
 count_at k (suc n) zero d h = omega arith
 count_at k (suc n) (suc j) d h = let e = count_at (k + 1) n j d (omega arith) in omega (arith, e)
 
-module _ (pasts : List EventList) (n : ℕ) (few : n ≤ length pasts) where
-  past_at : (j : ℕ) → j < n → past_piece pasts (0 + j) ≡ line_bytes (get_or (count_from 0 n) j 0) (get_or (map entries_in (take n pasts)) j [])
-  past_at j h =
-      let z : 0 + j ≡ j = omega arith in
-      rw (
-        z,
-        count_at 0 n j 0 h,
-        z,
-        get_or-map entries_in (take n pasts) j no_list [] (omega (arith, length-take-le n pasts few)),
-        get_or-take n pasts j no_list h,
-      )
-      refl
+past_at : (pasts : List EventList) (j : ℕ) → j < length pasts
+    → past_piece pasts (0 + j) ≡ line_bytes (get_or (count_from 0 (length pasts)) j 0) (get_or (map entries_in pasts) j [])
+past_at pasts j h =
+    let z : 0 + j ≡ j = omega arith in
+    rw (z, count_at 0 (length pasts) j 0 h, z, get_or-map entries_in pasts j no_list [] h) refl
 
-  pub pasts_are : pieces_from (past_piece pasts) 0 n ≡ lines_text (list_lines (count_from 0 n) (map entries_in (take n pasts)))
-  pasts_are =
-      let long = count_long 0 n in
-      rw long at (pieces_are (past_piece pasts) (count_from 0 n) (map entries_in (take n pasts)) 0
-      (length-map (take n pasts) entries_in ∙ length-take-le n pasts few ∙ sym long) (λ j h. past_at j (omega (arith, long))))
+pasts_are : (pasts : List EventList)
+    → pieces_from (past_piece pasts) 0 (length pasts) ≡ lines_text (list_lines (count_from 0 (length pasts)) (map entries_in pasts))
+pasts_are pasts =
+    let long = count_long 0 (length pasts) in
+    rw long at (pieces_are (past_piece pasts) (count_from 0 (length pasts)) (map entries_in pasts) 0
+    (length-map pasts entries_in ∙ sym long) (λ j h. past_at pasts j (omega (arith, long))))
+
+past_text : (pasts : List EventList)
+    → lines_text (past_part (map entries_in pasts)) ≡ (past_heading ++ 10 ∷ []) ++ pieces_from (past_piece pasts) 0 (length pasts)
+unfolding past_part
+past_text pasts =
+    rw (length-map pasts entries_in)
+    (lines_more past_heading (list_lines (count_from 0 (length pasts)) (map entries_in pasts))
+    ∙ ap (λ (t : List ℕ). (past_heading ++ 10 ∷ []) ++ t) (sym (pasts_are pasts)))
 
 -- a view of so many events of its row
 beginning_at : (ns : List ℕ) (rows : List (List ℕ)) (j : ℕ) → j < length ns → j < length rows
@@ -89,24 +84,32 @@ beginnings_long [] rows e = refl
 beginnings_long (n ∷ ns) [] e = absurd (omega arith)
 beginnings_long (n ∷ ns) (row ∷ rows) e = let k = beginnings_long ns rows (omega arith) in omega (arith, k)
 
-module _ (numbers lengths : List ℕ) (rows : List (List ℕ)) (m : ℕ) (few : m ≤ length numbers) (few' : m ≤ length lengths) (few'' : m ≤ length rows) where
-  view_at : (j : ℕ) → j < m
-      → view_piece numbers lengths rows (0 + j)
-      ≡ line_bytes (get_or (take m numbers) j 0) (get_or (beginnings (take m lengths) (take m rows)) j [])
+module _ (numbers lengths : List ℕ) (rows : List (List ℕ)) (e : length lengths ≡ length numbers) (e' : length rows ≡ length numbers) where
+  view_at : (j : ℕ) → j < length numbers
+      → view_piece numbers lengths rows (0 + j) ≡ line_bytes (get_or numbers j 0) (get_or (beginnings lengths rows) j [])
   view_at j h =
       let z : 0 + j ≡ j = omega arith in
-      rw (
-        z,
-        get_or-take m numbers j 0 h,
-        beginning_at (take m lengths) (take m rows) j (omega (arith, length-take-le m lengths few')) (omega (arith, length-take-le m rows few'')),
-        get_or-take m lengths j 0 h,
-        get_or-take m rows j [] h,
-      )
-      refl
+      rw (z, beginning_at lengths rows j (omega arith) (omega arith)) refl
 
-  pub views_are : pieces_from (view_piece numbers lengths rows) 0 m ≡ lines_text (list_lines (take m numbers) (beginnings (take m lengths) (take m rows)))
-  views_are =
-      let long = length-take-le m numbers few in
-      rw long at (pieces_are (view_piece numbers lengths rows) (take m numbers) (beginnings (take m lengths) (take m rows)) 0
-      (beginnings_long (take m lengths) (take m rows) (length-take-le m lengths few' ∙ sym (length-take-le m rows few''))
-      ∙ length-take-le m lengths few' ∙ sym long) (λ j h. view_at j (omega (arith, long))))
+  view_text : lines_text (view_part numbers (beginnings lengths rows)) ≡ view_bytes numbers lengths rows
+  unfolding view_part
+  view_text =
+      lines_more view_heading (list_lines numbers (beginnings lengths rows))
+      ∙ ap (λ (t : List ℕ). (view_heading ++ 10 ∷ []) ++ t)
+      (sym (pieces_are (view_piece numbers lengths rows) numbers (beginnings lengths rows) 0
+      (beginnings_long lengths rows (e ∙ sym e') ∙ e) (λ j h. view_at j h)))
+
+  -- the whole text
+  parts_text : (pasts : List EventList) (t : Bool)
+      → lines_text (cond t (past_part (map entries_in pasts) ++ view_part numbers (beginnings lengths rows)) (view_part numbers (beginnings lengths rows)))
+      ≡ cond t ((past_heading ++ 10 ∷ []) ++ pieces_from (past_piece pasts) 0 (length pasts)) [] ++ view_bytes numbers lengths rows
+  parts_text pasts true =
+      lines_append (past_part (map entries_in pasts)) (view_part numbers (beginnings lengths rows))
+      ∙ ap₂ (λ (x y : List ℕ). x ++ y) (past_text pasts) view_text
+  parts_text pasts false = view_text
+
+  pub text_is : (c : Criterion) (pasts : List EventList)
+      → text_of c numbers (map entries_in pasts) (beginnings lengths rows) ≡ first_bytes c ++ (past_bytes c pasts ++ view_bytes numbers lengths rows)
+  unfolding text_of criterion_text
+  text_is c pasts =
+      lines_more (criterion_text c) _ ∙ ap (λ (t : List ℕ). first_bytes c ++ t) (parts_text pasts (has_pasts c))

@@ -1,2 +1,3 @@
 -- How the functions do it, a line at a time. Only private functions' contracts and proofs cite these.
 pub mod Lines
+pub mod Text

@@ -1,16 +1,16 @@
 // The limits of a certificate record and its rows, of a history.
-ghost use Rattle.std.specs.Prelude.{◌≡◌, ◌≤◌, ◌&&◌, length, take, drop, eqb, cond};
+ghost use Rattle.std.specs.Prelude.{◌≡◌, ◌≤◌, ◌&&◌, length, take, drop, eqb};
 ghost use Rattle.history.specs.Record.{events_in};
 ghost use Rattle.history.specs.Readable.{all_less, all_zero};
 ghost use Rattle.certificate.specs.Record.{entries_in};
-ghost use Rattle.certificate.specs.Criteria.{has_pasts};
 ghost use Rattle.certificate.specs.Faults.{rising};
 ghost use Rattle.certificate.specs.Readable.{good_row, good_pasts, blank_lists, good_rows, blank_rows, fits};
 ghost use Rattle.certificate_writer.specs.Steps.Lines.{parts_fit};
 
-use certificate::criterion::has_pasts;
+use certificate::criterion::past_count;
+use certificate::list::no_list;
 use certificate::numbers::view_numbers;
-use certificate::record::{Certificate, Criterion, EventList};
+use certificate::record::{Certificate, EventList};
 use history::record::History;
 
 // Whether each event of a row is below the count.
@@ -21,6 +21,7 @@ fn all_less(row: &[u8], count: usize) -> bool
 }
 
 // Whether each place of a row holds 0.
+// Kept: one call of the library's `all`; a generic one, for values too, would put `map T.number` into each caller's clauses.
 fn all_zero(row: &[u8]) -> bool
     ensures { result ≡ all_zero row.now }
 {
@@ -28,6 +29,7 @@ fn all_zero(row: &[u8]) -> bool
 }
 
 // Whether the events of a row are strictly rising.
+// Kept: one call of the library's method; a generic one, for items of u32 too, would put `map T.number` into each caller's clauses.
 fn is_rising(row: &[u8]) -> bool
     ensures { result ≡ rising row.now }
 {
@@ -36,6 +38,7 @@ fn is_rising(row: &[u8]) -> bool
 
 // Whether a row holds a list of n events of a history with so many events.
 // Kept: the whole row, since what stands behind the n is looked at too.
+#[tactic(auto, unfolding(certificate::specs::Readable::good_row))]
 fn good_row(row: &[u8; 64], n: usize, count: usize) -> bool
     requires { count ≤ 64 }
     ensures { (result ≡ good_row count n row.now) × (length row.now ≡ 64) }
@@ -60,17 +63,19 @@ fn good_pasts(pasts: &[EventList], count: usize) -> bool
 }
 
 // Whether a row holds zeros.
+#[tactic(auto, using(history::proofs::ZeroLaws::row_zeros))]
 fn blank_row(row: &[u8; 64]) -> bool
     ensures { result ≡ eqb (length row.now) 64 && all_zero row.now }
 {
-    all_zero(row)
+    *row == [0; 64]
 }
 
 // Whether a list is empty, with zeros in its places.
+#[tactic(auto, using(history::proofs::ZeroLaws::row_zeros))]
 fn blank_list(l: &EventList) -> bool
     ensures { result ≡ eqb l.now.count 0 && eqb (length l.now.events) 64 && all_zero l.now.events }
 {
-    l.count == 0 && blank_row(&l.events)
+    *l == no_list()
 }
 
 // Whether each list is empty.
@@ -100,6 +105,7 @@ fn blank_rows(rows: &[[u8; 64]]) -> bool
 
 // Whether the first k pasts and the first m rows of a record are good, and its other lists and rows blank.
 // Kept: all rows, since what stands behind the m is looked at too.
+#[tactic(auto, unfolding(crate::specs::Steps::Lines::parts_fit))]
 fn parts_fit(c: &Certificate, rows: &[[u8; 64]; 64], k: usize, m: usize, count: usize) -> bool
     requires { (k ≤ 64) × (m ≤ 64) × (count ≤ 64) }
     ensures { result ≡ parts_fit count k m c.now rows.now }
@@ -109,13 +115,6 @@ fn parts_fit(c: &Certificate, rows: &[[u8; 64]; 64], k: usize, m: usize, count: 
         && blank_lists(&c.pasts[k..])
         && all_zero(&c.lengths[m..])
         && blank_rows(&rows[m..])
-}
-
-// How many pasts a certificate of a criterion has, of a history with so many events.
-pub(crate) fn past_count(c: Criterion, count: usize) -> usize
-    ensures { result ≡ cond (has_pasts c) count 0 }
-{
-    if has_pasts(c) { count } else { 0 }
 }
 
 // Whether a record and its rows are within the limits that a history sets.

@@ -8,34 +8,28 @@ use std::io;
 use std::io::Write;
 use verdict_lines::print::print_check;
 
-fn say<W: Write>(out: &mut W, bytes: &[u8]) -> io::Result<()> {
-    out.write_all(bytes)
-}
-
 // The two lines of the verdict.
+#[tactic(auto, using(verdict_lines::proofs::PieceLaws::printed_fits))]
 fn say_verdict<W: Write>(out: &mut W, history: &[u8], certificate: &[u8]) -> io::Result<()> {
     let lines = print_check(history, certificate);
-    let k = lines.length;
-    let bytes = lines.bytes;
-    say(out, &bytes[..k])
+    out.write_all(&lines.bytes[..lines.length])
 }
 
 fn case<'a, W: Write>(
     out: &mut W,
-    name: &[u8],
+    name: &str,
     history: &'a [u8],
     certificate: &'a [u8],
 ) -> io::Result<()> {
-    say(out, name)?;
-    say(out, b"\n")?;
+    writeln!(out, "{name}")?;
     say_verdict(out, history, certificate)?;
-    say(out, b"[")?;
-    say(out, carried_line(history, certificate))?;
-    say(out, b"]\n")
+    write!(out, "[")?;
+    out.write_all(carried_line(history, certificate))?;
+    writeln!(out, "]")
 }
 
-fn long_case<W: Write>(out: &mut W, name: &[u8], certificate: &[u8]) -> io::Result<()> {
-    let history = [48u8; 16385];
+fn long_case<W: Write>(out: &mut W, name: &str, certificate: &[u8]) -> io::Result<()> {
+    let history = [b'0'; 16385];
     case(out, name, &history, certificate)
 }
 
@@ -43,55 +37,55 @@ fn long_case<W: Write>(out: &mut W, name: &[u8], certificate: &[u8]) -> io::Resu
 fn accepted<W: Write>(out: &mut W) -> io::Result<()> {
     case(
         out,
-        b"accepted, sequential",
+        "accepted, sequential",
         b"object kind width\n0 queue -\nevent process object op value answer\n0 0 0 push 7 -\n1 1 0 pop - 7\n",
         b"criterion sequential\nview order\n0 0,1\n",
     )?;
     case(
         out,
-        b"accepted, pram",
+        "accepted, pram",
         b"object kind width\n0 register -\n1 register -\nevent process object op value answer\n0 0 0 write 5 -\n1 1 0 read - 5\n2 1 1 write 6 -\n3 2 1 read - 6\n4 2 0 read - 0\n",
         b"criterion pram\nview order\n0 0,1,2,3,4\n1 0,1,2,3,4\n2 1,2,3,4,0\n",
     )?;
     case(
         out,
-        b"accepted, weak",
+        "accepted, weak",
         b"object kind width\n0 register -\nevent process object op value answer\n0 0 0 write 3 -\n1 1 0 write 8 -\n2 2 0 read - 3\n3 2 0 read - 8\n4 2 0 read - 3\n",
         b"criterion weak\nevent past\n0 -\n1 -\n2 0\n3 0,1,2\n4 0,1,2,3\nview order\n0 0\n1 1\n2 0,2\n3 0,2,1,3\n4 1,0,2,3,4\n",
     )?;
     case(
         out,
-        b"accepted, causal",
+        "accepted, causal",
         b"object kind width\n0 window 2\nevent process object op value answer\n0 0 0 write 4 -\n1 0 0 read - 9,4\n2 1 0 write 9 -\n3 1 0 read - 4,9\n",
         b"criterion causal\nevent past\n0 -\n1 0,2\n2 -\n3 0,2\nview order\n0 0\n1 2,0,1\n2 2\n3 0,2,3\n",
     )?;
     case(
         out,
-        b"accepted, converge",
+        "accepted, converge",
         b"object kind width\n0 window 2\nevent process object op value answer\n0 0 0 write 4 -\n1 1 0 write 9 -\n2 1 0 read - 9\n3 1 0 read - 4,9\n",
         b"criterion converge\nevent past\n0 -\n1 -\n2 1\n3 0,1,2\nview order\n0 0,1,2,3\n",
     )?;
     case(
         out,
-        b"accepted, strict",
+        "accepted, strict",
         b"object kind width\n0 stack -\nevent process object op value answer\n0 0 0 push 1 -\n1 0 0 push 3 -\n2 0 0 pop - 3\n3 1 0 pop - 1\n4 1 0 push 2 -\n5 1 0 pop - 2\n6 2 0 pop - 1\n7 2 0 pop - 2\n",
         b"criterion strict\nevent past\n0 -\n1 0\n2 0,1\n3 0\n4 0,3\n5 0,3,4\n6 0\n7 0,3,4,6\nview order\n0 0,1,2,3,4,5,6,7\n1 0,3,4,5,6,7,1,2\n2 0,6,3,4,7,5,1,2\n",
     )?;
     case(
         out,
-        b"accepted, a full channel",
+        "accepted, a full channel",
         b"object kind width\n0 channel 1\nevent process object op value answer\n0 0 0 push 5 -\n1 1 0 push 6 6\n2 0 0 pop - 5\n",
         b"criterion sequential\nview order\n0 0,1,2\n",
     )?;
     case(
         out,
-        b"accepted, a window that holds nothing",
+        "accepted, a window that holds nothing",
         b"object kind width\n0 window 1\nevent process object op value answer\n0 0 0 read - -\n",
         b"criterion sequential\nview order\n0 0\n",
     )?;
     case(
         out,
-        b"accepted, no events",
+        "accepted, no events",
         b"object kind width\nevent process object op value answer\n",
         b"criterion sequential\nview order\n0 -\n",
     )
@@ -101,30 +95,30 @@ fn accepted<W: Write>(out: &mut W) -> io::Result<()> {
 fn history_refused<W: Write>(out: &mut W) -> io::Result<()> {
     long_case(
         out,
-        b"1, the history is too long",
+        "1, the history is too long",
         b"criterion sequential\nview order\n0 0\n",
     )?;
     case(
         out,
-        b"2, a heading of the history",
+        "2, a heading of the history",
         b"object kind wide\n0 queue -\nevent process object op value answer\n0 0 0 push 7 -\n1 1 0 pop - 7\n",
         b"criterion sequential\nview order\n0 0,1\n",
     )?;
     case(
         out,
-        b"3, width 9",
+        "3, width 9",
         b"object kind width\n0 window 9\nevent process object op value answer\n",
         b"criterion sequential\nview order\n0 -\n",
     )?;
     case(
         out,
-        b"4, an op that the kind lacks",
+        "4, an op that the kind lacks",
         b"object kind width\n0 queue -\nevent process object op value answer\n0 0 0 write 7 -\n1 1 0 pop - 7\n",
         b"criterion sequential\nview order\n0 0,1\n",
     )?;
     case(
         out,
-        b"5, an answer that cannot be",
+        "5, an answer that cannot be",
         b"object kind width\n0 queue -\nevent process object op value answer\n0 0 0 push 7 -\n1 1 0 pop - 7,8\n",
         b"criterion sequential\nview order\n0 0,1\n",
     )
@@ -134,19 +128,19 @@ fn history_refused<W: Write>(out: &mut W) -> io::Result<()> {
 fn certificate_refused<W: Write>(out: &mut W) -> io::Result<()> {
     case(
         out,
-        b"2, an empty certificate",
+        "2, an empty certificate",
         b"object kind width\n0 queue -\nevent process object op value answer\n0 0 0 push 7 -\n1 1 0 pop - 7\n",
         b"",
     )?;
     case(
         out,
-        b"3, an entry that is no event",
+        "3, an entry that is no event",
         b"object kind width\n0 queue -\nevent process object op value answer\n0 0 0 push 7 -\n1 1 0 pop - 7\n",
         b"criterion sequential\nview order\n0 0,2\n",
     )?;
     case(
         out,
-        b"6, a past that falls",
+        "6, a past that falls",
         b"object kind width\n0 window 2\nevent process object op value answer\n0 0 0 write 4 -\n1 0 0 read - 9,4\n2 1 0 write 9 -\n3 1 0 read - 4,9\n",
         b"criterion causal\nevent past\n0 -\n1 2,0\n2 -\n3 0,2\nview order\n0 0\n1 2,0,1\n2 2\n3 0,2,3\n",
     )
@@ -156,19 +150,19 @@ fn certificate_refused<W: Write>(out: &mut W) -> io::Result<()> {
 fn order_faults<W: Write>(out: &mut W) -> io::Result<()> {
     case(
         out,
-        b"11",
+        "11",
         b"object kind width\n0 window 2\nevent process object op value answer\n0 0 0 write 4 -\n1 0 0 read - 9,4\n2 1 0 write 9 -\n3 1 0 read - 4,9\n",
         b"criterion causal\nevent past\n0 -\n1 2\n2 -\n3 0,2\nview order\n0 0\n1 2,0,1\n2 2\n3 0,2,3\n",
     )?;
     case(
         out,
-        b"12",
+        "12",
         b"object kind width\n0 register -\nevent process object op value answer\n0 0 0 write 3 -\n1 1 0 write 8 -\n2 2 0 read - 3\n3 2 0 read - 8\n4 2 0 read - 3\n",
         b"criterion weak\nevent past\n0 -\n1 -\n2 -\n3 0,1,2,3\n4 0,1,2,3\nview order\n0 0\n1 1\n2 2\n3 0\n4 0\n",
     )?;
     case(
         out,
-        b"13",
+        "13",
         b"object kind width\n0 window 2\nevent process object op value answer\n0 0 0 write 4 -\n1 0 0 read - 9,4\n2 1 0 write 9 -\n3 1 0 read - 4,9\n",
         b"criterion weak\nevent past\n0 -\n1 0\n2 1\n3 0,1,2\nview order\n0 0\n1 0,1\n2 0,2\n3 0,1,2,3\n",
     )
@@ -178,37 +172,37 @@ fn order_faults<W: Write>(out: &mut W) -> io::Result<()> {
 fn view_faults<W: Write>(out: &mut W) -> io::Result<()> {
     case(
         out,
-        b"14",
+        "14",
         b"object kind width\n0 queue -\nevent process object op value answer\n0 0 0 push 7 -\n1 1 0 pop - 7\n",
         b"criterion sequential\nview order\n0 0\n",
     )?;
     case(
         out,
-        b"14 before 15, in another view",
+        "14 before 15, in another view",
         b"object kind width\n0 register -\n1 register -\nevent process object op value answer\n0 0 0 write 5 -\n1 1 0 read - 5\n2 1 1 write 6 -\n3 2 1 read - 6\n4 2 0 read - 0\n",
         b"criterion pram\nview order\n0 0,1,2,4,3\n1 0,1,2,3,4\n2 0,0,1,2,3\n",
     )?;
     case(
         out,
-        b"15, the second view",
+        "15, the second view",
         b"object kind width\n0 register -\n1 register -\nevent process object op value answer\n0 0 0 write 5 -\n1 1 0 read - 5\n2 1 1 write 6 -\n3 2 1 read - 6\n4 2 0 read - 0\n",
         b"criterion pram\nview order\n0 0,1,2,3,4\n1 2,1,0,3,4\n2 1,2,3,4,0\n",
     )?;
     case(
         out,
-        b"20",
+        "20",
         b"object kind width\n0 window 2\nevent process object op value answer\n0 0 0 write 4 -\n1 0 0 read - 9,4\n2 1 0 write 9 -\n3 1 0 read - 4,9\n",
         b"criterion strict\nevent past\n0 -\n1 0,2\n2 -\n3 0,2\nview order\n0 2,0,1,3\n1 0,2,3,1\n",
     )?;
     case(
         out,
-        b"15 before 20, in another view",
+        "15 before 20, in another view",
         b"object kind width\n0 window 2\nevent process object op value answer\n0 0 0 write 4 -\n1 0 0 read - 9,4\n2 1 0 write 9 -\n3 1 0 read - 4,9\n",
         b"criterion strict\nevent past\n0 -\n1 0,2\n2 -\n3 0,2\nview order\n0 2,0,1,3\n1 0,3,2,1\n",
     )?;
     case(
         out,
-        b"20 before 16, the second view",
+        "20 before 16, the second view",
         b"object kind width\n0 window 2\nevent process object op value answer\n0 0 0 write 4 -\n1 0 0 read - 9,4\n2 1 0 write 9 -\n3 1 0 read - 4,9\n",
         b"criterion strict\nevent past\n0 -\n1 0,2\n2 -\n3 0,2\nview order\n0 0,2,1,3\n1 0,2,3,1\n",
     )
@@ -218,49 +212,49 @@ fn view_faults<W: Write>(out: &mut W) -> io::Result<()> {
 fn replay_faults<W: Write>(out: &mut W) -> io::Result<()> {
     case(
         out,
-        b"16, view 0, event 1",
+        "16, view 0, event 1",
         b"object kind width\n0 queue -\nevent process object op value answer\n0 0 0 push 7 -\n1 1 0 pop - 7\n",
         b"criterion sequential\nview order\n0 1,0\n",
     )?;
     case(
         out,
-        b"16, the first wrong event of a view",
+        "16, the first wrong event of a view",
         b"object kind width\n0 register -\nevent process object op value answer\n0 0 0 write 3 -\n1 1 0 write 8 -\n2 2 0 read - 3\n3 2 0 read - 8\n4 2 0 read - 3\n",
         b"criterion sequential\nview order\n0 0,1,2,3,4\n",
     )?;
     case(
         out,
-        b"16, the third view",
+        "16, the third view",
         b"object kind width\n0 register -\n1 register -\nevent process object op value answer\n0 0 0 write 5 -\n1 1 0 read - 5\n2 1 1 write 6 -\n3 2 1 read - 6\n4 2 0 read - 0\n",
         b"criterion pram\nview order\n0 0,1,2,3,4\n1 0,1,2,3,4\n2 0,1,2,3,4\n",
     )?;
     case(
         out,
-        b"16, converge, the lowest event",
+        "16, converge, the lowest event",
         b"object kind width\n0 window 2\nevent process object op value answer\n0 0 0 write 4 -\n1 1 0 write 9 -\n2 1 0 read - 4,9\n3 1 0 read - 4,9\n",
         b"criterion converge\nevent past\n0 -\n1 -\n2 1\n3 0,1,2\nview order\n0 0,1,2,3\n",
     )?;
     case(
         out,
-        b"16, a full channel that answers nothing",
+        "16, a full channel that answers nothing",
         b"object kind width\n0 channel 1\nevent process object op value answer\n0 0 0 push 5 -\n1 1 0 push 6 -\n2 0 0 pop - 5\n",
         b"criterion sequential\nview order\n0 0,1,2\n",
     )?;
     case(
         out,
-        b"16, the last slot of a channel",
+        "16, the last slot of a channel",
         b"object kind width\n0 channel 1\nevent process object op value answer\n0 0 0 push 5 5\n1 1 0 push 6 6\n2 0 0 pop - 5\n",
         b"criterion sequential\nview order\n0 0,1,2\n",
     )?;
     case(
         out,
-        b"16, a zero of a window that holds nothing",
+        "16, a zero of a window that holds nothing",
         b"object kind width\n0 window 1\nevent process object op value answer\n0 0 0 read - 0\n",
         b"criterion sequential\nview order\n0 0\n",
     )?;
     case(
         out,
-        b"16, the first values written to a window",
+        "16, the first values written to a window",
         b"object kind width\n0 window 2\nevent process object op value answer\n0 0 0 write 4 -\n1 0 0 write 9 -\n2 0 0 write 7 -\n3 1 0 read - 4,9\n",
         b"criterion sequential\nview order\n0 0,1,2,3\n",
     )

@@ -34,7 +34,7 @@ use Rattle.certificate_reader.specs.ReadCertificate.{CertificateRead, texts_read
 use Rattle.certificate_reader.proofs.TwoTextLaws.{PlacedIn, placed-two}
 use Rattle.certificate_theorems.proofs.Theorems.{no-fault-history, read_as, read_fits}
 use Rattle.certificate_theorems.proofs.Places.{Small, small-two}
-use Rattle.criteria.specs.Check.{Fault, answer_of, check}
+use Rattle.criteria.specs.Check.{answer_of, check}
 use Rattle.criteria.specs.History.{size}
 use Rattle.criteria.specs.Records.{history_of, certificate_of}
 use Rattle.criteria.proofs.RecordLaws.{size_is}
@@ -112,6 +112,7 @@ module _ (history text : List ℕ) (r : CertificateRead) (read : r ≡ read_cert
         ap (λ (h : History). F h r.certificate rows) history-is
         ∙ ap₂ (λ (x : CertificateRead) (l : List (List ℕ)). F (read_history history).history x.certificate l) read rows-read
 
+    -- both texts are read
     pub checked-read : found_in history r.history.declared r.certificate.criterion
         (check (history_of r.history) (certificate_of r.history r.certificate rows))
         ≡ check_text history text
@@ -119,15 +120,6 @@ module _ (history text : List ℕ) (r : CertificateRead) (read : r ≡ read_cert
     checked-read =
         of-texts (λ (h : History) (c : Certificate) (l : List (List ℕ)). found_in history h.declared c.criterion (check (history_of h) (certificate_of h c l)))
         ∙ sym (checked-as history text no-fault)
-
-    -- both texts are read
-    pub found-answer : (x : Option Fault) → x ≡ check (history_of r.history) (certificate_of r.history r.certificate rows)
-        → found_in history r.history.declared r.certificate.criterion x ≡ check_text history text
-    found-answer x q = ap (found_in history r.history.declared r.certificate.criterion) q ∙ checked-read
-
-    -- few objects were read
-    pub few-objects : r.history.declared ≤ 16
-    few-objects = rw history-is (few-declared history)
 
 -- ---- where the line of a verdict lies
 placed-found : (history text : List ℕ) (declared : ℕ) (x : Option ℕ) → PlacedIn history text (place_of history declared x)

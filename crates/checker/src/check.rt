@@ -1,5 +1,10 @@
 // The check of two texts: the history's reading refusals, then the certificate's, then 11 to 16 with 20 after 15, then 0.
-ghost use Rattle.std.specs.Prelude.{◌≡◌, ◌≤◌};
+ghost use Rattle.std.specs.Prelude.{◌≡◌, ◌≤◌, true};
+ghost use Rattle.history.specs.Record.{events_in};
+ghost use Rattle.history.specs.Readable.{within};
+ghost use Rattle.certificate.specs.Readable.{fits};
+ghost use Rattle.criteria.specs.Check.{check};
+ghost use Rattle.criteria.specs.Records.{history_of, certificate_of};
 ghost use Rattle.checker.specs.CheckText.{found_in, check_text, carried_line};
 ghost use Rattle.faults.specs.Finding.{found_of};
 ghost use Rattle.checker.specs.Verdict.{checked_as, verdict_of};
@@ -7,7 +12,7 @@ ghost use Rattle.checker.specs.Verdict.{checked_as, verdict_of};
 use crate::answer::place_in;
 use crate::place::place_of;
 use certificate::record::Criterion;
-use certificate_reader::read::read_certificate;
+use certificate_reader::read::{Texts, read_certificate};
 use faults::check::check_records;
 use faults::finding::Finding;
 use history_reader::place::{Place, Text};
@@ -39,19 +44,28 @@ pub fn found(
     }
 }
 
+// What the check says of the records of two texts. It is no part of its caller, whose stack the readers would share with it.
+#[inline(never)]
+fn checked_texts(history: &[u8], read: &Texts, rows: &[[u8; 64]; 64]) -> Checked
+    requires { (within read.now.history ≡ true) × (fits (events_in read.now.history) read.now.certificate rows.now ≡ true) }
+    ensures { checked_as result ≡ found_in history.now read.now.history.declared read.now.certificate.criterion (check (history_of read.now.history) (certificate_of read.now.history read.now.certificate rows.now)) }
+{
+    let finding = check_records(read.history, read.certificate, rows).err();
+    found(
+        history,
+        read.history.declared,
+        read.certificate.criterion,
+        finding,
+    )
+}
+
 // Checks a certificate text for a history text.
 pub fn check(history: &[u8], text: &[u8]) -> Result<Checked, Refusal>
     ensures { verdict_of result ≡ check_text history.now text.now }
 {
     let mut rows = [[0u8; 64]; 64];
     let read = read_certificate(history, text, &mut rows)?;
-    let finding = check_records(read.history, read.certificate, &rows).err();
-    Ok(found(
-        history,
-        read.history.declared,
-        read.certificate.criterion,
-        finding,
-    ))
+    Ok(checked_texts(history, &read, &rows))
 }
 
 // The line that the answer of the check carries, as part of whichever text it is in and without its line feed: the faulty line of a

@@ -1,4 +1,4 @@
 pub mod LineRound
 pub mod EventRound
-pub mod NextLaws
 pub mod QuickLaws
+pub mod NextLaws

@@ -1,44 +1,59 @@
--- Laws of the next line of an event in a text. Assumes nothing.
-use Prim.Native.Nat.{ℕ, ◌+◌, ◌-◌, ◌≤◌, ◌<◌}
+-- Laws of the line that a text begins with. Assumes nothing.
+use Prim.Native.Nat.{ℕ, ◌+◌, ◌≤◌, ◌<◌}
 use native.Mathlib.Omega.{arith}
-use mathlib.Core.Path.{◌≡◌, refl, sym, ap, ◌∙◌}
-use mathlib.Core.List.{List}
-use lib.ListN.{length, take, drop, length-drop}
+use mathlib.Core.Path.{◌≡◌, sym, ap, ◌∙◌}
+use mathlib.Core.List.{List, ◌∷◌}
+use lib.ListN.{length, take, length-append}
+use lib.Seq.{take_at}
 use borrow.Author.Tests.{lt-ltb, le-ltb}
-use Rattle.std.proofs.Common.{Result}
+use Rattle.std.proofs.Common.{Bor}
+use Rattle.std.specs.Prelude.{Option, Some, None, MatchOption, IfSome, Ok, Err}
 use Rattle.layout.specs.Split.{find}
 use Rattle.layout.proofs.Cases.{by-lt}
-use Rattle.layout.proofs.SplitLaws.{find-le}
+use Rattle.layout.proofs.SplitLaws.{find-append, find-le}
 use Rattle.history.specs.declared.record.Object.{Object}
 use Rattle.history.specs.declared.record.Event.{Event}
-use Rattle.history.specs.declared.fault.Fault.{Fault}
-use Rattle.history.specs.Record.{no_event}
-use Rattle.history.specs.Faults.{event_read, event_line}
-use Rattle.event_reader.specs.Steps.Next.{NextEvent, ending_at, next_read}
+use Rattle.history.specs.declared.fault.Fault.TheVariants.{Layout}
+use Rattle.history.specs.declared.next.Next.{Next}
+use Rattle.history.specs.Faults.{faulty_event, event_read, event_line}
+use Rattle.history.specs.HistoryText.{event_text}
+use Rattle.event_reader.specs.Steps.Next.{next_read, EventFirst}
+use Rattle.event_reader.proofs.EventRound.{event-written, event-clean}
 
--- ---- what the line is, by its end e
-module _ (own : ℕ) (os : List Object) (s : List ℕ) (from e : ℕ) (found : e ≡ from + find 10 (drop from s)) (start : from ≤ length s) where
-  pub next-cut : length s ≤ e → next_read own os from (drop from s) ≡ record { fault = 2; end = e; event = no_event }
+module _ (own : ℕ) (os : List Object) (text : List ℕ) where
+  -- without a line feed, and with one
+  pub next-cut : length text ≤ find 10 text → next_read own os text ≡ faulty_event 2
   unfolding next_read
-  next-cut h =
-      rw (le-ltb (find 10 (drop from s)) (length (drop from s)) (omega (arith, length-drop from s)), sym found)
+  next-cut h = rw (le-ltb (find 10 text) (length text) h)
 
-  pub next-line : e < length s → next_read own os from (drop from s) ≡ ending_at e (event_line own os (take (e - from) (drop from s)))
+  pub next-line : find 10 text < length text → next_read own os text ≡ event_line own os (take (find 10 text) text)
   unfolding next_read
-  next-line h =
-      let k : find 10 (drop from s) ≡ e - from = omega arith in
-      let m : from + (e - from) ≡ e = omega arith in
-      rw (lt-ltb (find 10 (drop from s)) (length (drop from s)) (omega (arith, length-drop from s)), k, m)
+  next-line h = rw (lt-ltb (find 10 text) (length text) h)
 
--- where it ends
-pub next_place : (own : ℕ) (os : List Object) (s : List ℕ) (from : ℕ) → from ≤ length s → (end : ℕ) (l : Result Event Fault)
-    → ending_at end (event_read l) ≡ next_read own os from (drop from s)
-    → (ending_at end (event_read l) ≡ next_read own os from (drop from s)) × (end ≡ from + find 10 (drop from s)) × (from ≤ end) × (end ≤ length s)
-next_place own os s from start end l q =
-    let e : ℕ = from + find 10 (drop from s) in
-    let k : end ≡ e =
-    ap (λ (x : NextEvent). x.end) q
-    ∙ by-lt e (length s)
-    (λ h. ap (λ (x : NextEvent). x.end) (next-line own os s from e refl start h))
-    (λ h. ap (λ (x : NextEvent). x.end) (next-cut own os s from e refl start h)) in
-    (q, k, omega arith, omega (arith, find-le 10 (drop from s), length-drop from s))
+  -- the line of a good event
+  module _ (e : Event) (rest : List ℕ) (first : EventFirst own os text e rest) where
+    pub first-ends : find 10 text ≡ length (event_text own e)
+    first-ends = ap (find 10) first.spelt ∙ find-append 10 (event_text own e) rest (event-clean own e)
+
+    pub first-long : find 10 text + 1 + length rest ≡ length text
+    first-long = omega (arith, first-ends, ap length first.spelt, length-append (event_text own e) (10 ∷ rest))
+
+    pub first-read : next_read own os text ≡ record { fault = 0; event = e }
+    first-read =
+        next-line (omega (arith, first-long))
+        ∙ ap (event_line own os) (ap (take (find 10 text)) first.spelt ∙ take_at (event_text own e) (10 ∷ rest) (find 10 text) (sym first-ends))
+        ∙ event-written own os e first.numbered first.good
+
+  -- what the line is, in one pass or cut and read
+  pub next_is : (q : Option (Event × Bor (List ℕ))) (n : Next Event) → IfSome q (λ r. EventFirst own os text r.0 r.1.now)
+      → MatchOption q
+      ((n.length ≡ find 10 text) × (find 10 text < length text → event_read n.read ≡ event_line own os (take (find 10 text) text)) × (length text ≤ find 10 text → n.read ≡ Err Layout))
+      (λ r. (n.length + 1 + length r.1.now ≡ length text) × (n.read ≡ Ok r.0))
+      → (event_read n.read ≡ next_read own os text) × (n.length ≡ find 10 text) × (n.length ≤ length text)
+  next_is None n first m = (
+    by-lt (find 10 text) (length text) (λ h. m.1 h ∙ sym (next-line h)) (λ h. ap event_read (m.2 h) ∙ sym (next-cut h)),
+    m.0,
+    omega (arith, m.0, find-le 10 text),
+  )
+  next_is (Some (e, rest)) n first m =
+      (ap event_read m.1 ∙ sym (first-read e rest.now first), omega (arith, m.0, first-long e rest.now first), omega (arith, m.0))

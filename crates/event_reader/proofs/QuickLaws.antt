@@ -1,137 +1,112 @@
 -- Laws of the quick way to read an event's line. Assumes nothing.
-use Prim.Native.Nat.{ℕ, ◌+◌, ◌≤◌, ◌<◌}
+use Prim.Native.Nat.{ℕ, ◌+◌, ◌<◌}
 use native.Mathlib.Omega.{arith}
-use mathlib.Core.Path.{◌≡◌, refl, sym, ap, ap₂, ◌∙◌, subst}
-use mathlib.Core.Bool.{Bool, true, false, cond}
+use mathlib.Core.Path.{◌≡◌, sym, ap, ap₂, ◌∙◌}
+use mathlib.Core.Bool.{true, false, cond}
 use mathlib.Core.List.{List, [], ◌∷◌, ◌++◌, append_assoc}
-use lib.ListN.{length, get_or, take, drop, set, length-append}
-use lib.Seq.{take_at}
-use lib.Dec.{eqb, ltb}
+use lib.ListN.{length, get_or, take, drop, set}
+use lib.Dec.{eqb}
+use lib.Pointwise.{pointwise}
 use borrow.Author.Tests.{lt-ltb}
-use Rattle.layout.specs.declared.at.At.{At}
+use Rattle.std.specs.Prelude.{Option, Some, None}
+use Rattle.std.proofs.Common.{Bor}
+use Rattle.std.proofs.lemmas.Bool.Decides.{Decides-eqb}
+use Rattle.std.proofs.lemmas.Slice.Eq.{strip_prefix_is}
+use Rattle.layout.specs.Split.{join}
 use Rattle.layout.specs.Word.{dash}
 use Rattle.layout.specs.Number.{spell}
 use Rattle.layout.specs.List.{list_text}
-use Rattle.layout.specs.Fields.{pieces_text}
-use Rattle.layout.specs.Steps.Stands.{Stands}
-use Rattle.layout.proofs.SplitLaws.{find-append}
-use Rattle.layout.proofs.LineLaws.{pieces-join}
-use Rattle.layout.proofs.StandsLaws.{byte-stands, stands-then, stands-end}
+use Rattle.layout.proofs.Cases.{by_bool}
 use Rattle.history.specs.declared.record.Op.{Op}
 use Rattle.history.specs.declared.record.Object.{Object}
-use Rattle.history.specs.declared.record.Event.{Event}
 use Rattle.history.specs.declared.record.Answer.{Answer}
 use Rattle.history.specs.Record.{value_bound, no_object, no_answer, lost_answer, answer_of}
-use Rattle.history.specs.Kinds.{op_word, has_op, takes_value, can_answer, may_answer}
+use Rattle.history.specs.Kinds.{op_word, is_op, op_of, has_op, takes_value, can_answer, may_answer}
 use Rattle.history.specs.HistoryText.{answer_text, event_text}
 use Rattle.history.specs.Readable.{all_less, all_zero, good_answer, good_value, good_event}
-use Rattle.history.proofs.ListingLaws.{Listing, more-small, listing-filled, listing-count, listing-ends}
-use Rattle.event_reader.specs.Steps.Next.{NextEvent, next_read, AnswerFrom}
-use Rattle.event_reader.proofs.EventRound.{event-written, event-clean, made-good, made-lost}
+use Rattle.history.proofs.ListedLaws.{Listed, listed-small, listed-filled, listed-count, listed-ends}
+use Rattle.event_reader.specs.Steps.Next.{AnswerFirst, EventFirst}
+use Rattle.event_reader.proofs.EventRound.{word-op, made-good, made-lost}
 
--- a field and its space before other fields of a line
-pub field-stands : (f g : List ℕ) (fs : List (List ℕ)) {s : List ℕ} {a b c : ℕ} → Stands (f ++ 32 ∷ []) a b s → Stands (pieces_text (g ∷ fs)) b c s
-    → Stands (pieces_text (f ∷ g ∷ fs)) a c s
-unfolding pieces_text
-field-stands f g fs {s} {a} {b} {c} p q =
-    subst (λ (l : List ℕ). Stands l a c s) (append_assoc f (32 ∷ []) (pieces_text (g ∷ fs))) (stands-then p q)
+-- the op of a word that was read
+pub op_read : (word : List ℕ) (op : Op) → Some op ≡ cond (is_op word) (Some (op_of word)) None → op_word op ≡ word
+op_read word op e =
+    by_bool (is_op word)
+    (λ t. let p : Some op ≡ Some (op_of word) = rw t at e in let q : op ≡ op_of word = cc in ap op_word q ∙ word-op word t)
+    (λ t. let p : ◌≡◌ {A = Option Op} (Some op) None = rw t at e in absurd (cc))
 
--- the last field and its line feed
-last-stands : (f : List ℕ) {s : List ℕ} {a b : ℕ} → Stands (f ++ 10 ∷ []) a b s → Stands (pieces_text (f ∷ [])) a b s
-unfolding pieces_text
-last-stands f p = p
+-- a field and its space before other fields
+field-first : (f g : List ℕ) (fs : List (List ℕ)) {text rest : List ℕ} (behind : List ℕ) → text ≡ f ++ 32 ∷ rest → rest ≡ join 32 (g ∷ fs) ++ behind
+    → text ≡ join 32 (f ∷ g ∷ fs) ++ behind
+unfolding join
+field-first f g fs behind p q =
+    p ∙ ap (λ (l : List ℕ). f ++ 32 ∷ l) q ∙ sym (append_assoc f (32 ∷ join 32 (g ∷ fs)) behind)
+
+-- the last field
+field-last : (f : List ℕ) {text : List ℕ} (behind : List ℕ) → text ≡ f ++ behind → text ≡ join 32 (f ∷ []) ++ behind
+unfolding join
+field-last f behind p = p
 
 -- the last of some values, with a line feed behind it
-pub values-end : {from k a : ℕ} {s xs : List ℕ} → Listing 8 value_bound from s xs k a → k < 8 → (v e : ℕ) → Stands (spell v) a e s → v < value_bound
-    → e < length s → get_or s e 0 ≡ 10
-    → AnswerFrom from s (record { value = record { lost = false; count = k + 1; values = set xs k v }; end = e })
+pub values-end : {k : ℕ} {text xs rest : List ℕ} → Listed 8 value_bound text xs k rest → k < 8 → (v : ℕ) (behind after : List ℕ) → rest ≡ spell v ++ behind
+    → v < value_bound → behind ≡ 10 ∷ after → AnswerFirst text (record { lost = false; count = k + 1; values = set xs k v }) after
 unfolding answer_of answer_text
-values-end {from} {k} {a} {s} {xs} r room v e number below to c =
+values-end {k} {text} {xs} {rest} r room v behind after number below c =
     let ys : List ℕ = take (k + 1) (set xs k v) in
-    let n : length ys ≡ k + 1 = listing-count r room v e number below in
+    let n : length ys ≡ k + 1 = listed-count r room v behind number below in
     let told : ◌≡◌ {A = Answer} (record { lost = false; count = k + 1; values = set xs k v }) (answer_of ys) =
-    ap₂ {C = Answer} (λ (j : ℕ) (vs : List ℕ). record { lost = false; count = j; values = vs }) (sym n) (listing-filled r room v e number below).pads in
+    ap₂ {C = Answer} (λ (j : ℕ) (vs : List ℕ). record { lost = false; count = j; values = vs }) (sym n) (listed-filled r room v behind number below).pads in
     record {
       good = λ object op can.
           ap (good_answer object op) told
-          ∙ made-good object op ys (omega arith) (ap (can_answer object op) n ∙ can) (more-small r room v e number below);
-      spelt = stands-then (listing-ends r room v e number below) (byte-stands s e 10 to c);
+          ∙ made-good object op ys (omega arith) (ap (can_answer object op) n ∙ can) (listed-small r room v behind number below);
+      spelt = listed-ends r room v behind number below ∙ ap (λ (l : List ℕ). list_text ys ++ l) c;
     }
+
+-- a text that begins with the two bytes of an answer and its line feed, as `strip_prefix` tells it
+abbrev Begins : (text word rest : List ℕ) → Type 0
+Begins text word rest =
+    (pointwise eqb (take (length word) text) word ≡ true) × (rest ≡ drop (length word) text) × (length rest + length word ≡ length text)
 
 -- `-` and a line feed
-pub none_end : (from : ℕ) (s : List ℕ) (a : Answer) → a ≡ no_answer → Stands (45 ∷ 10 ∷ []) from (from + 2) s
-    → AnswerFrom from s (record { value = a; end = from + 1 })
+pub none_first : (text : List ℕ) (rest : Bor (List ℕ)) (a : Answer) → a ≡ no_answer → Begins text (45 ∷ 10 ∷ []) rest.now → AnswerFirst text a rest.now
 unfolding answer_text list_text good_answer all_less all_zero
-none_end from s a q p =
-    let k : from + 2 ≡ from + 1 + 1 = omega arith in
-    record {
-      good = λ object op can.
-          ap (good_answer object op) q ∙ rw (sym (ap (may_answer object op) q) ∙ can);
-      spelt = rw q (subst (λ (e : ℕ). Stands (45 ∷ 10 ∷ []) from e s) k p);
-    }
+none_first text rest a q m = record {
+  good = λ object op can. ap (good_answer object op) q ∙ rw (sym (ap (may_answer object op) q) ∙ can);
+  spelt = rw q (strip_prefix_is Decides-eqb text (45 ∷ 10 ∷ []) (Some rest) m);
+}
 
 -- `?` and a line feed
-pub lost-end : (from : ℕ) (s : List ℕ) (a : Answer) → a ≡ lost_answer → Stands (63 ∷ 10 ∷ []) from (from + 2) s
-    → AnswerFrom from s (record { value = a; end = from + 1 })
+pub lost_first : (text : List ℕ) (rest : Bor (List ℕ)) (a : Answer) → a ≡ lost_answer → Begins text (63 ∷ 10 ∷ []) rest.now → AnswerFirst text a rest.now
 unfolding answer_text
-lost-end from s a q p =
-    let k : from + 2 ≡ from + 1 + 1 = omega arith in
-    record {
-      good = λ object op can. ap (good_answer object op) q ∙ made-lost object op;
-      spelt = rw q (subst (λ (e : ℕ). Stands (63 ∷ 10 ∷ []) from e s) k p);
-    }
+lost_first text rest a q m = record {
+  good = λ object op can. ap (good_answer object op) q ∙ made-lost object op;
+  spelt = rw q (strip_prefix_is Decides-eqb text (63 ∷ 10 ∷ []) (Some rest) m);
+}
 
 -- an event of fields that are in order is good
-pub made-event : (os : List Object) (process object : ℕ) (op : Op) (value : ℕ) (a : Answer) → process < 8 → object < length os
-    → has_op (get_or os object no_object).kind op ≡ true → cond (takes_value op) (ltb value value_bound) (eqb value 0) ≡ true
+made-event : (os : List Object) (process object : ℕ) (op : Op) (value : ℕ) (a : Answer) → process < 8 → object < length os
+    → has_op (get_or os object no_object).kind op ≡ true → good_value op value ≡ true
     → good_answer (get_or os object no_object) op a ≡ true
     → good_event os (record { process = record { 0 = process }; object = object; op = op; value = value; answer = a }) ≡ true
-unfolding good_event good_value
+unfolding good_event
 made-event os process object op value a p o has given good =
     rw (lt-ltb process 8 p, lt-ltb object (length os) o, has, given) good
 
--- the line of a good event
-pub line-quick : (own : ℕ) (os : List Object) (e : Event) (from end : ℕ) (s : List ℕ) → own < 64 → good_event os e ≡ true → from ≤ length s
-    → Stands (event_text own e ++ 10 ∷ []) from (end + 1) s
-    → ◌≡◌ {A = NextEvent} (record { fault = 0; end = end; event = e }) (next_read own os from (drop from s))
-unfolding next_read
-line-quick own os e from end s numbered good start line =
-    let t : List ℕ = event_text own e in
-    let rest : List ℕ = drop (end + 1) s in
-    let d : drop from s ≡ t ++ 10 ∷ rest = line.whole ∙ append_assoc t (10 ∷ []) rest in
-    let z : from + length t ≡ end = omega (arith, stands-end start line, length-append t (10 ∷ [])) in
-    rw (
-      d,
-      find-append 10 t rest (event-clean own e),
-      lt-ltb (length t) (length (t ++ 10 ∷ rest)) (omega (arith, length-append t (10 ∷ rest))),
-      take_at t (10 ∷ rest) (length t) refl,
-      event-written own os e numbered good,
-      z,
-    )
-
--- six fields that are in order, each at its place
-pub fields-quick : (own : ℕ) (os : List Object) (number process object : ℕ) (op : Op) (wanted : Bool) (value : ℕ) (r : At Answer) (s : List ℕ)
-    {from second third fourth fifth last : ℕ} → from ≤ length s → number ≡ own → number < 64
-    → Stands (spell number ++ 32 ∷ []) from second s → process < 8 → Stands (spell process ++ 32 ∷ []) second third s
-    → object < length os → Stands (spell object ++ 32 ∷ []) third fourth s
-    → has_op (get_or os object no_object).kind op ≡ true → Stands (op_word op ++ 32 ∷ []) fourth fifth s → wanted ≡ takes_value op
-    → (cond wanted (ltb value value_bound) (eqb value 0) ≡ true) × Stands (cond wanted (spell value) dash ++ 32 ∷ []) fifth last s
-    → AnswerFrom last s r → may_answer (get_or os object no_object) op r.value ≡ true
-    → ◌≡◌ {A = NextEvent}
-    (record { fault = 0; end = r.end; event = record { process = record { 0 = process }; object = object; op = op; value = value; answer = r.value } })
-    (next_read own os from (drop from s))
+-- six fields that are in order, one behind the other
+pub fields_first : (own : ℕ) (os : List Object) (number process object : ℕ) (op : Op) (value : ℕ) (a : Answer)
+    {text r₁ r₂ r₃ r₄ r₅ rest : List ℕ} → number ≡ own → (text ≡ spell number ++ 32 ∷ r₁) × (number < 64)
+    → (r₁ ≡ spell process ++ 32 ∷ r₂) × (process < 8) → (r₂ ≡ spell object ++ 32 ∷ r₃) × (object < length os)
+    → has_op (get_or os object no_object).kind op ≡ true → r₃ ≡ op_word op ++ 32 ∷ r₄
+    → (good_value op value ≡ true) × (r₄ ≡ cond (takes_value op) (spell value) dash ++ 32 ∷ r₅)
+    → AnswerFirst r₅ a rest → may_answer (get_or os object no_object) op a ≡ true
+    → EventFirst own os text (record { process = record { 0 = process }; object = object; op = op; value = value; answer = a }) rest
 unfolding event_text
-fields-quick own os number process object op wanted value r s {from} {second} {third} {fourth} {fifth} {last} start same n₁ f₁ n₂ f₂ n₃ f₃ has f₄ takes given a can =
-    let v : List ℕ = cond (takes_value op) (spell value) dash in
-    let fs : List (List ℕ) = spell process ∷ spell object ∷ op_word op ∷ v ∷ answer_text r.value ∷ [] in
-    let e : Event = record { process = record { 0 = process }; object = object; op = op; value = value; answer = r.value } in
-    let told : (cond (takes_value op) (ltb value value_bound) (eqb value 0) ≡ true) × Stands (v ++ 32 ∷ []) fifth last s =
-    subst (λ (t : Bool). (cond t (ltb value value_bound) (eqb value 0) ≡ true) × Stands (cond t (spell value) dash ++ 32 ∷ []) fifth last s) takes given in
-    let line : Stands (pieces_text (spell own ∷ fs)) from (r.end + 1) s =
-    field-stands (spell own) _ _ (subst (λ (n : ℕ). Stands (spell n ++ 32 ∷ []) from second s) same f₁)
-    (field-stands (spell process) _ _ f₂
-    (field-stands (spell object) _ _ f₃ (field-stands (op_word op) _ _ f₄ (field-stands v _ _ told.1 (last-stands (answer_text r.value) a.spelt))))) in
-    let t : pieces_text (spell own ∷ fs) ≡ event_text own e ++ 10 ∷ [] =
-    pieces-join (spell own) fs in
-    let g : good_event os e ≡ true = made-event os process object op value r.value n₂ n₃ has told.0 (a.good (get_or os object no_object) op can) in
-    line-quick own os e from r.end s (omega arith) g start (subst (λ (l : List ℕ). Stands l from (r.end + 1) s) t line)
+fields_first own os number process object op value a same f₁ f₂ f₃ has f₄ f₅ f₆ can =
+    record {
+      numbered = omega (arith, f₁.1);
+      good = made-event os process object op value a f₂.1 f₃.1 has f₅.0 (f₆.good (get_or os object no_object) op can);
+      spelt =
+          field-first _ _ _ _ (rw same at f₁.0)
+          (field-first _ _ _ _ f₂.0 (field-first _ _ _ _ f₃.0 (field-first _ _ _ _ f₄ (field-first _ _ _ _ f₅.1 (field-last _ _ f₆.spelt)))));
+    }

@@ -1,201 +1,129 @@
-// The next line of an event in a text.
-ghost use Rattle.std.specs.Prelude.{◌≡◌, ◌+◌, ◌≤◌, ◌<◌, true, cond, [], ◌∷◌, ◌++◌, length, drop, eqb, ltb, IfSome};
+// The line of an event that a text begins with.
+ghost use Rattle.std.specs.Prelude.{◌≡◌, ◌≤◌, true, cond, ◌∷◌, ◌++◌, length, IfSome};
 ghost use Rattle.layout.specs.Split.{find};
 ghost use Rattle.layout.specs.Word.{dash};
 ghost use Rattle.layout.specs.Number.{spell};
-ghost use Rattle.layout.specs.Steps.Stands.{Stands};
-ghost use Rattle.history.specs.Record.{value_bound};
-ghost use Rattle.history.specs.Kinds.{op_word};
-ghost use Rattle.event_reader.specs.Steps.Next.{next_event_of, next_read, AnswerFrom};
+ghost use Rattle.history.specs.Faults.{event_read};
+ghost use Rattle.history.specs.Kinds.{op_word, takes_value};
+ghost use Rattle.history.specs.Readable.{good_value};
+ghost use Rattle.event_reader.specs.Steps.Next.{next_read, AnswerFirst, EventFirst};
 
 use history::answer::{lost_answer, no_answer};
 use history::event::read_event;
-use history::fault::Fault;
+use history::next::{Next, next_line};
 use history::record::{Answer, Event, Object, Op, ProcessNo, VALUES, Value};
-use history::word::{has_op, may_answer, takes_value};
-use layout::at::At;
-use layout::number::{number_at, spaced_number};
-use layout::split::find_from;
-use layout::word::stands_at;
+use history::word::{has_op, may_answer, read_op, takes_value};
+use layout::number::{leading_number, number_before_space};
+use layout::split::split_once;
 
-// Where the line ends, with its event or its first fault.
-#[derive(Clone, Copy)]
-pub struct NextEvent {
-    pub end: usize,
-    pub event: Result<Event, Fault>,
-}
+// The quick way goes over a line once, a field after the other. Each of its steps tells what the text begins with and what stands
+// behind it, or nothing where it does not know; the line is then read the general way, which also says which fault it has.
 
-// The quick way goes over a line once, a field after the other. Each of its steps tells what stands at a place and where that
-// ends, or nothing where it does not know; the line is then read the general way, which also says which fault it has.
-
-// The op whose word stands at a place with a space behind it, and the place behind the space.
-fn op_at(text: &[u8], from: usize) -> Option<At<Op>>
-    requires { from ≤ length text.now }
-    ensures { IfSome result (λ r. Stands (op_word r.value ++ 32 ∷ []) from r.end text.now) }
+// The op whose word a text begins with, with a space behind it, and what stands behind the space.
+fn leading_op(text: &[u8]) -> Option<(Op, &[u8])>
+    ensures { IfSome result (λ r. text.now ≡ op_word r.0 ++ 32 ∷ r.1.now) }
 {
-    if stands_at(text, from, b"write ") {
-        Some(At {
-            value: Op::Write,
-            end: from + 6,
-        })
-    } else if stands_at(text, from, b"read ") {
-        Some(At {
-            value: Op::Read,
-            end: from + 5,
-        })
-    } else if stands_at(text, from, b"push ") {
-        Some(At {
-            value: Op::Push,
-            end: from + 5,
-        })
-    } else if stands_at(text, from, b"pop ") {
-        Some(At {
-            value: Op::Pop,
-            end: from + 4,
-        })
-    } else if stands_at(text, from, b"peek ") {
-        Some(At {
-            value: Op::Peek,
-            end: from + 5,
-        })
-    } else {
-        None
-    }
+    let (word, rest) = split_once(text, b' ')?;
+    Some((read_op(word)?, rest))
 }
 
-// The value that stands at a place with a space behind it: a number where one is wanted, and else `-`; and the place behind the space.
-fn value_at(text: &[u8], from: usize, wanted: bool) -> Option<At<Value>>
-    requires { from ≤ length text.now }
-    ensures { IfSome result (λ r. (cond wanted (ltb r.value value_bound) (eqb r.value 0) ≡ true) × Stands (cond wanted (spell r.value) dash ++ 32 ∷ []) from r.end text.now) }
+// The value that a text begins with, with a space behind it: a number where the op takes one, and else `-`; and what stands behind
+// the space.
+fn leading_value(text: &[u8], op: Op) -> Option<(Value, &[u8])>
+    ensures { IfSome result (λ r. (good_value op r.0 ≡ true) × (text.now ≡ cond (takes_value op) (spell r.0) dash ++ 32 ∷ r.1.now)) }
 {
-    if wanted {
-        let number = spaced_number(text, from, VALUES)?;
-        return Some(At {
-            value: number.value as Value,
-            end: number.end,
-        });
+    if takes_value(op) {
+        let (number, rest) = number_before_space(text, VALUES)?;
+        return Some((number as Value, rest));
     }
-    if stands_at(text, from, b"- ") {
-        return Some(At {
-            value: 0,
-            end: from + 2,
-        });
-    }
-    None
+    let rest = text.strip_prefix(b"- ")?;
+    Some((0, rest))
 }
 
-// The answer that stands at a place as `?`, and the place of its line feed.
-fn lost_at(text: &[u8], from: usize) -> Option<At<Answer>>
-    requires { from ≤ length text.now }
-    ensures { IfSome result (λ r. AnswerFrom from text.now r) }
+// The answer that a text begins with as `?`, with a line feed behind it, and what stands behind the line feed.
+fn leading_lost(text: &[u8]) -> Option<(Answer, &[u8])>
+    ensures { IfSome result (λ r. AnswerFirst text.now r.0 r.1.now) }
 {
-    if stands_at(text, from, b"?\n") {
-        return Some(At {
-            value: lost_answer(),
-            end: from + 1,
-        });
-    }
-    None
+    let rest = text.strip_prefix(b"?\n")?;
+    Some((lost_answer(), rest))
 }
 
-// The answer that stands at a place as values with commas between them, or as `?`, and the place of its line feed. Few answers are
-// lost: `?` is looked for only where no number stands.
-fn values_or_lost_at(text: &[u8], from: usize) -> Option<At<Answer>>
-    requires { from ≤ length text.now }
-    ensures { IfSome result (λ r. AnswerFrom from text.now r) }
+// The answer that a text begins with as values with commas between them, or as `?`, with a line feed behind it, and what stands
+// behind the line feed. Few answers are lost: `?` is looked for only where no number stands.
+fn leading_values(text: &[u8]) -> Option<(Answer, &[u8])>
+    ensures { IfSome result (λ r. AnswerFirst text.now r.0 r.1.now) }
 {
     let mut values = [0 as Value; 8];
-    let mut at = from;
+    let mut rest = text;
     for k in 0..8 {
-        let Some(number) = number_at(text, at, VALUES) else {
-            return lost_at(text, from);
+        let Some((number, behind)) = leading_number(rest, VALUES) else {
+            return leading_lost(text);
         };
-        values[k] = number.value as Value;
-        match *text.get(number.end)? {
-            b'\n' => {
-                return Some(At {
-                    value: Answer {
+        values[k] = number as Value;
+        match behind {
+            [b'\n', after @ ..] => {
+                return Some((
+                    Answer {
                         lost: false,
                         count: k as u8 + 1,
                         values,
                     },
-                    end: number.end,
-                });
+                    after,
+                ));
             }
-            b',' => {}
+            [b',', after @ ..] => rest = after,
             _ => return None,
         }
-        at = number.end + 1;
     }
     None
 }
 
-// The answer that stands at a place, and the place of its line feed.
-fn answer_at(text: &[u8], from: usize) -> Option<At<Answer>>
-    requires { from ≤ length text.now }
-    ensures { IfSome result (λ r. AnswerFrom from text.now r) }
+// The answer that a text begins with, with a line feed behind it, and what stands behind the line feed.
+fn leading_answer(text: &[u8]) -> Option<(Answer, &[u8])>
+    ensures { IfSome result (λ r. AnswerFirst text.now r.0 r.1.now) }
 {
-    if stands_at(text, from, b"-\n") {
-        return Some(At {
-            value: no_answer(),
-            end: from + 1,
-        });
+    if let Some(rest) = text.strip_prefix(b"-\n") {
+        return Some((no_answer(), rest));
     }
-    values_or_lost_at(text, from)
+    leading_values(text)
 }
 
-// Reads a line that has no fault; of any other line it tells nothing.
-fn quick_event(text: &[u8], from: usize, own: u32, objects: &[Object]) -> Option<At<Event>>
-    requires { (from ≤ length text.now) × (length objects.now ≤ 16) }
-    ensures { IfSome result (λ r. record { fault = 0; end = r.end; event = r.value } ≡ next_read own objects.now from (drop from text.now)) }
+// Reads a line that has no fault, and tells what stands behind its line feed; of any other line it tells nothing.
+fn quick_event<'a>(text: &'a [u8], own: u32, objects: &[Object]) -> Option<(Event, &'a [u8])>
+    requires { length objects.now ≤ 16 }
+    ensures { IfSome result (λ r. EventFirst own objects.now text.now r.0 r.1.now) }
 {
-    let number = spaced_number(text, from, 64)?;
-    if number.value != u64::from(own) {
+    let (number, rest) = number_before_space(text, 64)?;
+    if number != u64::from(own) {
         return None;
     }
-    let process = spaced_number(text, number.end, 8)?;
-    let place = spaced_number(text, process.end, objects.len() as u64)?;
-    let object = objects[place.value as usize];
-    let op = op_at(text, place.end)?;
-    if !has_op(object.kind, op.value) {
+    let (process, rest) = number_before_space(rest, 8)?;
+    let (place, rest) = number_before_space(rest, objects.len() as u64)?;
+    let object = objects[place as usize];
+    let (op, rest) = leading_op(rest)?;
+    if !has_op(object.kind, op) {
         return None;
     }
-    let value = value_at(text, op.end, takes_value(op.value))?;
-    let answer = answer_at(text, value.end)?;
-    if !may_answer(object, op.value, answer.value) {
+    let (value, rest) = leading_value(rest, op)?;
+    let (answer, rest) = leading_answer(rest)?;
+    if !may_answer(object, op, answer) {
         return None;
     }
-    Some(At {
-        value: Event {
-            process: ProcessNo(process.value as u8),
-            object: place.value as u8,
-            op: op.value,
-            value: value.value,
-            answer: answer.value,
-        },
-        end: answer.end,
-    })
-}
-
-// Reads the line of the event whose number is `own` and that begins at a place, in a history with these objects.
-pub fn next_event(text: &[u8], from: usize, own: u32, objects: &[Object]) -> NextEvent
-    requires { (from ≤ length text.now) × (length objects.now ≤ 16) }
-    ensures { (next_event_of result ≡ next_read own objects.now from (drop from text.now)) × (result.end ≡ from + find 10 (drop from text.now)) × (from ≤ result.end) × (result.end ≤ length text.now) }
-{
-    if let Some(quick) = quick_event(text, from, own, objects) {
-        return NextEvent {
-            end: quick.end,
-            event: Ok(quick.value),
-        };
-    }
-    let Some(end) = find_from(text, from, b'\n') else {
-        return NextEvent {
-            end: text.len(),
-            event: Err(Fault::Layout),
-        };
+    let event = Event {
+        process: ProcessNo(process as u8),
+        object: place as u8,
+        op,
+        value,
+        answer,
     };
-    NextEvent {
-        end,
-        event: read_event(&text[from..end], own, objects),
-    }
+    Some((event, rest))
+}
+
+// Reads the line that a text begins with as that of the event whose number is `own`, in a history with these objects.
+pub fn next_event(text: &[u8], own: u32, objects: &[Object]) -> Next<Event>
+    requires { length objects.now ≤ 16 }
+    ensures { (event_read result.read ≡ next_read own objects.now text.now) × (result.length ≡ find 10 text.now) × (result.length ≤ length text.now) }
+{
+    let quick = quick_event(text, own, objects);
+    next_line(text, quick, |line| read_event(line, own, objects))
 }

@@ -8,9 +8,10 @@ ghost use Rattle.criteria.specs.Records.{history_of, certificate_of};
 ghost use Rattle.faults.specs.Finding.{finding_of};
 
 use crate::finding::Finding;
-use crate::order::{order_fault, order_rows, past_count, processes_of};
+use crate::order::{order_fault, order_rows, processes_of};
 use crate::replayed::replay_fault;
 use crate::viewed::view_fault;
+use certificate::criterion::past_count;
 use certificate::numbers::view_numbers;
 use certificate::record::Certificate;
 use history::record::History;

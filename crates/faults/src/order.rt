@@ -22,13 +22,6 @@ pub fn processes_of(events: &[Event; 64]) -> [u8; 64]
     events.map(|e| e.process.0)
 }
 
-// How many of n events have a past.
-pub(crate) fn past_count(c: Criterion, n: usize) -> usize
-    ensures { result ≡ cond (has_pasts c) n 0 }
-{
-    if has_pasts(c) { n } else { 0 }
-}
-
 // The rows of the order of a certificate: that of its pasts, or program order where the criterion has none.
 pub(crate) fn order_rows(c: Criterion, pasts: &[EventList], program: [u64; 64]) -> [u64; 64]
     requires { (length pasts.now ≤ 64) × (has_pasts c ≡ true → (k : ℕ) → k < length pasts.now → ShortList (get_or pasts.now k no_list)) }

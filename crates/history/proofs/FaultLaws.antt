@@ -1,5 +1,5 @@
 -- Laws of the first fault of a line. Assumes nothing.
-use Prim.Native.Nat.{ℕ, ◌<◌}
+use Prim.Native.Nat.{ℕ}
 use native.Mathlib.Omega.{arith}
 use mathlib.Core.Path.{◌≡◌, refl}
 use mathlib.Core.Bool.{Bool, true, false, cond}
@@ -7,7 +7,6 @@ use mathlib.Core.List.{List, []}
 use lib.ListN.{length, get_or}
 use lib.Dec.{eqb}
 use Rattle.layout.specs.Split.{split}
-use Rattle.layout.proofs.SplitLaws.{split-some}
 use Rattle.history.specs.declared.fault.Fault as faulty
 use Rattle.history.specs.declared.fault.Fault.TheVariants.{TooLong, Layout, Limits, Misfit, BadAnswer, NotRising}
 use Rattle.history.specs.declared.record.Object.{Object}
@@ -33,10 +32,6 @@ fault-none false m f g e = absurd (omega arith)
 pub fault-zero : {l m f g : Bool} → InOrder l m f g → first_fault l m f g ≡ 0
 unfolding first_fault
 fault-zero {l} {m} {f} {g} o = rw (o.layout, o.limits, o.fits, o.long)
-
--- ---- bytes that are cut have a first part
-pub some_part : (b : ℕ) (s : List ℕ) → 0 < length (split b s)
-some_part b s = split-some b s
 
 -- ---- the fault of a number
 abbrev pub fault_of : ℕ → faulty.Fault

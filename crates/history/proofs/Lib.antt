@@ -1,6 +1,8 @@
 pub mod AllLaws
 pub mod PadLaws
-pub mod ListingLaws
+pub mod ListedLaws
+pub mod ZeroLaws
+pub mod LinesLaws
 pub mod FaultLaws
 pub mod ObjectLaws
 pub mod AnswerLaws

@@ -5,8 +5,10 @@ use native.Mathlib.Numerals.{add-one}
 use native.Mathlib.Omega.{arith}
 use mathlib.Core.Path.{◌≡◌, refl, sym, ap, ◌∙◌}
 use mathlib.Core.List.{List, [], ◌∷◌, ◌++◌, append_assoc}
-use lib.ListN.{length, get_or, take, set, replicate, length-set, length-append, length-replicate, get_or-append, get_or-eq_default}
+use lib.ListN.{length, get_or, take, drop, set, replicate, length-set, length-append, length-replicate, get_or-append, get_or-eq_default}
 use lib.Seq.{take-append_seam, set-append_seam, take-suc, take-suc-set, length-take-le, get_or-append-add}
+use Rattle.std.proofs.lemmas.List.{drop-replicate, take-replicate, replicate-append-replicate}
+use Rattle.layout.specs.Fill.{fill}
 use Rattle.layout.proofs.Cases.{by-lt}
 use Rattle.history.specs.Record.{pad}
 
@@ -51,6 +53,26 @@ module _ {A : Type 0} (places : ℕ) (blank : A) where
         ∙ get_or-append-add xs (replicate (places - length xs) blank) (i - length xs) blank
         ∙ get_or-blank blank (places - length xs) (i - length xs)
         ∙ sym (get_or-eq_default xs blank h))
+
+-- ---- a list that was written over the first of so many zeros
+pub pad_filled : (places : ℕ) (xs : List ℕ) → fill xs (replicate places 0) ≡ pad places 0 xs
+unfolding fill pad
+pad_filled places xs = rw (drop-replicate {X = ℕ} (length xs) places 0)
+
+-- or over the first of some of them
+pub pad_part : (places some : ℕ) (xs : List ℕ) → length xs ≤ some → some ≤ places
+    → fill xs (take some (replicate places 0)) ++ drop some (replicate places 0) ≡ pad places 0 xs
+unfolding fill pad
+pad_part places some xs few room =
+    let m : some - length xs + (places - some) ≡ places - length xs = omega arith in
+    rw (take-replicate {X = ℕ} some places 0 room, drop-replicate {X = ℕ} (length xs) some 0, drop-replicate {X = ℕ} some places 0, append_assoc,
+      replicate-append-replicate {A = ℕ} (some - length xs) (places - some) 0, m)
+
+-- each number there is below a bound, where those of the list are
+pub pad_below : (places : ℕ) (xs : List ℕ) (bound : ℕ) → 0 < bound → ((i : ℕ) → i < length xs → get_or xs i 0 < bound)
+    → (i : ℕ) → get_or (pad places 0 xs) i 0 < bound
+pad_below places xs bound b h i =
+    rw (get_or-pad places 0 xs i) (by-lt i (length xs) (h i) (λ k. rw (get_or-eq_default xs 0 k) b))
 
 -- ---- a loop that fills an array: the first i elements are in it
 pub take_more : {A : Type 0} (xs : List A) (i : ℕ) (d : A) → i < length xs → take (i + 1) xs ≡ take i xs ++ get_or xs i d ∷ []

@@ -24,7 +24,7 @@ struct Fields<'a> {
 }
 
 // Cuts a line into six fields; none where it has fewer or more.
-#[tactic(auto, using(crate::proofs::FaultLaws::some_part))]
+#[tactic(auto, using(layout::proofs::SplitLaws::some_part))]
 fn cut(line: &[u8]) -> Option<Fields>
     ensures { MatchOption result (length (split 32 line.now) ≢ 6) (λ f. split 32 line.now ≡ f.number.now ∷ f.process.now ∷ f.object.now ∷ f.op.now ∷ f.value.now ∷ f.answer.now ∷ []) }
 {

@@ -1,6 +1,9 @@
 // Why a history text is not read: the first fault on its first faulty line, or in the whole.
 ghost use Rattle.std.specs.Prelude.{◌≡◌};
 ghost use Rattle.history.specs.Faults.{fault_number};
+ghost use Rattle.history.specs.Steps.Fields.{listed_fault};
+
+use layout::list::ListFault;
 
 #[derive(Clone, Copy, Debug, PartialEq, Eq)]
 pub enum Fault {
@@ -31,6 +34,18 @@ impl Fault {
             Fault::Misfit => 4,
             Fault::BadAnswer => 5,
             Fault::NotRising => 6,
+        }
+    }
+}
+
+// What is wrong with a field that is no list as its place asks: the layout, or a limit.
+impl From<ListFault> for Fault {
+    ghost from_gives = { λ l f. f ≡ listed_fault l };
+
+    fn from(fault: ListFault) -> Fault {
+        match fault {
+            ListFault::NotList => Fault::Layout,
+            ListFault::Over | ListFault::Many => Fault::Limits,
         }
     }
 }

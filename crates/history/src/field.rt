@@ -29,5 +29,5 @@ pub fn optional_field(field: &[u8], bound: u64) -> Result<Result<Option<u64>, Fa
     if is_word(field, b"-") {
         return Ok(Ok(None));
     }
-    Ok(number_field(field, bound)?.map(|n| Some(n)))
+    Ok(number_field(field, bound)?.map(Some))
 }

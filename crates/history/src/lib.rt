@@ -7,6 +7,7 @@ pub mod answer;
 pub mod event;
 pub mod fault;
 pub mod field;
+pub mod next;
 pub mod object;
 pub mod record;
 pub mod word;

@@ -39,7 +39,7 @@ fn read_three(number: &[u8], word: &[u8], width: &[u8], own: u32) -> Result<Obje
 }
 
 // Reads the line of the object whose number is `own`, without its line feed: its object, or its first fault.
-#[tactic(auto, using(crate::proofs::FaultLaws::some_part), unfolding(crate::specs::Faults::object_line, crate::specs::Faults::object_fields))]
+#[tactic(auto, using(layout::proofs::SplitLaws::some_part), unfolding(crate::specs::Faults::object_line, crate::specs::Faults::object_fields))]
 pub fn read_object(line: &[u8], own: u32) -> Result<Object, Fault>
     ensures { object_read result ≡ object_line own line.now }
 {

@@ -36,7 +36,7 @@ pub enum Op {
 
 // A width is 0 but for a window and a channel, whose width is its capacity.
 // Kept: the number and no Option, since `within` of specs/Readable asks for that 0.
-#[derive(Clone, Copy)]
+#[derive(Clone, Copy, PartialEq, Eq)]
 pub struct Object {
     pub kind: Kind,
     pub width: u8,
@@ -45,7 +45,7 @@ pub struct Object {
 // The first `count` of the values; or an answer that was lost, which has none.
 // Kept: no heap, fixed memory; and `lost` beside the values, since `recorded_in` of specs/Record and the records of history_cases (a
 // lost answer of one value) have both.
-#[derive(Clone, Copy)]
+#[derive(Clone, Copy, PartialEq, Eq)]
 pub struct Answer {
     pub lost: bool,
     pub count: u8,
@@ -54,7 +54,7 @@ pub struct Answer {
 
 // A value is 0 where the op takes none.
 // Kept: the number and no Option, since `good_value` and `blank_event` of specs/Readable ask for that 0.
-#[derive(Clone, Copy)]
+#[derive(Clone, Copy, PartialEq, Eq)]
 pub struct Event {
     pub process: ProcessNo,
     pub object: u8,

@@ -3,48 +3,40 @@ ghost use Rattle.std.specs.Prelude.{◌≡◌, ◌+◌, ◌≤◌, cond, not};
 ghost use Rattle.history.specs.Kinds.{is_kind, kind_of, is_op, op_of, is_channel, has_width, width_limit, is_shelf, is_shelf_op, has_op, takes_value, read_can_answer, push_can_answer, can_answer, may_answer};
 
 use crate::record::{Answer, Kind, Object, Op};
-use layout::word::is_word;
+use layout::word::named;
+
+// The words of the kinds.
+const KINDS: [(&[u8], Kind); 5] = [
+    (b"queue", Kind::Queue),
+    (b"stack", Kind::Stack),
+    (b"window", Kind::Window),
+    (b"channel", Kind::Channel),
+    (b"register", Kind::Register),
+];
+
+// The words of the ops.
+const OPS: [(&[u8], Op); 5] = [
+    (b"read", Op::Read),
+    (b"push", Op::Push),
+    (b"pop", Op::Pop),
+    (b"peek", Op::Peek),
+    (b"write", Op::Write),
+];
 
 // The kind whose word a field is.
-// Kept: tried as a `match` on the words, and the proof did not close: an arm of it knows only the length of the field.
-#[tactic(auto, unfolding(crate::specs::Kinds::is_kind, crate::specs::Kinds::kind_of))]
+#[tactic(auto, unfolding(crate::specs::Kinds::is_kind, crate::specs::Kinds::kind_of, layout::specs::Steps::Table::named))]
 pub fn read_kind(field: &[u8]) -> Option<Kind>
     ensures { result ≡ cond (is_kind field.now) (Some (kind_of field.now)) None }
 {
-    if is_word(field, b"queue") {
-        Some(Kind::Queue)
-    } else if is_word(field, b"stack") {
-        Some(Kind::Stack)
-    } else if is_word(field, b"window") {
-        Some(Kind::Window)
-    } else if is_word(field, b"channel") {
-        Some(Kind::Channel)
-    } else if is_word(field, b"register") {
-        Some(Kind::Register)
-    } else {
-        None
-    }
+    named(field, &KINDS)
 }
 
 // The op whose word a field is.
-// Kept: no `match` on the words, as in `read_kind`.
-#[tactic(auto, unfolding(crate::specs::Kinds::is_op, crate::specs::Kinds::op_of))]
+#[tactic(auto, unfolding(crate::specs::Kinds::is_op, crate::specs::Kinds::op_of, layout::specs::Steps::Table::named))]
 pub fn read_op(field: &[u8]) -> Option<Op>
     ensures { result ≡ cond (is_op field.now) (Some (op_of field.now)) None }
 {
-    if is_word(field, b"read") {
-        Some(Op::Read)
-    } else if is_word(field, b"push") {
-        Some(Op::Push)
-    } else if is_word(field, b"pop") {
-        Some(Op::Pop)
-    } else if is_word(field, b"peek") {
-        Some(Op::Peek)
-    } else if is_word(field, b"write") {
-        Some(Op::Write)
-    } else {
-        None
-    }
+    named(field, &OPS)
 }
 
 // Whether the kind is a queue with a capacity.

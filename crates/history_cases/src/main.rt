@@ -11,8 +11,8 @@ use history::record::{
 };
 use history_reader::read::{faulty_line, read_history};
 use history_writer::write::{WriteFault, write_history};
-use std::io;
 use std::io::Write;
+use std::{array, io};
 
 // Writes a record back into a buffer with room for 2,048 bytes, and compares with the text that it was read from.
 fn say_back<W: Write>(out: &mut W, h: History, text: &[u8]) -> io::Result<()> {
@@ -23,7 +23,7 @@ fn say_back<W: Write>(out: &mut W, h: History, text: &[u8]) -> io::Result<()> {
             let bytes = if same { "the same" } else { "other" };
             writeln!(out, ", written back 0 as {bytes} bytes")
         }
-        Err(fault) => write!(out, ", written back {}", fault.number()),
+        Err(fault) => writeln!(out, ", written back {}", fault.number()),
     }
 }
 
@@ -191,9 +191,9 @@ fn records_with_channels<W: Write>(out: &mut W) -> io::Result<()> {
 
 // Texts of line feeds alone: as many as a history may have bytes, and one more.
 fn long_texts<W: Write>(out: &mut W) -> io::Result<()> {
-    let longest = [10u8; 16384];
+    let longest = [b'\n'; 16384];
     case(out, "16384 bytes", &longest)?;
-    let longer = [10u8; 16385];
+    let longer = [b'\n'; 16385];
     case(out, "16385 bytes", &longer)
 }
 
@@ -232,11 +232,7 @@ fn push_byte(i: usize) -> u8
 
 // The text of one queue and 65 events.
 fn push_text() -> [u8; 1095] {
-    let mut text = [0u8; 1095];
-    for (i, byte) in text.iter_mut().enumerate() {
-        *byte = push_byte(i);
-    }
-    text
+    array::from_fn(|i| push_byte(i))
 }
 
 // As many events as a history may have, and one more: the text of 65 events without its last line, and all of it.

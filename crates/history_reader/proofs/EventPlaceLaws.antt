@@ -4,7 +4,7 @@ use native.Mathlib.Omega.{arith}
 use mathlib.Core.Path.{◌≡◌, refl, ap, ◌∙◌}
 use mathlib.Core.Bool.{Bool, true, false, cond}
 use mathlib.Core.List.{List, [], ◌∷◌, ◌++◌}
-use lib.ListN.{length, get_or, drop, length-append, length-drop, length-take}
+use lib.ListN.{length, get_or, take, drop, length-append, length-drop, length-take}
 use lib.Seq.{length-take-le}
 use lib.Dec.{eqb, leb}
 use borrow.Author.Tests.{eqb-true, lt-ltb, le-ltb}
@@ -13,7 +13,8 @@ use Rattle.std.specs.Option.{unwrap_or}
 use Rattle.layout.specs.Split.{find, split, part_start}
 use Rattle.layout.specs.Word.{same, object_heading, event_heading}
 use Rattle.layout.proofs.Cases.{by-lt}
-use Rattle.layout.proofs.SplitLaws.{part-here, part-begins}
+use Rattle.layout.proofs.FillLaws.{tail-part}
+use Rattle.layout.proofs.SplitLaws.{find-le, part-here, part-begins}
 use Rattle.history.specs.declared.record.Object.{Object}
 use Rattle.history.specs.declared.record.Event.{Event}
 use Rattle.history.specs.Record.{history_of}
@@ -93,6 +94,14 @@ pub few-counted : (text : List ℕ) → (read_history text).history.count ≤ 64
 few-counted text = (few-history text).events
 
 -- ---- the line of an event
+-- the line from a place on goes up to its line feed, or to the end of the text
+pub line-ends : (text p : List ℕ) (a : ℕ) → a ≤ length text → p ≡ take (find 10 (take (length text - a) (drop a text))) (take (length text - a) (drop a text))
+    → (a + length p ≡ a + find 10 (drop a text)) × (a + length p ≤ length text)
+line-ends text p a h e =
+    let t = tail-part text a in
+    let n : length p ≡ find 10 (drop a text) = ap length (rw t at e) ∙ length-take-le (find 10 (drop a text)) (drop a text) (find-le 10 (drop a text)) in
+    (omega (arith, n), omega (arith, n, find-le 10 (drop a text), length-drop a text))
+
 -- a line goes up to its line feed, or to the end of the text
 pub line-end : (text : List ℕ) (a : ℕ) (o : Option ℕ) → a ≤ length text
     → MatchOption o (find 10 (drop a text) ≡ length (drop a text)) (λ e. (e ≡ a + find 10 (drop a text)) × (a ≤ e) × (e < length text))

@@ -5,7 +5,8 @@ use native.Mathlib.Omega.{arith}
 use mathlib.Core.Path.{◌≡◌, refl, sym, ap, subst, ◌∙◌}
 use mathlib.Core.Bool.{true, false, cond}
 use mathlib.Core.List.{List, [], ◌∷◌, ◌++◌}
-use lib.ListN.{length, take, drop, drop_of_length-le}
+use lib.ListN.{length, take, drop, length-drop, drop_of_length-le}
+use lib.Seq.{length-take-le}
 use lib.Dec.{eqb, ltb}
 use borrow.Author.Tests.{eq-eqb, ne_eqb, eqb-false, ltb-true, le-leb, lt-leb}
 use Rattle.std.specs.Prelude.{Result, Ok, Err, MatchResult}
@@ -13,6 +14,7 @@ use Rattle.std.specs.Result.{IsErrAnd}
 use Rattle.layout.specs.Split.{find, split}
 use Rattle.layout.specs.Word.{same, object_heading, event_heading}
 use Rattle.layout.proofs.Cases.{by-lt, by-eq, and_left}
+use Rattle.layout.proofs.FillLaws.{tail-part}
 use Rattle.layout.proofs.SplitLaws.{cut-more, cut-last, split-some}
 use Rattle.layout.proofs.NumberLaws.{cut-long}
 use Rattle.history.specs.declared.record.Object.{Object}
@@ -22,11 +24,12 @@ use Rattle.history.specs.Record.{pad, no_object, no_event, history_of}
 use Rattle.history.proofs.PadLaws.{Filled, filled-count}
 use Rattle.history.specs.declared.fault.Fault.{Fault}
 use Rattle.history.specs.declared.fault.Fault.TheVariants.{TooLong, Layout, Limits, Misfit, BadAnswer, NotRising}
-use Rattle.history.specs.Faults.{ObjectRead, EventRead, fault_number, object_read, event_read, object_line, event_line, object_limits, object_fault, object_three, event_fault, event_said, event_six, object_with, event_with}
+use Rattle.history.specs.Faults.{ObjectRead, EventRead, fault_number, object_read, event_read, object_line, event_line, faulty_event, object_limits, object_fault, object_three, event_fault, event_said, event_six, object_with, event_with}
 use Rattle.history.proofs.FaultLaws.{fault-none}
 use Rattle.history.proofs.ObjectLaws.{three-order, object-three, object-count}
 use Rattle.history.proofs.EventLaws.{limited, event-six, event-count}
-use Rattle.event_reader.specs.Steps.Next.{NextEvent, ending_at, next_read}
+use Rattle.history.specs.declared.next.Next.{Next}
+use Rattle.event_reader.specs.Steps.Next.{next_read}
 use Rattle.event_reader.proofs.NextLaws.{next-cut, next-line}
 use Rattle.history_reader.specs.ReadHistory.{refusal, read_as, events_from, objects_from, lines_from, read_history}
 
@@ -78,6 +81,25 @@ unfolding lines_from
 lines_step p [] h = absurd (not-suc-le-zero h)
 lines_step p (q ∷ l) h = refl
 
+-- ---- what the line of an event is that goes from a to e
+module _ (s : List ℕ) (a e : ℕ) (found : e ≡ a + find 10 (drop a s)) (from : a ≤ length s) (own : ℕ) (os : List Object) where
+  pub cut-at : length s ≤ e → next_read own os (drop a s) ≡ faulty_event 2
+  cut-at h = next-cut own os (drop a s) (omega (arith, length-drop a s))
+
+  pub line-at : e < length s → next_read own os (drop a s) ≡ event_line own os (take (e - a) (drop a s))
+  line-at h =
+      let k : find 10 (drop a s) ≡ e - a = omega arith in
+      next-line own os (drop a s) (omega (arith, length-drop a s)) ∙ ap (λ (n : ℕ). event_line own os (take n (drop a s))) k
+
+-- the same, as `next_event` tells it of `&s[a..]`
+pub next-told : (s : List ℕ) (a own : ℕ) (os : List Object) → a ≤ length s → (n : Next Event)
+    → (event_read n.read ≡ next_read own os (take (length s - a) (drop a s))) × (n.length ≡ find 10 (take (length s - a) (drop a s)))
+    × (n.length ≤ length (take (length s - a) (drop a s)))
+    → (event_read n.read ≡ next_read own os (drop a s)) × (a + n.length ≡ a + find 10 (drop a s)) × (a + n.length ≤ length s)
+next-told s a own os from n told =
+    let t = tail-part s a in
+    (rw t at told.0, ap (λ (k : ℕ). a + k) (rw t at told.1), omega (arith, rw t at told.2, length-drop a s))
+
 -- ---- a turn of the loops: the next line goes from a to e
 module _ (line : ℕ) (s : List ℕ) (a e : ℕ) (found : e ≡ a + find 10 (drop a s)) (from : a ≤ length s) (to : e ≤ length s) where
   before : a ≤ e
@@ -93,7 +115,7 @@ module _ (line : ℕ) (s : List ℕ) (a e : ℕ) (found : e ≡ a + find 10 (dro
   rest_some = split-some 10 (drop (e + 1) s)
 
   module _ (os : List Object) where
-    module _ (h : a < length s) (x : NextEvent) (own : ℕ) (q : x ≡ next_read own os a (drop a s)) (es : List Event) (many : length es ≡ own) where
+    module _ (h : a < length s) (x : EventRead) (own : ℕ) (q : x ≡ next_read own os (drop a s)) (es : List Event) (many : length es ≡ own) where
       events-turn : events_from os es line a (split 10 (drop a s))
           ≡ cond (eqb x.fault 0) (events_from os (es ++ x.event ∷ []) (line + 1) (e + 1) (split 10 (drop (e + 1) s))) (refusal x.fault line a (e - a))
       unfolding events_from
@@ -102,18 +124,18 @@ module _ (line : ℕ) (s : List ℕ) (a e : ℕ) (found : e ≡ a + find 10 (dro
           (λ k.
           ap (events_from os es line a) (cut-more 10 s a e found from k)
           ∙ events-step os es line a (take (e - a) (drop a s)) (split 10 (drop (e + 1) s)) rest_some
-          ∙ rw (many, q, next-line own os s a e found from k, next, long))
-          (λ k. rw (q, next-cut own os s a e found from k, cut-last 10 s a e found from k, long, ne_eqb (e - a) 0 (λ z. omega arith)))
+          ∙ rw (many, q, line-at s a e found from own os k, next, long))
+          (λ k. rw (q, cut-at s a e found from own os k, cut-last 10 s a e found from k, long, ne_eqb (e - a) 0 (λ z. omega arith)))
 
     -- the line is that of an event
-    module _ (h : a < length s) (r : Result Event Fault) (own : ℕ) (q : ending_at e (event_read r) ≡ next_read own os a (drop a s))
+    module _ (h : a < length s) (r : Result Event Fault) (own : ℕ) (q : event_read r ≡ next_read own os (drop a s))
         (es : List Event) (many : length es ≡ own) where
       pub events-more : (v : Event) (after : ℕ) → r ≡ Ok v → line + 1 ≡ after
           → events_from os es line a (split 10 (drop a s)) ≡ events_from os (es ++ v ∷ []) after (e + 1) (split 10 (drop (e + 1) s))
-      events-more v after z k = events-turn h (ending_at e (event_read r)) own q es many ∙ rw (z, k)
+      events-more v after z k = events-turn h (event_read r) own q es many ∙ rw (z, k)
 
       pub events-bad : (f : Fault) → r ≡ Err f → events_from os es line a (split 10 (drop a s)) ≡ refusal (fault_number f) line a (e - a)
-      events-bad f z = events-turn h (ending_at e (event_read r)) own q es many ∙ rw (z, ne_eqb (fault_number f) 0 (fault-some f))
+      events-bad f z = events-turn h (event_read r) own q es many ∙ rw (z, ne_eqb (fault_number f) 0 (fault-some f))
 
     pub objects-end : length s ≤ e → objects_from os line a (split 10 (drop a s)) ≡ refusal 2 line a (e - a)
     unfolding objects_from
@@ -190,7 +212,7 @@ object-few r o own line q z = object-own own line (ap (λ (x : ObjectRead). x.fa
 
 -- ---- the next line is that of the event v
 module _ (own : ℕ) (os : List Object) (s : List ℕ) (a e : ℕ) (found : e ≡ a + find 10 (drop a s)) (from : a ≤ length s)
-    (r : Result Event Fault) (q : ending_at e (event_read r) ≡ next_read own os a (drop a s)) (v : Event) (z : r ≡ Ok v) where
+    (r : Result Event Fault) (q : event_read r ≡ next_read own os (drop a s)) (v : Event) (z : r ≡ Ok v) where
   no-fault : (event_read r).fault ≡ 0
   no-fault = ap (λ (r : Result Event Fault). (event_read r).fault) z
 
@@ -200,14 +222,14 @@ module _ (own : ℕ) (os : List Object) (s : List ℕ) (a e : ℕ) (found : e �
       by-lt e (length s)
       (λ h. h)
       (λ h.
-      let k : (event_read r).fault ≡ 2 = ap (λ (y : NextEvent). y.fault) (q ∙ next-cut own os s a e found from h) in
+      let k : (event_read r).fault ≡ 2 = ap (λ (y : EventRead). y.fault) (q ∙ cut-at s a e found from own os h) in
       absurd (omega (arith, no-fault)))
 
   -- it has a place
   pub event-few : own < 64
   event-few =
       event-own own os (take (e - a) (drop a s))
-      (ap (λ (y : NextEvent). y.fault) (sym (q ∙ next-line own os s a e found from event-short)) ∙ no-fault)
+      (ap (λ (y : EventRead). y.fault) (sym (q ∙ line-at s a e found from own os event-short)) ∙ no-fault)
 
 -- ---- the record that was read
 pub history-made : (objects : List Object) (declared : ℕ) (events : List Event) (count : ℕ)
@@ -222,28 +244,20 @@ history-made objects declared events count p d f =
     ∙ ap (λ (x : ℕ). record { objects = pad 16 no_object (take declared objects); declared = length (take declared objects); events = pad 64 no_event (take count events); count = x }) (sym (filled-count f))
 
 -- ---- the first line
-module _ (s : List ℕ) (e : ℕ) (found : e ≡ 0 + find 10 (drop 0 s)) (to : e ≤ length s) where
-  first-long : length (take (e - 0) s) ≡ e - 0
-  first-long = cut-long s 0 e (omega arith) to
+pub lines_end : (s : List ℕ) → split 10 s ≡ s ∷ [] → lines_from (split 10 s) ≡ refusal 2 1 0 (length s - 0)
+unfolding lines_from
+lines_end s e = let z : length s - 0 ≡ length s = omega arith in rw (e, z)
 
-  pub lines_end : length s ≤ e → lines_from (split 10 s) ≡ refusal 2 1 0 (e - 0)
-  unfolding lines_from
-  lines_end h = ap lines_from (cut-last 10 s 0 e found (omega arith) h) ∙ rw first-long
+module _ (s p q : List ℕ) (cut : split 10 s ≡ p ∷ split 10 q) where
+  pub lines-heading : same p object_heading ≡ true → lines_from (split 10 s) ≡ objects_from [] 2 (length p + 1) (split 10 q)
+  lines-heading w = ap lines_from cut ∙ lines_step p (split 10 q) (split-some 10 q) ∙ rw w
 
-  module _ (h : e < length s) where
-    lines-turn : lines_from (split 10 s)
-        ≡ cond (same (take e s) object_heading) (objects_from [] 2 (e + 1) (split 10 (drop (e + 1) s))) (refusal 2 1 0 (e - 0))
-    lines-turn =
-        let z : e - 0 ≡ e = omega arith in
-        ap lines_from (cut-more 10 s 0 e found (omega arith) h)
-        ∙ lines_step (take (e - 0) s) (split 10 (drop (e + 1) s)) (split-some 10 (drop (e + 1) s))
-        ∙ rw (first-long, z)
+  pub lines-bad : same p object_heading ≡ false → lines_from (split 10 s) ≡ refusal 2 1 0 (length p - 0)
+  lines-bad w = let z : length p - 0 ≡ length p = omega arith in ap lines_from cut ∙ lines_step p (split 10 q) (split-some 10 q) ∙ rw (w, z)
 
-    pub lines-heading : same (take e s) object_heading ≡ true → lines_from (split 10 s) ≡ objects_from [] 2 (e + 1) (split 10 (drop (e + 1) s))
-    lines-heading w = lines-turn ∙ rw w
-
-    pub lines-bad : same (take e s) object_heading ≡ false → lines_from (split 10 s) ≡ refusal 2 1 0 (e - 0)
-    lines-bad w = lines-turn ∙ rw w
+-- what is behind the first line
+pub first-rest : (s p : List ℕ) → find 10 s < length s → p ≡ take (find 10 s) s → find 10 s ≡ length p
+first-rest s p h e = sym (ap length e ∙ length-take-le (find 10 s) s (omega arith))
 
 -- ---- a text that is too long
 module _ (text : List ℕ) where

@@ -2,7 +2,7 @@
 ghost use Rattle.std.specs.Prelude.{◌≡◌, ◌-◌, ◌≤◌};
 ghost use Rattle.history_reader.specs.Place.{text_in, line_place, faulty_place, event_place};
 
-use layout::split::{find_from, part_start};
+use layout::split::{first_part, part_start};
 
 // The text that a place is in.
 #[derive(Clone, Copy, PartialEq, Eq)]
@@ -45,6 +45,6 @@ pub fn event_place(text: &[u8], declared: usize, e: usize) -> Place
         text: Text::History,
         line: e + declared + 3,
         start,
-        end: find_from(text, start, b'\n').unwrap_or(text.len()),
+        end: start + first_part(&text[start..], b'\n').len(),
     }
 }

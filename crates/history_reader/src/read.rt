@@ -11,7 +11,7 @@ use event_reader::next::next_event;
 use history::fault::Fault;
 use history::object::read_object;
 use history::record::{History, Object, no_event, no_object};
-use layout::split::find_from;
+use layout::split::split_once;
 use layout::word::is_word;
 
 // The longest history text that is read.
@@ -28,11 +28,12 @@ pub struct Refusal {
 // Kept: no heap, fixed memory; the array becomes part of a History as it is.
 #[derive(Clone, Copy)]
 struct Declared {
-    pub objects: [Object; 16],
-    pub declared: usize,
-    pub end: usize,
+    objects: [Object; 16],
+    declared: usize,
+    end: usize,
 }
 
+// Kept: no plainer: this reader and the certificate's each name their text once.
 fn refuse(fault: Fault, line: usize, start: usize, end: usize) -> Refusal
     requires { start ≤ end }
     ensures { history_read (Err result) ≡ refusal (fault_number fault) line start (end - start) }
@@ -53,19 +54,20 @@ fn read_objects(text: &[u8], from: usize) -> Result<Declared, Refusal>
     let mut declared = 0;
     let mut start = from;
     loop {
-        let line = declared + 2;
-        let Some(end) = find_from(text, start, b'\n') else {
-            return Err(refuse(Fault::Layout, line, start, text.len()));
+        let number = declared + 2;
+        let Some((line, _)) = split_once(&text[start..], b'\n') else {
+            return Err(refuse(Fault::Layout, number, start, text.len()));
         };
-        if is_word(&text[start..end], b"event process object op value answer") {
+        let end = start + line.len();
+        if is_word(line, b"event process object op value answer") {
             return Ok(Declared {
                 objects,
                 declared,
                 end: end + 1,
             });
         }
-        objects[declared] = read_object(&text[start..end], declared as u32).map_err(|fault| refuse(
-            fault, line, start, end,
+        objects[declared] = read_object(line, declared as u32).map_err(|fault| refuse(
+            fault, number, start, end,
         ))?;
         declared += 1;
         start = end + 1;
@@ -83,13 +85,14 @@ fn read_events(text: &[u8], read: Declared) -> Result<History, Refusal>
     let mut count = 0;
     let mut start = read.end;
     while start < text.len() {
-        let line = read.declared + count + 3;
-        let next = next_event(text, start, count as u32, objects);
+        let number = read.declared + count + 3;
+        let next = next_event(&text[start..], count as u32, objects);
+        let end = start + next.length;
         events[count] = next
-            .event
-            .map_err(|fault| refuse(fault, line, start, next.end))?;
+            .read
+            .map_err(|fault| refuse(fault, number, start, end))?;
         count += 1;
-        start = next.end + 1;
+        start += next.length + 1;
     }
     Ok(History {
         objects: read.objects,
@@ -103,13 +106,13 @@ fn read_events(text: &[u8], read: Declared) -> Result<History, Refusal>
 fn read_lines(text: &[u8]) -> Result<History, Refusal>
     ensures { history_read result ≡ lines_from (split 10 text.now) }
 {
-    let Some(end) = find_from(text, 0, b'\n') else {
+    let Some((heading, _)) = split_once(text, b'\n') else {
         return Err(refuse(Fault::Layout, 1, 0, text.len()));
     };
-    if !is_word(&text[..end], b"object kind width") {
-        return Err(refuse(Fault::Layout, 1, 0, end));
+    if !is_word(heading, b"object kind width") {
+        return Err(refuse(Fault::Layout, 1, 0, heading.len()));
     }
-    let declared = read_objects(text, end + 1)?;
+    let declared = read_objects(text, heading.len() + 1)?;
     read_events(text, declared)
 }
 

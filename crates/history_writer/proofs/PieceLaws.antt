@@ -6,7 +6,7 @@ use mathlib.Core.Bool.{Bool, true, false, cond}
 use mathlib.Core.List.{List, [], ◌∷◌, ◌++◌, map}
 use lib.ListN.{length, get_or, take}
 use lib.Seq.{take_all}
-use Rattle.std.proofs.lemmas.List.{get_or_default}
+use Rattle.std.proofs.lemmas.List.{get_or_default, map-id}
 use Rattle.layout.specs.Word.{dash, question}
 use Rattle.layout.specs.List.{list_text}
 use Rattle.layout.proofs.Cases.{by-lt}
@@ -59,12 +59,12 @@ pub lost_is : (a : Answer) → a.lost ≡ true → answer_text a ≡ question
 unfolding answer_text
 lost_is a e = rw e
 
-pub told_is : (a : Answer) (n : ℕ) (items : List ℕ) → a.lost ≡ false → n ≡ min a.count 8 → length a.values ≡ 8 → items ≡ a.values
-    → list_text (take n items) ≡ answer_text a
+pub told_is : (a : Answer) (n : ℕ) → a.lost ≡ false → n ≡ min a.count 8 → length a.values ≡ 8
+    → list_text (map (λ (v : ℕ). v) (take n a.values)) ≡ answer_text a
 unfolding answer_text
-told_is a n items l q long e =
-    let used : take n items ≡ values_in a =
+told_is a n l q long =
+    let used : take n a.values ≡ values_in a =
     by-lt 8 a.count
-    (λ h. let k : n ≡ 8 = omega arith in rw (k, e) (take_all 8 a.values (omega arith) ∙ sym (take_all a.count a.values (omega arith))))
-    (λ h. let k : n ≡ a.count = omega arith in rw (k, e) refl) in
-    rw l (ap list_text used)
+    (λ h. let k : n ≡ 8 = omega arith in rw k (take_all 8 a.values (omega arith) ∙ sym (take_all a.count a.values (omega arith))))
+    (λ h. let k : n ≡ a.count = omega arith in rw k refl) in
+    rw l (ap list_text (map-id (take n a.values) ∙ used))

@@ -1,4 +1,5 @@
 // Writing a history: the text of a record within its limits.
+// Kept: nothing here is a `Display`: the clauses say which bytes stand in the part and behind them, and there is no heap.
 
 #![tactic(auto)]
 

@@ -1,12 +1,12 @@
 // The limits of a record: whether each used part is in order and each place that is not used is blank.
 ghost use Rattle.std.specs.Prelude.{◌≡◌};
-ghost use Rattle.history.specs.Record.{value_bound};
-ghost use Rattle.history.specs.Readable.{good_object, good_objects, all_less, all_zero, good_answer, good_value, good_event, good_events, blank_object, blank_objects, blank_event, blank_events, within};
+ghost use Rattle.history.specs.Readable.{good_object, good_objects, all_zero, good_answer, good_value, good_event, good_events, blank_object, blank_objects, blank_event, blank_events, within};
 
-use history::record::{Answer, Event, History, Kind, Object, Op, VALUES, Value};
+use history::record::{Answer, Event, History, Object, Op, Value, no_event, no_object};
 use history::word::{has_op, has_width, may_answer, takes_value, width_bound};
 
 // Whether an object has a width where its kind has one.
+#[tactic(auto, unfolding(history::specs::Readable::good_object))]
 fn good_object(o: Object) -> bool
     ensures { result ≡ good_object o }
 {
@@ -22,7 +22,7 @@ fn good_object(o: Object) -> bool
 fn blank_object(o: Object) -> bool
     ensures { result ≡ blank_object o }
 {
-    matches!(o.kind, Kind::Register) && o.width == 0
+    o == no_object()
 }
 
 // Whether each object is good.
@@ -39,14 +39,8 @@ fn blank_objects(objects: &[Object]) -> bool
     objects.iter().all(|o| blank_object(*o))
 }
 
-// Whether each number is a value.
-fn all_less(values: &[Value]) -> bool
-    ensures { result ≡ all_less value_bound values.now }
-{
-    values.iter().all(|v| u64::from(*v) < VALUES)
-}
-
 // Whether each value is 0.
+// Kept: one call of the library's `all`; a generic one, for the events of a row too, would put `map T.number` into each caller's clauses.
 fn all_zero(values: &[Value]) -> bool
     ensures { result ≡ all_zero values.now }
 {
@@ -54,6 +48,7 @@ fn all_zero(values: &[Value]) -> bool
 }
 
 // Whether an op of an object can give the answer, and the answer is within its limits.
+#[tactic(auto, unfolding(history::specs::Readable::good_answer))]
 fn good_answer(object: Object, op: Op, a: Answer) -> bool
     ensures { result ≡ good_answer object op a }
 {
@@ -61,22 +56,19 @@ fn good_answer(object: Object, op: Op, a: Answer) -> bool
     if count > 8 {
         return false;
     }
-    may_answer(object, op, a) && all_less(&a.values[..count]) && all_zero(&a.values[count..])
+    may_answer(object, op, a) && all_zero(&a.values[count..])
 }
 
-// Whether an op has the value: a value where it takes one, and 0 elsewhere.
+// Whether an op has the value: any where it takes one, and 0 elsewhere.
 #[tactic(auto, unfolding(history::specs::Readable::good_value))]
 fn good_value(op: Op, v: Value) -> bool
     ensures { result ≡ good_value op v }
 {
-    if takes_value(op) {
-        u64::from(v) < VALUES
-    } else {
-        v == 0
-    }
+    takes_value(op) || v == 0
 }
 
 // Whether an event is within its limits, in a history with these objects.
+#[tactic(auto, unfolding(history::specs::Readable::good_event))]
 fn good_event(objects: &[Object], e: Event) -> bool
     ensures { result ≡ good_event objects.now e }
 {
@@ -90,16 +82,11 @@ fn good_event(objects: &[Object], e: Event) -> bool
 }
 
 // Whether a place for an event is blank.
+#[tactic(auto, using(history::proofs::ZeroLaws::eight_zeros), unfolding(history::specs::Readable::blank_event))]
 fn blank_event(e: Event) -> bool
     ensures { result ≡ blank_event e }
 {
-    e.process.0 == 0
-        && e.object == 0
-        && matches!(e.op, Op::Write)
-        && e.value == 0
-        && !e.answer.lost
-        && e.answer.count == 0
-        && all_zero(&e.answer.values)
+    e == no_event()
 }
 
 // Whether each event is good.
@@ -117,6 +104,7 @@ fn blank_events(events: &[Event]) -> bool
 }
 
 // Whether a record is within its limits, so that it has a text.
+#[tactic(auto, unfolding(history::specs::Readable::within))]
 pub fn is_within(h: History) -> bool
     ensures { result ≡ within h }
 {

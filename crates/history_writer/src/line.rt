@@ -2,13 +2,11 @@
 ghost use Rattle.std.proofs.Common.{lit<};
 ghost use Rattle.std.specs.Prelude.{◌≡◌, ◌≤◌, length};
 ghost use Rattle.layout.specs.Fill.{fill};
-ghost use Rattle.layout.specs.List.{list_text};
-ghost use Rattle.history.specs.Record.{values_in};
 ghost use Rattle.history.specs.Kinds.{kind_word, op_word};
 ghost use Rattle.history.specs.HistoryText.{answer_text};
 ghost use Rattle.history_writer.specs.Steps.Lines.{field_text};
 
-use history::record::{Answer, Kind, Op, Value};
+use history::record::{Answer, Kind, Op};
 use layout::fields;
 use layout::fill::put_bytes;
 use layout::list::{list_len, put_list};
@@ -52,13 +50,6 @@ fn op_word(op: Op) -> &'static [u8]
     }
 }
 
-// Values, as items of a list.
-fn widen(values: [Value; 8]) -> [u32; 8]
-    ensures { result ≡ values }
-{
-    values.map(|v| u32::from(v))
-}
-
 // How many bytes an answer has.
 fn answer_len(a: Answer) -> usize
     ensures { (result ≡ length (answer_text a)) × (result ≤ 704) }
@@ -66,7 +57,7 @@ fn answer_len(a: Answer) -> usize
     if a.lost {
         return 1;
     }
-    list_len(&widen(a.values)[..usize::from(a.count).min(8)])
+    list_len(&a.values[..usize::from(a.count).min(8)])
 }
 
 // Writes an answer into a part that has room.
@@ -77,7 +68,7 @@ fn put_answer(part: &mut [u8], a: Answer) -> usize
     if a.lost {
         return put_bytes(part, b"?");
     }
-    put_list(part, &widen(a.values)[..usize::from(a.count).min(8)])
+    put_list(part, &a.values[..usize::from(a.count).min(8)])
 }
 
 // How many bytes a field has.

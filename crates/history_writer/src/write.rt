@@ -26,6 +26,7 @@ pub enum WriteFault {
 
 impl WriteFault {
     // The documents' number: 9 or 18.
+    // Kept: the name says which number it is, and `u8::from(fault)` would not.
     pub fn number(self) -> u8
         ensures { result ≡ write_fault_number self }
     {
@@ -76,15 +77,22 @@ fn event_fields(own: u32, e: Event) -> [Field; 6]
 }
 
 // The lines of objects, each with its line feed.
+// Kept: no plainer as one generic type with `EventLines`: a trait of what has a line would have the two functions that differ, and the
+// type's own three would stand beside both impls of it.
 #[derive(Clone, Copy)]
 struct ObjectLines<'a> {
     objects: &'a [Object],
+    ghost few: { length objects.now ≤ 64 },
 }
 
 impl Pieces for ObjectLines<'_> {
+    ghost count = { λ s. length s.objects.now };
+
     ghost piece = { λ s i. object_piece s.objects.now i };
 
-    ghost stands = { λ s i. (i < length s.objects.now) × (i < 64) };
+    fn count(&self) -> usize {
+        self.objects.len()
+    }
 
     fn put_piece(&self, part: &mut [u8], i: usize) -> usize {
         put_fields(part, &object_fields(i as u32, self.objects[i]))
@@ -103,12 +111,17 @@ impl CountedPieces for ObjectLines<'_> {
 #[derive(Clone, Copy)]
 struct EventLines<'a> {
     events: &'a [Event],
+    ghost few: { length events.now ≤ 64 },
 }
 
 impl Pieces for EventLines<'_> {
+    ghost count = { λ s. length s.events.now };
+
     ghost piece = { λ s i. event_piece s.events.now i };
 
-    ghost stands = { λ s i. (i < length s.events.now) × (i < 64) };
+    fn count(&self) -> usize {
+        self.events.len()
+    }
 
     fn put_piece(&self, part: &mut [u8], i: usize) -> usize {
         put_fields(part, &event_fields(i as u32, self.events[i]))
@@ -123,32 +136,30 @@ impl CountedPieces for EventLines<'_> {
     }
 }
 
-// How many bytes the text of a record has.
-fn history_len(h: &History) -> usize
-    requires { (h.now.declared ≤ 16) × (h.now.count ≤ 64) }
-    ensures { result ≡ length (text_bytes h.now) }
-{
-    let objects = ObjectLines {
-        objects: &h.objects,
-    };
-    let events = EventLines { events: &h.events };
-    OBJECT_HEADING.len()
-        + pieces_len(&objects, h.declared)
-        + EVENT_HEADING.len()
-        + pieces_len(&events, h.count)
+// What is written of a record: its objects and its events.
+#[derive(Clone, Copy)]
+struct Lines<'a> {
+    objects: ObjectLines<'a>,
+    events: EventLines<'a>,
 }
 
-// Writes the text of a record into a part that has room.
-fn put_history(part: &mut [u8], h: &History) -> usize
-    requires { (h.now.declared ≤ 16) × (h.now.count ≤ 64) × (length (text_bytes h.now) ≤ length part.old) }
-    ensures { (result ≡ length (text_bytes h.now)) × (part.new ≡ fill (text_bytes h.now) part.old) }
+// How many bytes the whole text has.
+fn history_len(lines: &Lines) -> usize
+    ensures { result ≡ length (text_bytes lines.now.objects.objects.now lines.now.events.events.now) }
 {
-    let objects = ObjectLines {
-        objects: &h.objects,
-    };
-    let events = EventLines { events: &h.events };
-    let k = put_headed(part, OBJECT_HEADING, &objects, h.declared);
-    k + put_headed(&mut part[k..], EVENT_HEADING, &events, h.count)
+    OBJECT_HEADING.len()
+        + pieces_len(&lines.objects)
+        + EVENT_HEADING.len()
+        + pieces_len(&lines.events)
+}
+
+// Writes the whole text into a part that has room.
+fn put_history(part: &mut [u8], lines: &Lines) -> usize
+    requires { length (text_bytes lines.now.objects.objects.now lines.now.events.events.now) ≤ length part.old }
+    ensures { (result ≡ length (text_bytes lines.now.objects.objects.now lines.now.events.events.now)) × (part.new ≡ fill (text_bytes lines.now.objects.objects.now lines.now.events.events.now) part.old) }
+{
+    let k = put_headed(part, OBJECT_HEADING, &lines.objects);
+    k + put_headed(&mut part[k..], EVENT_HEADING, &lines.events)
 }
 
 // Writes the text of a record into the first bytes of a buffer. A record outside its limits (9) and a buffer that is too
@@ -159,10 +170,17 @@ pub fn write_history(buf: &mut [u8], h: History) -> Result<usize, WriteFault>
     if !is_within(h) {
         return Err(WriteFault::OutsideLimits);
     }
-    let n = history_len(&h);
+    let objects = ObjectLines {
+        objects: &h.objects[..h.declared],
+    };
+    let events = EventLines {
+        events: &h.events[..h.count],
+    };
+    let lines = Lines { objects, events };
+    let n = history_len(&lines);
     if buf.len() < n {
         return Err(WriteFault::TooShort);
     }
-    put_history(buf, &h);
+    put_history(buf, &lines);
     Ok(n)
 }

@@ -12,7 +12,6 @@ ghost use Rattle.interface.specs.Steps.{SmallPlace};
 use certificate::record::Criterion;
 use checker::answer::{criterion_in, event_in, number_in, place_in, view_in};
 use checker::check::{Checked, check};
-use history::record::EventNo;
 use history_reader::place::Text;
 use history_reader::read::Refusal;
 
@@ -46,31 +45,11 @@ fn text_number(t: Text) -> u32
 // Kept: the C interface has numbers alone.
 const NONE: u32 = 4294967295;
 
-fn criterion_or_none(c: Option<Criterion>) -> u32
-    ensures { result ≡ or_none (criterion_place (option_in c)) }
+// A number, or what stands for none.
+fn or_none(n: Option<u32>) -> u32
+    ensures { result ≡ or_none (option_in n) }
 {
-    match c {
-        Some(c) => criterion_number(c),
-        None => NONE,
-    }
-}
-
-fn view_or_none(view: Option<u8>) -> u32
-    ensures { result ≡ or_none (option_in view) }
-{
-    match view {
-        Some(view) => u32::from(view),
-        None => NONE,
-    }
-}
-
-fn event_or_none(event: Option<EventNo>) -> u32
-    ensures { result ≡ or_none (found_event event) }
-{
-    match event {
-        Some(event) => u32::from(event.0),
-        None => NONE,
-    }
+    n.unwrap_or(NONE)
 }
 
 // The places of the answer: criterion, text, line, view, event, and the start and the length of the line.
@@ -78,9 +57,9 @@ fn places_of(answer: Result<Checked, Refusal>) -> [u32; 7]
     requires { SmallPlace (verdict_of answer).place }
     ensures { result ≡ places_of (verdict_of answer) }
 {
-    let criterion = criterion_or_none(criterion_in(answer));
-    let view = view_or_none(view_in(answer));
-    let event = event_or_none(event_in(answer));
+    let criterion = or_none(criterion_in(answer).map(|c| criterion_number(c)));
+    let view = or_none(view_in(answer).map(|v| u32::from(v)));
+    let event = or_none(event_in(answer).map(|e| u32::from(e.0)));
     match place_in(answer) {
         Some(place) => {
             let text = text_number(place.text);

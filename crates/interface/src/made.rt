@@ -1,13 +1,14 @@
-// What weakening and one line answer, as a number and a length.
+// What an operation answers, as a number and a length.
 ghost use Rattle.std.specs.Prelude.{◌≡◌, Err};
-ghost use Rattle.weakener.specs.Made.{verdict_made, length_of};
+ghost use Rattle.weakener.specs.Made.{verdict_made};
+ghost use Rattle.interface.specs.Steps.{number_given, length_given};
 
 use checker::answer::number_in;
-use weakener::made::{Made, Unmade};
+use weakener::made::Unmade;
 
 // The documents' number of why no text was made.
 // Kept: the C interface has numbers alone.
-fn unmade_number(unmade: Unmade) -> u32
+pub(crate) fn unmade_number(unmade: Unmade) -> u32
     ensures { result ≡ (verdict_made (Err unmade)).number }
 {
     match unmade {
@@ -19,19 +20,19 @@ fn unmade_number(unmade: Unmade) -> u32
     }
 }
 
-// The documents' number of the answer, and the length of the text, 0 where none was made.
-pub(crate) fn give(made: Result<Made, Unmade>, length: &mut u64) -> u32
-    ensures number { result ≡ (verdict_made made).number }
-    ensures length { length.new ≡ length_of made }
+// The answer of an operation as the documents' number, 0 where there is a text, and the length of the text, 0 where there is none.
+// Kept: the C interface has a number and a length.
+pub(crate) fn give(answer: Result<usize, u32>, length: &mut u64) -> u32
+    ensures { (result ≡ number_given answer) × (length.new ≡ length_given answer) }
 {
-    match made {
-        Ok(made) => {
-            *length = made.length as u64;
+    match answer {
+        Ok(n) => {
+            *length = n as u64;
             0
         }
-        Err(unmade) => {
+        Err(number) => {
             *length = 0;
-            unmade_number(unmade)
+            number
         }
     }
 }

@@ -1,38 +1,22 @@
 // A text read, and written back from its record: the bytes that were read.
 ghost use Rattle.std.specs.Prelude.{◌≡◌};
-ghost use Rattle.history.specs.Faults.{fault_number};
-ghost use Rattle.history_writer.specs.WriteHistory.{written_of};
 ghost use Rattle.history_reader.specs.ReadHistory.{read_history};
 ghost use Rattle.certificate_reader.specs.ReadCertificate.{read_certificate};
+ghost use Rattle.history_writer.specs.WriteHistory.{written_of};
 ghost use Rattle.interface.specs.Rewrite.{rewritten, rewritten_bytes, rewritten_length};
+ghost use Rattle.interface.specs.Steps.{number_given, length_given};
 
+use crate::made::give;
 use certificate_reader::read::read_certificate;
 use certificate_writer::write::write_certificate;
 use history_reader::read::{Refusal, read_history};
 use history_writer::write::{WriteFault, write_history};
 
-// What a writer answers, as a number and a length.
-fn give(written: Result<usize, WriteFault>, length: &mut u64) -> u32
-    ensures { (result ≡ (written_of written).number) × (length.new ≡ (written_of written).length) }
+// What a writer answers, its refusal as the documents' number.
+fn numbered(written: Result<usize, WriteFault>) -> Result<usize, u32>
+    ensures { (number_given result ≡ (written_of written).number) × (length_given result ≡ (written_of written).length) }
 {
-    match written {
-        Ok(n) => {
-            *length = n as u64;
-            0
-        }
-        Err(fault) => {
-            *length = 0;
-            u32::from(fault.number())
-        }
-    }
-}
-
-// The number of a reading refusal, and no length.
-fn refuse(refusal: Refusal, length: &mut u64) -> u32
-    ensures { (result ≡ fault_number refusal.fault) × (length.new ≡ 0) }
-{
-    *length = 0;
-    u32::from(refusal.fault.number())
+    written.map_err(|fault| u32::from(fault.number()))
 }
 
 // A history text, into a lent buffer.
@@ -40,8 +24,8 @@ pub fn walnutgleam_rewrite_history(history: &[u8], buffer: &mut [u8], length: &m
     ensures { (result ≡ rewritten (read_history history.now).fault history.now buffer.old) × (buffer.new ≡ rewritten_bytes (read_history history.now).fault history.now buffer.old) × (length.new ≡ rewritten_length (read_history history.now).fault history.now buffer.old) }
 {
     match read_history(history) {
-        Ok(record) => give(write_history(buffer, record), length),
-        Err(refusal) => refuse(refusal, length),
+        Ok(record) => give(numbered(write_history(buffer, record)), length),
+        Err(refusal) => give(Err(u32::from(refusal.fault.number())), length),
     }
 }
 
@@ -56,10 +40,10 @@ pub fn walnutgleam_rewrite_certificate(
 {
     let mut rows = [[0u8; 64]; 64];
     match read_certificate(history, certificate, &mut rows) {
-        Ok(read) => give(
-            write_certificate(buffer, read.history, read.certificate, &rows),
-            length,
-        ),
-        Err(unread) => refuse(Refusal::from(unread), length),
+        Ok(read) => {
+            let written = write_certificate(buffer, read.history, read.certificate, &rows);
+            give(numbered(written), length)
+        }
+        Err(unread) => give(Err(u32::from(Refusal::from(unread).fault.number())), length),
     }
 }

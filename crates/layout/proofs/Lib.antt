@@ -1,8 +1,10 @@
 pub mod Cases
 pub mod SplitLaws
 pub mod WordLaws
+pub mod TableLaws
 pub mod NumberLaws
 pub mod SpellLaws
+pub mod LeadingLaws
 pub mod StandsLaws
 pub mod FillLaws
 pub mod PiecesLaws

@@ -4,17 +4,19 @@ use native.Mathlib.Nat.{add-zero, zero-add, not-suc-le-zero, le_of_suc-le-suc}
 use native.Mathlib.Omega.{arith}
 use mathlib.Core.Path.{◌≡◌, refl, sym, ap, ◌∙◌}
 use mathlib.Core.Bool.{true, false, cond}
-use mathlib.Core.List.{List, [], ◌∷◌, ◌++◌, map}
-use lib.ListN.{length, get_or, take, drop, set, length-set, length-map}
-use lib.Seq.{take_at}
+use mathlib.Core.List.{List, [], ◌∷◌, map}
+use native.Mathlib.Numerals.{add-one}
+use lib.ListN.{length, get_or, drop, set, length-set, length-map, drop_of_length-le}
+use lib.Seq.{drop-cons}
 use lib.Dec.{leb, ltb}
 use borrow.Author.Tests.{le-leb, lt-leb, lt-ltb, le-ltb, leb-true, ltb-true}
 use Rattle.std.specs.Prelude.{Result, Ok, Err}
+use Rattle.std.specs.Array.{list_steps}
+use Rattle.std.proofs.lemmas.Iterator.{YieldsList}
+use Rattle.std.proofs.lemmas.Iterator.Consumers.{YieldsList-from_shown}
 use Rattle.layout.specs.declared.number.NumberFault.TheVariants as number
 use Rattle.layout.specs.declared.list.ListFault.{ListFault}
 use Rattle.layout.specs.declared.list.ListFault.TheVariants.{NotList, Over, Many}
-use Rattle.layout.specs.Split.{split}
-use Rattle.layout.specs.Word.{same, dash}
 use Rattle.layout.specs.Number.{is_number, value, number_of}
 use Rattle.layout.specs.Fill.{fill}
 use Rattle.layout.specs.List.{items_of, all_numbers, all_below, judged, list_of, numbers_of, leading}
@@ -126,41 +128,31 @@ module _ (bound max : ℕ) where
       → places_from bound max (Ok 0) ps xs ≡ fill (leading bound max ps) xs
   places-are ps xs h = places-listed 0 max ps xs (zero-add max) h ∙ fill_at-zero (leading bound max ps) xs
 
--- ---- a turn of the loop that reads items: p is the next one, and its answer q and the places ys are taken up
-module _ (bound max : ℕ) (r : Result ℕ ListFault) (xs p : List ℕ) (fs : List (List ℕ)) (h : length xs ≡ max)
-    (q : Result ℕ ListFault) (read : q ≡ pushed bound (length xs) r p) (ys : List ℕ) (held : ys ≡ kept bound r p xs) where
-  pub turn-more : (ps : List (List ℕ)) → fs ≡ p ∷ ps
-      → (answer_from bound max r fs ≡ answer_from bound max q ps) × (places_from bound max r fs xs ≡ places_from bound max q ps ys)
+-- ---- the loop that reads items, which has read n of them
+-- a turn: p is the next one, and its answer q and the places ys are taken up
+module _ (bound max : ℕ) (r : Result ℕ ListFault) (xs : List ℕ) (fs : List (List ℕ)) (n : ℕ) where
+  pub turn-more : (p : List ℕ) → n < length fs → p ≡ get_or fs n p → length xs ≡ max
+      → (q : Result ℕ ListFault) → q ≡ pushed bound (length xs) r p → (ys : List ℕ) → ys ≡ kept bound r p xs
+      → (answer_from bound max r (drop n fs) ≡ answer_from bound max q (drop (n + 1) fs))
+      × (places_from bound max r (drop n fs) xs ≡ places_from bound max q (drop (n + 1) fs) ys)
   unfolding answer_from places_from
-  turn-more ps e = rw (e, read, held, h) (refl, refl)
+  turn-more p l e h q read ys held = rw (add-one, drop-cons fs n p l, ← e, read, held, h) (refl, refl)
 
-  pub turn_last : fs ≡ p ∷ [] → (answer_from bound max r fs ≡ q) × (places_from bound max r fs xs ≡ ys)
+  -- the end: none is left
+  pub turn_end : n ≡ length fs → (answer_from bound max r (drop n fs) ≡ r) × (places_from bound max r (drop n fs) xs ≡ xs)
   unfolding answer_from places_from
-  turn_last e = rw (e, read, held, h) (refl, refl)
+  turn_end e = rw (drop_of_length-le fs {i = n} (omega arith)) (refl, refl)
 
-leading-empty : (bound max : ℕ) → leading bound max [] ≡ []
+pub leading_empty : (bound max : ℕ) → leading bound max [] ≡ []
 unfolding leading
-leading-empty bound zero = refl
-leading-empty bound (suc max) = refl
+leading_empty bound zero = refl
+leading_empty bound (suc max) = refl
+
+-- ---- an array whose elements are taken one after the other
+pub yields_items : (xs : List ℕ) → YieldsList list_steps (λ (x : ℕ). x) xs xs
+yields_items xs = YieldsList-from_shown list_steps (λ (x : ℕ). x) (λ (s : List ℕ). s) (λ s t e. ap length e) (λ s x t e. e) xs
 
 -- ---- a field as a list
-module _ (bound max : ℕ) (f : List ℕ) where
-  pub list-none : same f dash ≡ true → list_of bound max f ≡ Ok 0
-  unfolding list_of items_of judged all_numbers all_below
-  list-none e = rw (e, le-leb 0 max zero-le)
-
-  pub leading-none : same f dash ≡ true → leading bound max (items_of f) ≡ []
-  unfolding items_of
-  leading-none e = rw e (leading-empty bound max)
-
-  pub list-items : same f dash ≡ false → list_of bound max f ≡ judged bound max (split 44 f)
-  unfolding list_of items_of
-  list-items e = rw e
-
-  pub leading-items : same f dash ≡ false → leading bound max (items_of f) ≡ leading bound max (split 44 f)
-  unfolding items_of
-  leading-items e = rw e
-
 -- what a field is that is a list of n numbers
 pub record IsList (bound max n : ℕ) (f : List ℕ) : Type 0 where
   pub numbers : all_numbers (items_of f) ≡ true
@@ -255,11 +247,3 @@ module _ {bound max n : ℕ} {f : List ℕ} (i : IsList bound max n f) where
   pub numbers-below : (k : ℕ) → k < n → get_or (numbers_of f) k 0 < bound
   unfolding numbers_of
   numbers-below k h = below_at bound (items_of f) k i.small (omega (arith, i.count))
-
-  -- the reader keeps them in the first places
-  pub numbers-kept : (xs ys : List ℕ) → xs ≡ fill (leading bound max (items_of f)) ys → take n xs ≡ numbers_of f
-  unfolding fill
-  numbers-kept xs ys e =
-      let l = leading-numbers bound max n f i in
-      ap (take n) (e ∙ ap (λ (t : List ℕ). t ++ drop (length t) ys) l)
-      ∙ take_at (numbers_of f) (drop (length (numbers_of f)) ys) n numbers-count

@@ -1,10 +1,11 @@
 -- Laws of a list's text. Assumes nothing.
-use Prim.Native.Nat.{ℕ, suc, ◌+◌, ◌≤◌, ◌<◌}
+use Prim.Native.Nat.{ℕ, suc, ◌+◌, ◌-◌, ◌≤◌, ◌<◌}
 use native.Mathlib.Numerals.{add-one}
 use native.Mathlib.Omega.{arith}
 use mathlib.Core.Path.{◌≡◌, refl, sym, ap, ◌∙◌}
 use mathlib.Core.List.{List, [], ◌∷◌, ◌++◌, map, append_assoc, append-nil}
-use lib.ListN.{length, get_or, drop, length-append, drop_of_length-le}
+use lib.ListN.{length, get_or, take, drop, length-append, length-map, drop_of_length-le}
+use Rattle.std.proofs.lemmas.List.{get_or-map, drop-map}
 use lib.Seq.{drop-cons}
 use Rattle.layout.specs.Split.{join}
 use Rattle.layout.specs.Word.{dash}
@@ -12,7 +13,7 @@ use Rattle.layout.specs.Number.{spell}
 use Rattle.layout.specs.List.{list_text}
 use Rattle.layout.specs.Fill.{fill}
 use Rattle.layout.specs.Steps.List.{tail_text}
-use Rattle.layout.proofs.FillLaws.{Writing, writing-first}
+use Rattle.layout.proofs.FillLaws.{Writing, writing-first, tail-part}
 
 pub list-none : list_text [] ≡ dash
 unfolding list_text
@@ -55,6 +56,23 @@ module _ (items : List ℕ) (i : ℕ) (h : i < length items) where
 pub tail-end : (items : List ℕ) (i : ℕ) → length items ≤ i → tail_text (drop i items) ≡ []
 tail-end items i h = ap tail_text (drop_of_length-le items h) ∙ tail_none
 
+-- ---- the same of items, whose numbers are written: n is that of the item d at the place i
+module _ {T : Type 0} (number : T → ℕ) (items : List T) (i : ℕ) (h : i < length items) (d : T) (is : d ≡ get_or items i d) (n : ℕ) (e : n ≡ number d) where
+  inside : i < length (map number items)
+  inside = omega (arith, h, length-map items number)
+
+  numbered : get_or (map number items) i 0 ≡ n
+  numbered = get_or-map number items i d 0 h ∙ sym (e ∙ ap number is)
+
+  pub item_at : tail_text (drop i (map number items)) ≡ (44 ∷ spell n) ++ tail_text (drop (i + 1) (map number items))
+  item_at = rw numbered at (tail_at (map number items) i inside)
+
+  pub item-long : length (tail_text (drop i (map number items))) ≡ length (spell n) + 1 + length (tail_text (drop (i + 1) (map number items)))
+  item-long = rw numbered at (tail-long (map number items) i inside)
+
+pub items-end : {T : Type 0} (number : T → ℕ) (items : List T) (i : ℕ) → length items ≤ i → tail_text (drop i (map number items)) ≡ []
+items-end number items i h = tail-end (map number items) i (omega (arith, h, length-map items number))
+
 -- ---- the whole list
 pub list-empty : (items : List ℕ) → length items ≡ 0 → list_text items ≡ dash
 list-empty [] h = list-none
@@ -67,14 +85,24 @@ module _ (items : List ℕ) (h : 0 < length items) where
   pub list-long : length (list_text items) ≡ length (spell (get_or items 0 0)) + length (tail_text (drop 1 items))
   list-long = ap length list_at ∙ length-append (spell (get_or items 0 0)) (tail_text (drop 1 items))
 
-  -- once the first number is written, the others are left
-  pub list_begun : (b : List ℕ) → length (list_text items) ≤ length b → (k : ℕ) (b₁ : List ℕ)
-      → k ≡ length (spell (get_or items 0 0)) → b₁ ≡ fill (spell (get_or items 0 0)) b
-      → Writing (list_text items) b (tail_text (drop 1 items)) b₁ k
-  list_begun b room k b₁ = writing-first (list_text items) b (spell (get_or items 0 0)) (tail_text (drop 1 items)) room list_at k b₁
-
   pub tail-list : tail_text items ≡ 44 ∷ list_text items
   tail-list =
       ap tail_text (drop-cons items 0 0 h)
       ∙ tail-some (get_or items 0 0) (drop 1 items)
       ∙ ap (λ (l : List ℕ). 44 ∷ l) (sym list_at)
+
+-- ---- the whole list of items, whose numbers are written: n is that of the first one
+pub items-empty : {T : Type 0} (number : T → ℕ) (items : List T) → length items ≡ 0 → list_text (map number items) ≡ dash
+items-empty number items h = list-empty (map number items) (length-map items number ∙ h)
+
+pub items-rest : {T : Type 0} (number : T → ℕ) (items : List T) → map number (take (length items - 1) (drop 1 items)) ≡ drop 1 (map number items)
+items-rest number items = rw (tail-part items 1) (sym (drop-map number 1 items))
+
+module _ {T : Type 0} (number : T → ℕ) (items : List T) (h : 0 < length items) (d : T) (is : d ≡ get_or items 0 d) (n : ℕ) (e : n ≡ number d) where
+  pub items_at : list_text (map number items) ≡ spell n ++ tail_text (drop 1 (map number items))
+  items_at = rw (numbered number items 0 h d is n e) at (list_at (map number items) (inside number items 0 h d is n e))
+
+  -- once the first number is written, the others are left
+  pub items_begun : (b : List ℕ) → length (list_text (map number items)) ≤ length b → (k : ℕ) (b₁ : List ℕ) → k ≡ length (spell n)
+      → b₁ ≡ fill (spell n) b → Writing (list_text (map number items)) b (tail_text (drop 1 (map number items))) b₁ k
+  items_begun b room k b₁ = writing-first (list_text (map number items)) b (spell n) (tail_text (drop 1 (map number items))) room items_at k b₁

@@ -1,7 +1,7 @@
 -- Laws of numbers as they are read. Assumes nothing.
 use Prim.Native.Nat.{ℕ, suc, ◌+◌, ◌-◌, ◌*◌, ◌≤◌, ◌<◌}
 use Rattle.std.proofs.Common.{one-add}
-use native.Mathlib.Nat.{le_trans, le_refl, not-suc-le-zero, le_of_suc-le-suc, suc-ne-zero, suc_inj}
+use native.Mathlib.Nat.{le_trans, le_refl, suc-ne-zero}
 use native.Mathlib.Numerals.{add-one}
 use native.Mathlib.Omega.{arith}
 use mathlib.Core.Path.{◌≡◌, refl, sym, ap, ◌∙◌}
@@ -9,7 +9,7 @@ use mathlib.Core.Bool.{true, false, not}
 use mathlib.Core.List.{List, [], ◌∷◌}
 use lib.ListN.{length, get_or, take, drop, drop_of_length-le, length-take, length-drop}
 use lib.Seq.{drop-cons}
-use lib.Dec.{eqb, leb}
+use lib.Dec.{leb}
 use borrow.Author.Tests.{le-leb, lt-leb, lt-ltb, le-ltb, leb-true}
 use Rattle.std.specs.Prelude.{Ok, Err}
 use Rattle.layout.specs.declared.number.NumberFault.TheVariants.{NotNumber, Over}
@@ -117,18 +117,6 @@ pub starts_none : (p : List ℕ) → length p ≡ 0 → starts_well p ≡ false
 unfolding starts_well
 starts_none [] h = refl
 starts_none (a ∷ p) h = absurd (suc-ne-zero (length p) h)
-
-pub starts-one : (p : List ℕ) → length p ≡ 1 → starts_well p ≡ true
-unfolding starts_well
-starts-one [] h = absurd (suc-ne-zero 0 (sym h))
-starts-one (a ∷ []) h = refl
-starts-one (a ∷ b ∷ p) h = absurd (suc-ne-zero (length p) (suc_inj h))
-
-pub starts_more : (p : List ℕ) → 1 < length p → starts_well p ≡ not (eqb (get_or p 0 0) 48)
-unfolding starts_well
-starts_more [] h = absurd (not-suc-le-zero h)
-starts_more (a ∷ []) h = absurd (not-suc-le-zero (le_of_suc-le-suc h))
-starts_more (a ∷ b ∷ p) h = refl
 
 module _ (s : List ℕ) (a e : ℕ) (from : a ≤ e) (to : e ≤ length s) where
   pub cut-long : length (take (e - a) (drop a s)) ≡ e - a

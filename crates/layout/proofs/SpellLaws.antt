@@ -77,10 +77,10 @@ spell-rest n r = spell-append n [] r
 spell-length : (n : ℕ) (r : List ℕ) → length (spell_before n r) ≡ length (spell n) + length r
 spell-length n r = rw (spell-rest n r) (length-append (spell n) r)
 
-pub length-low : (n : ℕ) → n < 10 → length (spell n) ≡ 1
+length-low : (n : ℕ) → n < 10 → length (spell n) ≡ 1
 length-low n h = ap length (spell-low n [] h)
 
-pub length_high : (n : ℕ) → 10 ≤ n → length (spell n) ≡ length (spell (n / 10)) + 1
+length_high : (n : ℕ) → 10 ≤ n → length (spell n) ≡ length (spell (n / 10)) + 1
 length_high n h = ap length (spell_high n [] h) ∙ spell-length (n / 10) ((48 + n % 10) ∷ [])
 
 -- a number below 10 ^ (k + 1) has at most k + 1 digits
@@ -90,6 +90,25 @@ spell-short (suc k) n h =
     by-lt n 10
     (λ q. omega (arith, length-low n q))
     (λ q. omega (arith, length_high n q, spell-short k (n / 10) (omega (arith, pow-suc 10 (suc k)))))
+
+ten-power : (k : ℕ) → 0 < 10 ^ k
+ten-power zero = omega arith
+ten-power (suc k) = omega (arith, pow-suc 10 k, ten-power k)
+
+-- a number that is not below 10 ^ k has at least k + 1 digits
+spell-long : (k n : ℕ) → 10 ^ k ≤ n → suc k ≤ length (spell n)
+spell-long zero n h = by-lt n 10 (λ q. omega (arith, length-low n q)) (λ q. omega (arith, length_high n q))
+spell-long (suc k) n h =
+    let p = pow-suc 10 k in
+    let q : 10 ≤ n = omega (arith, ten-power k) in
+    omega (arith, length_high n q, spell-long k (n / 10) (omega arith))
+
+-- the digits of 0, and of a number between two powers of ten
+pub spell_none : length (spell 0) ≡ 1
+spell_none = length-low 0 (omega arith)
+
+pub spell_counted : (k n : ℕ) → 10 ^ k ≤ n → n < 10 * 10 ^ k → length (spell n) ≡ k + 1
+spell_counted k n h l = omega (arith, spell-long k n h, spell-short k n (omega (arith, pow-suc 10 k)))
 
 -- ---- the value of a spelling
 value_before : (n : ℕ) (r : List ℕ) → value_from 0 (spell_before n r) ≡ value_from n r
@@ -190,14 +209,14 @@ module _ (n : ℕ) (f : List ℕ) where
   not-spelling : (value f ≡ n → ⊥) → same f (spell n) ≡ false
   not-spelling h = same_false f (spell n) (λ e. h (ap (value_from 0) e ∙ value-spell n))
 
-  pub own-not : number_of (n + 1) f ≡ Err NotNumber → same f (spell n) ≡ false
+  own-not : number_of (n + 1) f ≡ Err NotNumber → same f (spell n) ≡ false
   own-not q =
       same_false f (spell n) (λ e. false≢true (sym (not-number (n + 1) f q) ∙ ap is_number e ∙ number-spell n))
 
-  pub own-over : number_of (n + 1) f ≡ Err Over → same f (spell n) ≡ false
+  own-over : number_of (n + 1) f ≡ Err Over → same f (spell n) ≡ false
   own-over q = not-spelling (λ e. omega (arith, (over-number (n + 1) f q).1))
 
-  pub own_value : (v : ℕ) → number_of (n + 1) f ≡ Ok v → eqb v n ≡ same f (spell n)
+  own_value : (v : ℕ) → number_of (n + 1) f ≡ Ok v → eqb v n ≡ same f (spell n)
   own_value v q =
       let t = value-number (n + 1) f v q in
       by-eq v n
@@ -206,10 +225,10 @@ module _ (n : ℕ) (f : List ℕ) where
       (λ e. rw (ne_eqb v n e) (sym (not-spelling (λ k. e (sym t.1 ∙ k)))))
 
   -- what is read is the number itself
-  pub own-is : (E : NumberFault → NumberFault → Bool) (q : Result ℕ NumberFault) → q ≡ number_of (n + 1) f → result_eq eqb E q (Ok n) ≡ same f (spell n)
-  own-is E (Ok v) q = own_value v (sym q)
-  own-is E (Err NotNumber) q = sym (own-not (sym q))
-  own-is E (Err Over) q = sym (own-over (sym q))
+  pub own_is : (E : NumberFault → NumberFault → Bool) (q : Result ℕ NumberFault) → q ≡ number_of (n + 1) f → result_eq eqb E q (Ok n) ≡ same f (spell n)
+  own_is E (Ok v) q = own_value v (sym q)
+  own_is E (Err NotNumber) q = sym (own-not (sym q))
+  own_is E (Err Over) q = sym (own-over (sym q))
 
 -- ---- a loop that writes the digits from the last one on
 pub last-spell : (n : ℕ) (r : List ℕ) → last_digits (length (spell n)) n r ≡ spell_before n r

@@ -10,8 +10,10 @@ use mathlib.Core.List.{List, [], ◌∷◌, ◌++◌}
 use lib.ListN.{length, get_or, take, drop, length-drop, drop_of_length-le}
 use lib.Seq.{drop-drop, take_all, length-take-le}
 use lib.Dec.{eqb}
-use borrow.Author.Tests.{eq-eqb, ne_eqb, not-true, lt-ltb, le-ltb}
-use Rattle.std.specs.List.{position_or_len}
+use borrow.Author.Tests.{eq-eqb, eqb-true, ne_eqb, not-true, lt-ltb, le-ltb}
+use Rattle.std.specs.Prelude.{Option, Some, None, MatchOption}
+use Rattle.std.specs.Option.{unwrap_or}
+use Rattle.std.specs.List.{position, position_or_len, slice_split, onto_first}
 use Rattle.layout.specs.Split.{find, on_first, split, join, part_start}
 use Rattle.layout.proofs.FillLaws.{tail-part}
 use Rattle.layout.proofs.Cases.{by_bool, by-eq, by-lt, and_left, and_right}
@@ -34,6 +36,19 @@ unfolding find
 find-le b [] = zero-le
 find-le b (x ∷ xs) = find-le-by (eqb x b) _ _ (find-le b xs)
 
+-- the place that the library finds
+pub place-found : (b : ℕ) (s : List ℕ) (r : Option ℕ) → r ≡ position (λ x. eqb x b) s
+    → MatchOption r (find b s ≡ length s) (λ e. (e ≡ find b s) × (e < length s))
+place-found b s r q =
+    by-lt (find b s) (length s)
+    (λ h. rw (q, ← find_is_position b s, lt-ltb (find b s) (length s) h) (refl, h))
+    (λ h. rw (q, ← find_is_position b s, le-ltb (find b s) (length s) h) (omega (arith, find-le b s)))
+
+pub place_or-length : (b : ℕ) (s : List ℕ) (r : Option ℕ) → MatchOption r (find b s ≡ length s) (λ e. (e ≡ find b s) × (e < length s))
+    → unwrap_or r (length s) ≡ find b s
+place_or-length b s None q = sym q
+place_or-length b s (Some e) q = q.0
+
 -- the first part, and the parts of the rest, where b occurs
 split-more-by : (b x : ℕ) (xs : List ℕ) (t : Bool)
     → (find b xs < length xs → split b xs ≡ take (find b xs) xs ∷ split b (drop (suc (find b xs)) xs))
@@ -49,6 +64,23 @@ pub split-more : (b : ℕ) (s : List ℕ) → find b s < length s
 unfolding find split
 split-more b [] h = absurd (not-suc-le-zero h)
 split-more b (x ∷ xs) h = split-more-by b x xs (eqb x b) (split-more b xs) h
+
+-- the whole: the first part, its b, and what is behind it
+split_whole-by : (b x : ℕ) (xs : List ℕ) (t : Bool) → eqb x b ≡ t
+    → (find b xs < length xs → xs ≡ take (find b xs) xs ++ b ∷ drop (suc (find b xs)) xs)
+    → cond t 0 (suc (find b xs)) < suc (length xs)
+    → x ∷ xs ≡ take (cond t 0 (suc (find b xs))) (x ∷ xs) ++ b ∷ drop (suc (cond t 0 (suc (find b xs)))) (x ∷ xs)
+split_whole-by b x xs true e ih h = ap (λ (y : ℕ). y ∷ xs) (eqb-true x b e)
+split_whole-by b x xs false e ih h = ap (λ (l : List ℕ). x ∷ l) (ih (le_of_suc-le-suc h))
+
+split_whole : (b : ℕ) (s : List ℕ) → find b s < length s → s ≡ take (find b s) s ++ b ∷ drop (suc (find b s)) s
+unfolding find
+split_whole b [] h = absurd (not-suc-le-zero h)
+split_whole b (x ∷ xs) h = split_whole-by b x xs (eqb x b) refl (split_whole b xs) h
+
+-- what `split_once` tells of the whole
+pub once-whole : (b : ℕ) (s p q : List ℕ) → find b s < length s → p ≡ take (find b s) s → q ≡ drop (find b s + 1) s → s ≡ p ++ b ∷ q
+once-whole b s p q h e f = rw (e, f, add-one) (split_whole b s h)
 
 -- the one part, where b does not occur
 split-last-by : (b x : ℕ) (xs : List ℕ) (t : Bool)
@@ -87,6 +119,29 @@ module _ (b : ℕ) (s : List ℕ) (a e : ℕ) (found : e ≡ a + find b (drop a 
   cut-last h =
       split-last b (drop a s) (omega (arith, length-drop a s))
       ∙ ap (λ (l : List ℕ). l ∷ []) (sym (take_all (e - a) (drop a s) (omega (arith, length-drop a s))))
+
+-- ---- the first part of what is left from the place a on, as `split_once` tells it of `&s[a..]`: where it ends, and what it is
+abbrev pub PartTold : ℕ → List ℕ → ℕ → List ℕ → Type 0
+PartTold b s a part =
+    (a + length part ≡ a + find b (drop a s)) × (a + length part < length s) × (part ≡ take (a + length part - a) (drop a s))
+
+part_told-by : (b : ℕ) (s : List ℕ) (a : ℕ) (part : List ℕ) → a ≤ length s → find b (drop a s) < length (drop a s)
+    → part ≡ take (find b (drop a s)) (drop a s) → PartTold b s a part
+part_told-by b s a part from some first =
+    let n : length part ≡ find b (drop a s) = ap length first ∙ length-take-le (find b (drop a s)) (drop a s) (omega arith) in
+    let k : find b (drop a s) ≡ a + length part - a = omega arith in
+    (omega (arith, n), omega (arith, n, length-drop a s), first ∙ ap (λ (m : ℕ). take m (drop a s)) k)
+
+pub part-told : (b : ℕ) (s : List ℕ) (a : ℕ) (part : List ℕ) → a ≤ length s
+    → find b (take (length s - a) (drop a s)) < length (take (length s - a) (drop a s))
+    → part ≡ take (find b (take (length s - a) (drop a s))) (take (length s - a) (drop a s)) → PartTold b s a part
+part-told b s a part from some first =
+    let t = tail-part s a in part_told-by b s a part from (rw t at some) (rw t at first)
+
+-- there is none, and the rest is the last
+pub part-last : (b : ℕ) (s : List ℕ) (a : ℕ) → a ≤ length s → find b (take (length s - a) (drop a s)) ≡ length (take (length s - a) (drop a s))
+    → length s ≡ a + find b (drop a s)
+part-last b s a from none = omega (arith, rw (tail-part s a) at none, length-drop a s)
 
 -- ---- the part with a number
 get_or-pred : (p : List ℕ) (l : List (List ℕ)) (j : ℕ) → 0 < j → get_or (p ∷ l) j [] ≡ get_or l (j - 1) []
@@ -220,6 +275,20 @@ pub split-some : (b : ℕ) (s : List ℕ) → 0 < length (split b s)
 unfolding split
 split-some b [] = suc-le-suc zero-le
 split-some b (x ∷ s) = split-some-by x (split b s) (eqb x b) (split-some b s)
+
+-- the same by a name that an attribute of a function can write
+pub ruleset some_part = (split-some)
+
+-- `split` is the library's word
+on_first_is : (x : ℕ) (ps : List (List ℕ)) → 0 < length ps → onto_first x ps ≡ on_first x ps
+unfolding on_first
+on_first_is x [] h = absurd (not-suc-le-zero h)
+on_first_is x (p ∷ ps) h = refl
+
+pub split_is : (b : ℕ) (s : List ℕ) → slice_split (λ x. eqb x b) s ≡ split b s
+unfolding split
+split_is b [] = refl
+split_is b (x ∷ s) = rw (split_is b s, on_first_is x (split b s) (split-some b s))
 
 join-skip : (b : ℕ) (l : List (List ℕ)) → 0 < length l → join b ([] ∷ l) ≡ b ∷ join b l
 unfolding join

@@ -1,20 +1,17 @@
 -- Laws of a field at a place of a text. Assumes nothing.
 use Prim.Native.Nat.{ℕ, ◌+◌, ◌-◌, ◌≤◌, ◌<◌}
-use native.Mathlib.Numerals.{add-one}
 use native.Mathlib.Omega.{arith}
 use mathlib.Core.Path.{◌≡◌, refl, sym, ap, ◌∙◌, subst}
 use mathlib.Core.Bool.{Bool, true, false, false≢true}
 use mathlib.Core.List.{List, [], ◌∷◌, ◌++◌, append_assoc}
-use lib.ListN.{length, get_or, take, drop, length-append, length-drop, take-append-drop}
-use lib.Seq.{drop-cons, drop-drop, take_all}
-use Rattle.std.specs.Result.{result_ok}
+use lib.ListN.{length, take, drop, length-append, length-drop, take-append-drop}
+use lib.Seq.{drop-drop, take_all}
 use Rattle.std.specs.Prelude.{Option, Some, None, Result, Ok, Err}
-use Rattle.layout.specs.declared.at.At.{At}
 use Rattle.layout.specs.declared.number.NumberFault.{NumberFault}
 use Rattle.layout.specs.Word.{same}
 use Rattle.layout.specs.Number.{is_number, value, number_of, spell}
 use Rattle.layout.specs.Steps.Number.{digits}
-use Rattle.layout.specs.Steps.Stands.{Stands, stands_at, told_at, number_at, spaced, spaced_number}
+use Rattle.layout.specs.Steps.Stands.{Stands, NumberAt, stands_at, told_at, number_at, spaced, spaced_number}
 use Rattle.layout.proofs.Cases.{by_bool, by-lt, by-eq}
 use Rattle.layout.proofs.WordLaws.{same_true, same_false}
 use Rattle.layout.proofs.NumberLaws.{digits-prefix, digits-few, starts_none, number-starts, value-number}
@@ -30,13 +27,6 @@ stands-between s from end p q =
           sym (take-append-drop (end - from) (drop from s))
           ∙ ap (λ (l : List ℕ). take (end - from) (drop from s) ++ l) (drop-drop (end - from) from s ∙ ap (λ (i : ℕ). drop i s) k);
     }
-
--- what stands at a place, and the rest behind it
-pub at-cons : (s : List ℕ) (a : ℕ) → a < length s → drop a s ≡ get_or s a 0 ∷ drop (a + 1) s
-at-cons s a h = rw add-one (drop-cons s a 0 h)
-
-pub byte-stands : (s : List ℕ) (a b : ℕ) → a < length s → get_or s a 0 ≡ b → Stands (b ∷ []) a (a + 1) s
-byte-stands s a b h e = record { inside = omega arith; whole = rw e at (at-cons s a h) }
 
 -- one behind the other
 pub stands-then : {f g s : List ℕ} {a b c : ℕ} → Stands f a b s → Stands g b c s → Stands (f ++ g) a c s
@@ -82,11 +72,11 @@ module _ (s w : List ℕ) (from : ℕ) where
 
 -- ---- a number at a place
 -- what is told there is the field's value, up to the field's end
-told-some : (from n : ℕ) (q : Result ℕ NumberFault) (r : At ℕ) → Some r ≡ told_at from n q
+told-some : (from n : ℕ) (q : Result ℕ NumberFault) (r : NumberAt) → Some r ≡ told_at from n q
     → (v : ℕ) × (q ≡ Ok v) × (r.value ≡ v) × (r.end ≡ from + n)
 told-some from n (Ok v) r e =
     let t : r ≡ record { value = v; end = from + n } = cc in
-    (v, refl, ap (λ (a : At ℕ). a.value) t, ap (λ (a : At ℕ). a.end) t)
+    (v, refl, ap (λ (a : NumberAt). a.value) t, ap (λ (a : NumberAt). a.end) t)
 told-some from n (Err f) r e = absurd (cc)
 
 module _ (s : List ℕ) (from bound : ℕ) where
@@ -103,7 +93,7 @@ module _ (s : List ℕ) (from bound : ℕ) where
       (stands-between s from (from + length ds) (omega arith)
       (by-eq (length ds) 0 (λ z. absurd (some z)) (λ z. omega (arith, few, length-drop from s))))
 
-  module _ (r : At ℕ) (q : Some r ≡ number_at bound from s) where
+  module _ (r : NumberAt) (q : Some r ≡ number_at bound from s) where
     told : (is_number (digits (drop from s)) ≡ true) × (value (digits (drop from s)) ≡ r.value) × (r.value < bound) × (r.end ≡ from + length (digits (drop from s)))
     unfolding number_at
     told =
@@ -114,37 +104,9 @@ module _ (s : List ℕ) (from bound : ℕ) where
     pub number-stands : Stands (spell r.value) from r.end s
     number-stands = rw (← told.1, told.3) (digits-stand told.0)
 
-  -- what is read up to where the digits end is what is told
-  module _ (n e : ℕ) (long : n ≡ length (digits (drop from s))) (ends : e ≡ from + n) (q : Result ℕ NumberFault)
-      (read : q ≡ number_of bound (take (e - from) (drop from s))) where
-    read-digits : q ≡ number_of bound (digits (drop from s))
-    read-digits =
-        let k : e - from ≡ length (digits (drop from s)) = omega arith in
-        read ∙ ap (λ (m : ℕ). number_of bound (take m (drop from s))) k ∙ ap (number_of bound) (digits-prefix (drop from s))
-
-    told-is : number_at bound from s ≡ told_at from n q
-    unfolding number_at
-    told-is = rw (← long, ← read-digits)
-
-    told-no : (r : Result ℕ NumberFault) → None ≡ result_ok r → None ≡ told_at from n r
-    told-no (Ok v) p = absurd (cc)
-    told-no (Err f) p = refl
-
-    told-yes : (v : ℕ) (r : Result ℕ NumberFault) → Some v ≡ result_ok r → (Some (record { value = v; end = from + n }) ≡ told_at from n r) × (r ≡ Ok v)
-    told-yes v (Ok w) p = let t : v ≡ w = cc in rw t (refl, refl)
-    told-yes v (Err f) p = absurd (cc)
-
-    pub at-none : None ≡ result_ok q → None ≡ number_at bound from s
-    at-none p = told-no q p ∙ sym told-is
-
-    pub at-some : (v : ℕ) → Some v ≡ result_ok q → (Some (record { value = v; end = from + n }) ≡ number_at bound from s) × (v < bound)
-    at-some v p =
-        let t = told-yes v q p in
-        (t.0 ∙ sym told-is, (value-number bound (digits (drop from s)) v (sym read-digits ∙ t.1)).2)
-
   -- with a space behind it
-  spaced-some : (t : Option (At ℕ)) (r : At ℕ) → Some r ≡ spaced s t
-      → (n : At ℕ) × (Some n ≡ t) × (stands_at (32 ∷ []) n.end s ≡ true) × (r.value ≡ n.value) × (r.end ≡ n.end + 1)
+  spaced-some : (t : Option NumberAt) (r : NumberAt) → Some r ≡ spaced s t
+      → (n : NumberAt) × (Some n ≡ t) × (stands_at (32 ∷ []) n.end s ≡ true) × (r.value ≡ n.value) × (r.end ≡ n.end + 1)
   unfolding spaced
   spaced-some None r q = absurd (cc)
   spaced-some (Some n) r q =
@@ -152,14 +114,14 @@ module _ (s : List ℕ) (from bound : ℕ) where
       (λ e.
       let p : Some r ≡ Some (record { value = n.value; end = n.end + 1 }) = rw e at q in
       let t : r ≡ record { value = n.value; end = n.end + 1 } = cc in
-      (n, refl, e, ap (λ (a : At ℕ). a.value) t, ap (λ (a : At ℕ). a.end) t))
+      (n, refl, e, ap (λ (a : NumberAt). a.value) t, ap (λ (a : NumberAt). a.end) t))
       (λ e. let p : Some r ≡ None = rw e at q in absurd (cc))
 
-  behind : (n r : At ℕ) → r.value ≡ n.value → r.end ≡ n.end + 1 → Stands (spell n.value ++ 32 ∷ []) from (n.end + 1) s
+  behind : (n r : NumberAt) → r.value ≡ n.value → r.end ≡ n.end + 1 → Stands (spell n.value ++ 32 ∷ []) from (n.end + 1) s
       → Stands (spell r.value ++ 32 ∷ []) from r.end s
   behind n r v e p = rw (v, e) p
 
-  pub spaced-stands : (r : At ℕ) → Some r ≡ spaced_number bound from s → Stands (spell r.value ++ 32 ∷ []) from r.end s
+  pub spaced-stands : (r : NumberAt) → Some r ≡ spaced_number bound from s → Stands (spell r.value ++ 32 ∷ []) from r.end s
   unfolding spaced_number
   spaced-stands r q =
       let t = spaced-some (number_at bound from s) r q in

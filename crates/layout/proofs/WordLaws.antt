@@ -1,6 +1,6 @@
 -- Laws of `same`. Assumes nothing.
 use Prim.Native.Nat.{ℕ}
-use mathlib.Core.Path.{◌≡◌, refl, sym, ap, ap₂, ◌∙◌}
+use mathlib.Core.Path.{◌≡◌, refl, ap, ap₂}
 use mathlib.Core.Bool.{Bool, true, false, ◌&&◌, false≢true}
 use mathlib.Core.List.{List, [], ◌∷◌}
 use lib.Dec.{eqb}
@@ -33,9 +33,3 @@ same_is_pointwise [] [] = refl
 same_is_pointwise [] (y ∷ w) = refl
 same_is_pointwise (x ∷ s) [] = refl
 same_is_pointwise (x ∷ s) (y ∷ w) = ap (λ (b : Bool). eqb x y && b) (same_is_pointwise s w)
-
-pub same_sym : (s w : List ℕ) → same s w ≡ same w s
-same_sym s w =
-    by_bool (same s w)
-    (λ e. e ∙ sym (ap (same w) (same_true s w e) ∙ same_refl w))
-    (λ e. e ∙ sym (same_false w s (λ q. false≢true (sym e ∙ ap (same s) q ∙ same_refl s))))

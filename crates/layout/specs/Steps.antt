@@ -2,4 +2,6 @@
 pub mod Number
 pub mod List
 pub mod Fill
+pub mod Leading
+pub mod Table
 pub mod Stands

@@ -35,9 +35,13 @@ struct FieldPieces<'a, F> {
 }
 
 impl<F: Field> Pieces for FieldPieces<'_, F> {
+    ghost count = { λ l. length l.fields.now };
+
     ghost piece = { λ l i. field_piece (map F.text l.fields.now) i };
 
-    ghost stands = { λ l i. i < length l.fields.now };
+    fn count(&self) -> usize {
+        self.fields.len()
+    }
 
     fn put_piece(&self, part: &mut [u8], i: usize) -> usize {
         let k = self.fields[i].put(part);
@@ -61,7 +65,7 @@ pub fn put_fields<F: Field>(part: &mut [u8], fields: &[F]) -> usize
     ensures { (result ≡ length (pieces_text (map F.text fields.now))) × (part.new ≡ fill (pieces_text (map F.text fields.now)) part.old) }
 {
     let pieces = FieldPieces { fields };
-    put_pieces(part, &pieces, fields.len())
+    put_pieces(part, &pieces)
 }
 
 // How many bytes the line of the fields has.
@@ -70,5 +74,5 @@ pub fn fields_len<F: CountedField>(fields: &[F]) -> usize
     ensures { (result ≡ length (pieces_text (map F.text fields.now))) × (result ≤ (F.longest + 1) * length fields.now) }
 {
     let pieces = FieldPieces { fields };
-    pieces_len(&pieces, fields.len())
+    pieces_len(&pieces)
 }

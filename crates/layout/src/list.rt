@@ -1,5 +1,5 @@
 // Lists of numbers: read from a field, measured and written.
-ghost use Rattle.std.specs.Prelude.{◌≡◌, ◌≤◌, ◌∷◌, length, leb};
+ghost use Rattle.std.specs.Prelude.{◌≡◌, ℕ, ◌≤◌, ◌∷◌, map, length, leb};
 ghost use Rattle.layout.specs.Split.{split};
 ghost use Rattle.layout.specs.Number.{spell};
 ghost use Rattle.layout.specs.List.{items_of, judged, list_of, leading, list_text};
@@ -8,7 +8,6 @@ ghost use Rattle.layout.specs.Steps.List.{pushed, kept, tail_text};
 
 use crate::fill::put_bytes;
 use crate::number::{NumberFault, number_len, put_number, read_number};
-use crate::split::split_once;
 use crate::word::is_word;
 
 // Why a field is no list of at most so many numbers below a bound.
@@ -48,22 +47,20 @@ fn push_item(
 }
 
 // Reads items with commas between them.
-// Kept: the loop takes the field apart at its commas and counts nothing; no `for` is plainer.
 fn read_items(field: &[u8], bound: u64, items: &mut [u32]) -> Result<usize, ListFault>
     requires { bound ≤ 4294967296 }
     ensures { (result ≡ judged bound (length items.old) (split 44 field.now)) × (items.new ≡ fill (leading bound (length items.old) (split 44 field.now)) items.old) }
 {
     let mut so_far = Ok(0);
-    let mut rest = field;
-    while let Some((item, more)) = split_once(rest, b',') {
+    for item in field.split(|b| *b == b',') {
         so_far = push_item(items, so_far, item, bound);
-        rest = more;
     }
-    push_item(items, so_far, rest, bound)
+    so_far
 }
 
 // Reads a field as a list of numbers below a bound, at most as many as there are places in items, and keeps the numbers in
 // the first of them: all of them where the field is such a list.
+#[tactic(auto, using(crate::proofs::ListLaws::leading_empty), unfolding(crate::specs::List::list_of, crate::specs::List::items_of, crate::specs::List::judged, crate::specs::List::all_numbers, crate::specs::List::all_below, crate::specs::Fill::fill))]
 pub fn read_list(field: &[u8], bound: u64, items: &mut [u32]) -> Result<usize, ListFault>
     requires { bound ≤ 4294967296 }
     ensures { (result ≡ list_of bound (length items.old) field.now) × (items.new ≡ fill (leading bound (length items.old) (items_of field.now)) items.old) }
@@ -74,17 +71,51 @@ pub fn read_list(field: &[u8], bound: u64, items: &mut [u32]) -> Result<usize, L
     read_items(field, bound, items)
 }
 
+// An item of a list, of any width.
+pub trait Item {
+    // The number that is written for it.
+    ghost number: { Self → ℕ };
+
+    // That number.
+    fn number(&self) -> u32
+        ensures { result ≡ number self.now };
+}
+
+impl Item for u8 {
+    ghost number = { λ n. n };
+
+    fn number(&self) -> u32 {
+        u32::from(*self)
+    }
+}
+
+impl Item for u16 {
+    ghost number = { λ n. n };
+
+    fn number(&self) -> u32 {
+        u32::from(*self)
+    }
+}
+
+impl Item for u32 {
+    ghost number = { λ n. n };
+
+    fn number(&self) -> u32 {
+        *self
+    }
+}
+
 // How many bytes the text of a list has.
-pub fn list_len(items: &[u32]) -> usize
+pub fn list_len<T: Item>(items: &[T]) -> usize
     requires { length items.now ≤ 64 }
-    ensures { (result ≡ length (list_text items.now)) × (result ≤ 704) }
+    ensures { (result ≡ length (list_text (map T.number items.now))) × (result ≤ 704) }
 {
     if items.is_empty() {
         return 1;
     }
     let mut total = 0;
     for x in items {
-        total += number_len(*x) + 1;
+        total += number_len(x.number()) + 1;
     }
     total - 1
 }
@@ -99,26 +130,26 @@ fn put_item(part: &mut [u8], x: u32) -> usize
 }
 
 // Writes numbers, each with a comma before it, into a part that has room.
-fn put_tail(part: &mut [u8], items: &[u32]) -> usize
-    requires { length (tail_text items.now) ≤ length part.old }
-    ensures { (result ≡ length (tail_text items.now)) × (part.new ≡ fill (tail_text items.now) part.old) }
+fn put_tail<T: Item>(part: &mut [u8], items: &[T]) -> usize
+    requires { length (tail_text (map T.number items.now)) ≤ length part.old }
+    ensures { (result ≡ length (tail_text (map T.number items.now))) × (part.new ≡ fill (tail_text (map T.number items.now)) part.old) }
 {
     let mut at = 0;
     for item in items {
-        at += put_item(&mut part[at..], *item);
+        at += put_item(&mut part[at..], item.number());
     }
     at
 }
 
 // Writes a list into the first bytes of a part that has room, and says how many there are.
-pub fn put_list(part: &mut [u8], items: &[u32]) -> usize
-    requires { length (list_text items.now) ≤ length part.old }
-    ensures { (result ≡ length (list_text items.now)) × (part.new ≡ fill (list_text items.now) part.old) }
+pub fn put_list<T: Item>(part: &mut [u8], items: &[T]) -> usize
+    requires { length (list_text (map T.number items.now)) ≤ length part.old }
+    ensures { (result ≡ length (list_text (map T.number items.now))) × (part.new ≡ fill (list_text (map T.number items.now)) part.old) }
 {
     let [first, others @ ..] = items else {
         return put_bytes(part, b"-");
     };
-    let k = put_number(part, *first);
+    let k = put_number(part, first.number());
     k + put_tail(&mut part[k..], others)
 }
 

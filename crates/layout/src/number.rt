@@ -1,15 +1,12 @@
 // Numbers in base ten: read from a field of any length, and measured.
-ghost use Rattle.std.specs.Prelude.{◌≡◌, ◌+◌, ◌*◌, ◌≤◌, ◌<◌, length, drop, not, IfSome};
+ghost use Rattle.std.specs.Prelude.{◌≡◌, ◌+◌, ◌*◌, ◌≤◌, ◌<◌, length, not, MatchOption, Some, None};
 ghost use Rattle.std.specs.Char.{is_ascii_digit};
 ghost use Rattle.std.specs.List.{position};
 ghost use Rattle.layout.specs.Word.{same};
 ghost use Rattle.layout.specs.Number.{starts_well, number_of, spell};
 ghost use Rattle.layout.specs.Fill.{fill};
 ghost use Rattle.layout.specs.Steps.Number.{digits, push_digit};
-ghost use Rattle.layout.specs.Steps.Stands.{number_at, spaced_number};
-
-use crate::at::At;
-use crate::word::stands_at;
+ghost use Rattle.layout.specs.Steps.Leading.{leading_number, number_before_space};
 
 // Why a field is no number below a bound.
 #[derive(Clone, Copy, Debug, PartialEq, Eq)]
@@ -20,6 +17,7 @@ pub enum NumberFault {
 }
 
 // One digit more. A value that is not below the bound stands still.
+#[tactic(auto, unfolding(crate::specs::Steps::Number::push_digit))]
 fn push_digit(v: u64, bound: u64, b: u8) -> u64
     requires { (48 ≤ b) × (b ≤ 57) × (bound ≤ 4294967296) × (v ≤ 10 * bound + 9) }
     ensures { (result ≡ push_digit bound v b) × (result ≤ 10 * bound + 9) }
@@ -31,6 +29,7 @@ fn push_digit(v: u64, bound: u64, b: u8) -> u64
 }
 
 // Whether bytes begin as a number does: there is one, and the first of several is not `0`.
+#[tactic(auto, unfolding(crate::specs::Number::starts_well))]
 fn starts_well(field: &[u8]) -> bool
     ensures { result ≡ starts_well field.now }
 {
@@ -76,33 +75,28 @@ fn digits_len(s: &[u8]) -> usize
     first_other(s).unwrap_or(s.len())
 }
 
-// The number below a bound that stands at a place of s.
-pub fn number_at(s: &[u8], from: usize, bound: u64) -> Option<At<u64>>
-    requires { (from ≤ length s.now) × (bound ≤ 4294967296) }
-    ensures { (result ≡ number_at bound from s.now) × IfSome result (λ n. (n.value < bound) × (n.end ≤ length s.now)) }
+// The number below a bound that a text begins with, and what stands behind it.
+pub fn leading_number(text: &[u8], bound: u64) -> Option<(u64, &[u8])>
+    requires { bound ≤ 4294967296 }
+    ensures { MatchOption result (leading_number bound text.now ≡ None) (λ r. (leading_number bound text.now ≡ Some (r.0, r.1.now)) × (r.0 < bound)) }
 {
-    let end = from + digits_len(&s[from..]);
-    let value = read_number(&s[from..end], bound).ok()?;
-    Some(At { value, end })
+    let (digits, rest) = text.split_at(digits_len(text));
+    let number = read_number(digits, bound).ok()?;
+    Some((number, rest))
 }
 
-// The number below a bound that stands at a place of s with a space behind it, and the place behind the space.
-#[tactic(auto, unfolding(crate::specs::Steps::Stands::spaced_number, crate::specs::Steps::Stands::spaced))]
-pub fn spaced_number(s: &[u8], from: usize, bound: u64) -> Option<At<u64>>
-    requires { (from ≤ length s.now) × (bound ≤ 4294967296) }
-    ensures { (result ≡ spaced_number bound from s.now) × IfSome result (λ n. (n.value < bound) × (n.end ≤ length s.now)) }
+// The number below a bound that a text begins with and that has a space behind it, and what stands behind the space.
+pub fn number_before_space(text: &[u8], bound: u64) -> Option<(u64, &[u8])>
+    requires { bound ≤ 4294967296 }
+    ensures { MatchOption result (number_before_space bound text.now ≡ None) (λ r. (number_before_space bound text.now ≡ Some (r.0, r.1.now)) × (r.0 < bound)) }
 {
-    let At { value, end } = number_at(s, from, bound)?;
-    if !stands_at(s, end, b" ") {
-        return None;
-    }
-    Some(At {
-        value,
-        end: end + 1,
-    })
+    let (number, rest) = leading_number(text, bound)?;
+    let rest = rest.strip_prefix(b" ")?;
+    Some((number, rest))
 }
 
 // Whether a field is the spelling of a number: a line's own number.
+#[tactic(auto, using(crate::proofs::SpellLaws::own_is))]
 pub fn is_spelling(field: &[u8], n: u32) -> bool
     ensures { result ≡ same field.now (spell n) }
 {
@@ -110,17 +104,11 @@ pub fn is_spelling(field: &[u8], n: u32) -> bool
 }
 
 // How many digits the spelling of a number has.
-// Kept: the loop divides and counts digits, with no index; no `for` is plainer.
+#[tactic(auto, using(crate::proofs::SpellLaws::spell_none, crate::proofs::SpellLaws::spell_counted))]
 pub fn number_len(n: u32) -> usize
     ensures { (result ≡ length (spell n)) × (result ≤ 10) }
 {
-    let mut k = 1;
-    let mut rest = n;
-    while 10 <= rest {
-        rest /= 10;
-        k += 1;
-    }
-    k
+    n.checked_ilog10().map_or(1, |k| k as usize + 1)
 }
 
 // Writes the spelling of a number into the first bytes of a part that has room, and says how many there are.

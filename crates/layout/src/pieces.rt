@@ -7,14 +7,18 @@ use crate::fill::put_bytes;
 
 // Pieces that are written one at a time, by their places.
 pub trait Pieces {
-    // The bytes of the piece in a place, and what has to hold of the place.
+    // How many pieces there are, and the bytes of the piece in a place.
+    ghost count: { Self → ℕ };
+
     ghost piece: { Self → ℕ → List ℕ };
 
-    ghost stands: { Self → ℕ → Type 0 };
+    // How many pieces there are.
+    fn count(&self) -> usize
+        ensures { result ≡ count self.now };
 
     // Writes the piece i into a part that has room.
     fn put_piece(&self, part: &mut [u8], i: usize) -> usize
-        requires { stands self.now i × (length (piece self.now i) ≤ length part.old) }
+        requires { (i < count self.now) × (length (piece self.now i) ≤ length part.old) }
         ensures { (result ≡ length (piece self.now i)) × (part.new ≡ fill (piece self.now i) part.old) };
 }
 
@@ -25,42 +29,39 @@ pub trait CountedPieces: Pieces {
 
     // How many bytes the piece i has.
     fn piece_len(&self, i: usize) -> usize
-        requires { Self.stands self.now i }
+        requires { i < Self.count self.now }
         ensures { (result ≡ length (Self.piece self.now i)) × (result ≤ most) };
 }
 
-// How many bytes the first n pieces have.
-pub fn pieces_len<P: CountedPieces>(pieces: &P, n: usize) -> usize
-    requires stand { (i : ℕ) → i < n → P.stands pieces.now i }
-    requires few { P.most * n < 2 ^ 64 }
-    ensures { (result ≡ length (pieces_from (P.piece pieces.now) 0 n)) × (result ≤ P.most * n) }
+// How many bytes all pieces have.
+pub fn pieces_len<P: CountedPieces>(pieces: &P) -> usize
+    requires { P.most * P.count pieces.now < 2 ^ 64 }
+    ensures { (result ≡ length (pieces_from (P.piece pieces.now) 0 (P.count pieces.now))) × (result ≤ P.most * P.count pieces.now) }
 {
     let mut total = 0;
-    for i in 0..n {
+    for i in 0..pieces.count() {
         total += pieces.piece_len(i);
     }
     total
 }
 
-// Writes the first n pieces into a part that has room.
-pub fn put_pieces<P: Pieces>(part: &mut [u8], pieces: &P, n: usize) -> usize
-    requires stand { (i : ℕ) → i < n → P.stands pieces.now i }
-    requires room { length (pieces_from (P.piece pieces.now) 0 n) ≤ length part.old }
-    ensures { (result ≡ length (pieces_from (P.piece pieces.now) 0 n)) × (part.new ≡ fill (pieces_from (P.piece pieces.now) 0 n) part.old) }
+// Writes all pieces into a part that has room.
+pub fn put_pieces<P: Pieces>(part: &mut [u8], pieces: &P) -> usize
+    requires { length (pieces_from (P.piece pieces.now) 0 (P.count pieces.now)) ≤ length part.old }
+    ensures { (result ≡ length (pieces_from (P.piece pieces.now) 0 (P.count pieces.now))) × (part.new ≡ fill (pieces_from (P.piece pieces.now) 0 (P.count pieces.now)) part.old) }
 {
     let mut at = 0;
-    for i in 0..n {
+    for i in 0..pieces.count() {
         at += pieces.put_piece(&mut part[at..], i);
     }
     at
 }
 
-// Writes a heading and the first n pieces behind it into a part that has room.
-pub fn put_headed<P: Pieces>(part: &mut [u8], heading: &[u8], pieces: &P, n: usize) -> usize
-    requires stand { (i : ℕ) → i < n → P.stands pieces.now i }
-    requires room { length (heading.now ++ pieces_from (P.piece pieces.now) 0 n) ≤ length part.old }
-    ensures { (result ≡ length (heading.now ++ pieces_from (P.piece pieces.now) 0 n)) × (part.new ≡ fill (heading.now ++ pieces_from (P.piece pieces.now) 0 n) part.old) }
+// Writes a heading and all pieces behind it into a part that has room.
+pub fn put_headed<P: Pieces>(part: &mut [u8], heading: &[u8], pieces: &P) -> usize
+    requires { length (heading.now ++ pieces_from (P.piece pieces.now) 0 (P.count pieces.now)) ≤ length part.old }
+    ensures { (result ≡ length (heading.now ++ pieces_from (P.piece pieces.now) 0 (P.count pieces.now))) × (part.new ≡ fill (heading.now ++ pieces_from (P.piece pieces.now) 0 (P.count pieces.now)) part.old) }
 {
     let k = put_bytes(part, heading);
-    k + put_pieces(&mut part[k..], pieces, n)
+    k + put_pieces(&mut part[k..], pieces)
 }

@@ -10,21 +10,19 @@ fn first_place(s: &[u8], b: u8) -> Option<usize>
     s.iter().position(|x| *x == b)
 }
 
-// The place of the first byte b of s from a place on.
-pub fn find_from(s: &[u8], from: usize, b: u8) -> Option<usize>
-    requires { from ≤ length s.now }
-    ensures { MatchOption result (find b (drop from s.now) ≡ length (drop from s.now)) (λ e. (e ≡ from + find b (drop from s.now)) × (from ≤ e) × (e < length s.now)) }
-{
-    let i = first_place(&s[from..], b)?;
-    Some(from + i)
-}
-
 // The bytes before the first byte b of s, and those behind it.
 pub fn split_once<'a>(s: &'a [u8], b: u8) -> Option<(&'a [u8], &'a [u8])>
     ensures { MatchOption result ((find b s.now ≡ length s.now) × (split b s.now ≡ s.now ∷ [])) (λ p. (find b s.now < length s.now) × (p.0.now ≡ take (find b s.now) s.now) × (p.1.now ≡ drop (find b s.now + 1) s.now) × (split b s.now ≡ p.0.now ∷ split b p.1.now)) }
 {
-    let e = find_from(s, 0, b)?;
+    let e = first_place(s, b)?;
     Some((&s[..e], &s[e + 1..]))
+}
+
+// The bytes before the first byte b of s; all of them where there is none.
+pub fn first_part(s: &[u8], b: u8) -> &[u8]
+    ensures { result.now ≡ take (find b s.now) s.now }
+{
+    &s[..first_place(s, b).unwrap_or(s.len())]
 }
 
 // Where the part with the number k, from 0, begins, of s cut at the bytes b; the length of s where there are not so many.
@@ -34,10 +32,10 @@ pub fn part_start(s: &[u8], b: u8, k: usize) -> usize
 {
     let mut start = 0;
     for _ in 0..k {
-        let Some(e) = find_from(s, start, b) else {
+        let Some((part, _)) = split_once(&s[start..], b) else {
             return s.len();
         };
-        start = e + 1;
+        start += part.len() + 1;
     }
     start
 }

@@ -4,6 +4,8 @@
 
 #![tactic(auto)]
 
+ghost use Rattle.std.specs.Prelude.{◌≤◌};
+
 use layout::list::{ListFault, read_list, write_list};
 use layout::number::{NumberFault, read_number};
 use std::io;
@@ -66,19 +68,20 @@ fn adler(bytes: &[u8]) -> u64 {
 }
 
 // Writes a list into a part of so many bytes, and shows the checksum of that part with the byte before it and the one behind it.
-fn say_part<W: Write>(out: &mut W, items: &[u32], n: usize) -> io::Result<()> {
+fn say_part<W: Write>(out: &mut W, items: &[u32], n: usize) -> io::Result<()>
+    requires { n ≤ 8190 }
+{
     let mut buffer = [b'.'; 8192];
-    if n > 8190 {
-        return Ok(());
-    }
     write!(out, "list of {}, part of {n} bytes", items.len())?;
     let written = write_list(&mut buffer[1..1 + n], items);
     say_answer(out, written)?;
-    write!(out, "{}\n", adler(&buffer[..n + 2]))
+    writeln!(out, "{}", adler(&buffer[..n + 2]))
 }
 
 // Writes a list into a part of every length from one up to another, which is left out.
-fn parts<W: Write>(out: &mut W, items: &[u32], from: usize, to: usize) -> io::Result<()> {
+fn parts<W: Write>(out: &mut W, items: &[u32], from: usize, to: usize) -> io::Result<()>
+    requires { to ≤ 8191 }
+{
     for n in from..to {
         say_part(out, items, n)?;
     }

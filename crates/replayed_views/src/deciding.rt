@@ -1,5 +1,5 @@
 // The one event whose answer decides a view, where there is one.
-ghost use Rattle.std.specs.Prelude.{◌≡◌, true, ℕ, ◌≤◌, ◌<◌, get_or, length, MatchOption, None};
+ghost use Rattle.std.specs.Prelude.{◌≡◌, true, ℕ, ◌≤◌, ◌<◌, get_or, length, MatchOption};
 ghost use Rattle.criteria.specs.Tests.{mem};
 ghost use Rattle.replays.specs.Replay.{no_light};
 ghost use Rattle.replayed_views.specs.Steps.{shows_of, GoesOn, Decides};
@@ -71,19 +71,4 @@ pub(crate) fn deciding(
             None
         }
     }
-}
-
-// For each of the events the latest earlier event of its process.
-pub(crate) fn earlier_views(events: &[Light]) -> [Option<usize>; 64]
-    requires { length events.now ≤ 64 }
-    ensures { (k : ℕ) → MatchOption (get_or result k None) Unit (λ d. d < k) }
-{
-    let mut last = [None; 256];
-    let mut earlier = [None; 64];
-    for (k, e) in events.iter().enumerate() {
-        let p = usize::from(e.process.0);
-        earlier[k] = last[p];
-        last[p] = Some(k);
-    }
-    earlier
 }

@@ -1,5 +1,5 @@
 // 16: the lowest view whose replay does not give a visible answer, and the first such event in it.
-ghost use Rattle.std.specs.Prelude.{◌≡◌, ℕ, ◌<◌, length, MatchOption};
+ghost use Rattle.std.specs.Prelude.{◌≡◌, ℕ, ◌<◌, length};
 ghost use Rattle.std.proofs.Math.Option.{none};
 ghost use Rattle.layout.specs.Options.{option_in};
 ghost use Rattle.criteria.specs.Tests.{lowest};
@@ -11,12 +11,12 @@ ghost use Rattle.replays.specs.Replay.{history_in, contents_in, is_visible, foun
 ghost use Rattle.replayed_views.specs.Steps.{ObjectRows};
 ghost use Rattle.replayed_views.specs.Search.{wrong_in};
 
-use crate::deciding::{ShownView, deciding, earlier_views};
+use crate::deciding::{ShownView, deciding};
 use crate::object::{object_rows, replay_row};
 use history::record::EventNo;
 use orders::views::Views;
 use replays::light::LightHistory;
-use replays::replay::{Visible, replay};
+use replays::replay::{Light, Visible, replay};
 
 // A view, by its place, and an event.
 #[derive(Clone, Copy)]
@@ -27,15 +27,16 @@ pub struct Place {
 
 // What was replayed before view k, if nothing was wrong in the views before it: that of the latest earlier event of its process.
 fn before<'a>(
+    events: &[Light; 64],
     views: &Views<'a>,
     who: &[Visible; 64],
-    earlier: Option<usize>,
     k: usize,
 ) -> ShownView<'a>
-    requires { (k < length views.now.numbers.now) × MatchOption earlier Unit (λ d. d < k) }
+    requires { k < length views.now.numbers.now }
     ensures { (h : History) (s : Contents) → ((d : ℕ) → d < k → wrong_in h s who.now views.now.rows.now views.now.lengths.now d ≡ none) → first_wrong h (is_visible h result.seen) s result.view.now ≡ none }
 {
-    match earlier {
+    let p = events[k].process;
+    match events[..k].iter().rposition(|e| e.process == p) {
         Some(d) => ShownView {
             view: views.get(d).events,
             seen: who[d],
@@ -72,9 +73,8 @@ pub fn first_wrong(history: &LightHistory, views: &Views, who: &[Visible; 64]) -
     ensures { option_in result ≡ lowest (length views.now.numbers.now) (wrong_in (history_in history.now) (contents_in history.now.values history.now.starts) who.now views.now.rows.now views.now.lengths.now) }
 {
     let rows = object_rows(&history.events);
-    let earlier = earlier_views(&history.events[..views.count()]);
     for k in 0..views.count() {
-        let known = before(views, who, earlier[k], k);
+        let known = before(&history.events, views, who, k);
         let this = ShownView {
             view: views.get(k).events,
             seen: who[k],

@@ -17,11 +17,11 @@ use objects::state::{Given, State};
 #[derive(Clone, Copy)]
 pub struct LightHistory {
     pub objects: [Object; 16],
-    pub starts: [State; 16],
     pub events: [Light; 64],
     pub values: [Value; 65],
     pub answers: [Answer; 64],
     pub size: usize,
+    pub starts: [State; 16],
 }
 
 impl LightHistory {
@@ -97,11 +97,11 @@ pub fn light_history(h: &History) -> LightHistory
     };
     let mut light = LightHistory {
         objects: h.objects,
-        starts: starts(h.objects),
         events: [blank; 64],
         values: [0; 65],
         answers: [no_answer(); 64],
         size: h.count,
+        starts: starts(h.objects),
     };
     for (i, e) in h.events[..h.count].iter().enumerate() {
         let kind = h.objects[usize::from(e.object)].kind;

@@ -14,9 +14,6 @@ use Rattle.certificate.specs.declared.record.Criterion.{Criterion}
 use Rattle.certificate.specs.declared.record.Criterion.TheVariants.{Pram, Weak, Causal, Converge, Sequential, Strict}
 use Rattle.certificate.specs.Criteria.{word_of}
 use Rattle.history_reader.specs.Place.{Text, Neither, HistoryText, CertificateText, line_of}
-use Rattle.criteria.specs.Check.{answer_of}
-use Rattle.faults.specs.Finding.{finding_of}
-use Rattle.checker.specs.declared.check.Checked.{Checked}
 use Rattle.checker.specs.CheckText.{Verdict}
 use Rattle.verdict_lines.specs.declared.line.Field.{Field}
 use Rattle.verdict_lines.specs.declared.line.Field.TheVariants.{Number}
@@ -28,14 +25,14 @@ use Rattle.verdict_lines.specs.Steps.{field_text, number_field, criterion_field,
 pub number_short : (n : ℕ) → n < 4294967296 → length (spell n) ≤ 11
 number_short n h = omega (arith, spell-short 9 n (omega arith))
 
-pub criterion-short : (c : Criterion) → length (word_of c) ≤ 11
+pub criterion_short : (c : Criterion) → length (word_of c) ≤ 11
 unfolding word_of
-criterion-short Pram = omega arith
-criterion-short Weak = omega arith
-criterion-short Causal = omega arith
-criterion-short Converge = omega arith
-criterion-short Sequential = omega arith
-criterion-short Strict = omega arith
+criterion_short Pram = omega arith
+criterion_short Weak = omega arith
+criterion_short Causal = omega arith
+criterion_short Converge = omega arith
+criterion_short Sequential = omega arith
+criterion_short Strict = omega arith
 
 pub text-short : (t : Text) → length (text_word t) ≤ 11
 text-short Neither = omega arith
@@ -133,6 +130,6 @@ printed-whole v n bytes q e =
     ap₂ {C = Printed} (λ (k : ℕ) (l : List ℕ). record { length = k; bytes = l }) q (e ∙ fill-zeros (printed v))
 
 -- the lines lie within the array
-pub printed-fits : (v : Verdict) (r : Printed) → r ≡ printed_in v → r.length ≤ length r.bytes
+pub printed_fits : (v : Verdict) (r : Printed) → r ≡ printed_in v → r.length ≤ length r.bytes
 unfolding pad
-printed-fits v r q = rw q (omega (arith, length-append (printed v) (replicate (128 - length (printed v)) 0)))
+printed_fits v r q = rw q (omega (arith, length-append (printed v) (replicate (128 - length (printed v)) 0)))

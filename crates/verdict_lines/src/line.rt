@@ -13,6 +13,7 @@ use certificate::record::Criterion;
 use certificate::word::criterion_word;
 use checker::answer::{criterion_in, event_in, number_in, place_in, view_in};
 use checker::check::Checked;
+use checker::place::line_of;
 use history::record::EventNo;
 use history_reader::place::{Place, Text};
 use history_reader::read::Refusal;
@@ -54,20 +55,18 @@ impl fields::Field for Field {
 }
 
 // A number, or a dash for none.
+#[tactic(auto, using(crate::proofs::PieceLaws::number_short))]
 fn number_field(n: Option<u32>) -> Field
     ensures { (result ≡ number_field (option_in n)) × (length (field_text result) ≤ 11) }
 {
-    match n {
-        Some(n) => Field::Number(n),
-        None => Field::Dash,
-    }
+    n.map_or(Field::Dash, |n| Field::Number(n))
 }
 
 // The number of a view, or a dash for none.
 fn view_field(view: Option<u8>) -> Field
     ensures { (result ≡ number_field (option_in view)) × (length (field_text result) ≤ 11) }
 {
-    number_field(view.map(|v| u32::from(v)))
+    number_field(view.map(u32::from))
 }
 
 // The number of an event, or a dash for none.
@@ -78,34 +77,27 @@ fn event_field(event: Option<EventNo>) -> Field
 }
 
 // A criterion, or a dash for none.
+#[tactic(auto, using(crate::proofs::PieceLaws::criterion_short))]
 fn criterion_field(c: Option<Criterion>) -> Field
     ensures { (result ≡ criterion_field (option_in c)) × (length (field_text result) ≤ 11) }
 {
-    match c {
-        Some(c) => Field::Criterion(c),
-        None => Field::Dash,
-    }
+    c.map_or(Field::Dash, |c| Field::Criterion(c))
 }
 
 // The text of a place, or a dash for none.
 fn text_field(place: Option<Place>) -> Field
     ensures { (result ≡ text_field (place_in place).text) × (length (field_text result) ≤ 11) }
 {
-    match place {
-        Some(place) => Field::Text(place.text),
-        None => Field::Dash,
-    }
+    place.map_or(Field::Dash, |place| Field::Text(place.text))
 }
 
 // The line of a place, or a dash for none.
+// Kept: that the line is small, in three contracts: only the two numbers of the interface need it, this one and that in `places_of`.
 fn line_field(place: Option<Place>) -> Field
     requires { (place_in place).line ≤ 4294967294 }
     ensures { (result ≡ number_field (line_of (place_in place))) × (length (field_text result) ≤ 11) }
 {
-    match place {
-        Some(place) => number_field(Some(place.line as u32)),
-        None => Field::Dash,
-    }
+    number_field(line_of(place).map(|n| n as u32))
 }
 
 // The six fields of a verdict.

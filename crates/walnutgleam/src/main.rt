@@ -38,13 +38,12 @@ fn read_file<R: Files>(rt: &R, path: &str, buffer: &mut [u8]) -> usize
 }
 
 // A buffer has one byte more than its text may have, so a text that is too long is refused as such.
+#[tactic(auto, using(verdict_lines::proofs::PieceLaws::printed_fits))]
 fn main(rt: HostRuntime) -> io::Result<()> {
     let mut history = [0u8; 16385];
     let mut certificate = [0u8; 32769];
     let n = read_file(&rt, "history.txt", &mut history);
     let m = read_file(&rt, "certificate.txt", &mut certificate);
     let lines = print_check(&history[..n], &certificate[..m]);
-    let k = lines.length;
-    let bytes = lines.bytes;
-    io::writer(&rt).write_all(&bytes[..k])
+    io::writer(&rt).write_all(&lines.bytes[..lines.length])
 }

@@ -1,5 +1,4 @@
 -- Laws of the answer with which a text is made. Assumes nothing.
-use Rattle.std.specs.Prelude as code
 use Rattle.std.specs.Prelude.{Result, Ok, Err}
 use Prim.Native.Nat.{ℕ}
 use native.Mathlib.Omega.{arith}
@@ -135,11 +134,10 @@ module _ (v : Verdict) (c : Criterion) (x : Bool) (o : Option (List ℕ)) (buffe
 
 -- ---- the lists that are wanted
 -- there are some exactly where they may be made
-lists-some : (w : code.Option Wanted) (h : History) (c : Certificate) → is_some (lists_wanted w h c) ≡ may_be_made c.criterion w
+lists-some : (w : Wanted) (h : History) (c : Certificate) → is_some (lists_wanted w h c) ≡ may_be_made c.criterion w
 unfolding in_one_line
-lists-some code.None h c = refl
-lists-some (code.Some (Named w)) h c = pair-weakened w h c
-lists-some (code.Some OneLine) h c = go _ (has_pasts c.criterion)
+lists-some (Named w) h c = pair-weakened w h c
+lists-some OneLine h c = go _ (has_pasts c.criterion)
   where
     go : (d : Certificate) (t : Bool) → is_some (cond t (some d) none) ≡ t
     go d true = refl
@@ -171,7 +169,7 @@ pub passed : (h : WrittenHistory.History) (c : WrittenCertificate.Certificate) (
     → (within h ≡ true) × (fits (events_in h) c rows ≡ true) → none ≡ check (history_of h) (certificate_of h c rows) → Passed h c rows
 passed h c rows p e = record { history = p.0; certificate = p.1; passes = sym e }
 
-module _ (history : List ℕ) (h : WrittenHistory.History) (c : WrittenCertificate.Certificate) (rows : List (List ℕ)) (w : code.Option Wanted) (buffer : List ℕ) where
+module _ (history : List ℕ) (h : WrittenHistory.History) (c : WrittenCertificate.Certificate) (rows : List (List ℕ)) (w : Wanted) (buffer : List ℕ) where
   -- the lists, the text, whether updates cross, and the verdict of the check
   abbrev lists : Option Certificate
   lists = lists_wanted w (history_of h) (certificate_of h c rows)
@@ -213,10 +211,9 @@ module _ (history : List ℕ) (h : WrittenHistory.History) (c : WrittenCertifica
       pub order-read : OrderWanted w h c
       order-read = go w may
         where
-          go : (w : code.Option Wanted) → may_be_made c.criterion w ≡ true → OrderWanted w h c
-          go code.None t = tt
-          go (code.Some (Named w)) t = tt
-          go (code.Some OneLine) t = record { history = p.history; has = t; pasts = λ k l. short-passed h c rows p k }
+          go : (w : Wanted) → may_be_made c.criterion w ≡ true → OrderWanted w h c
+          go (Named w) t = tt
+          go OneLine t = record { history = p.history; has = t; pasts = λ k l. short-passed h c rows p k }
 
       accepted : verdict ≡ checked nowhere c.criterion (answer_of none)
       accepted = ap (found_in history h.declared c.criterion) p.passes
@@ -229,12 +226,11 @@ module _ (history : List ℕ) (h : WrittenHistory.History) (c : WrittenCertifica
       lists-readable : cross ≡ false → (d : Certificate) → lists ≡ some d → Readable (history_of h) d
       lists-readable = go w
         where
-          go : (w : code.Option Wanted) → crosses_wanted w (history_of h) (certificate_of h c rows) ≡ false
+          go : (w : Wanted) → crosses_wanted w (history_of h) (certificate_of h c rows) ≡ false
               → (d : Certificate) → lists_wanted w (history_of h) (certificate_of h c rows) ≡ some d → Readable (history_of h) d
-          go code.None z d e = absurd (false≢true (ap is_some e))
-          go (code.Some (Named w)) z d e =
+          go (Named w) z d e =
               (weaken-accepted (history_of h) w (certificate_of h c rows) d (processes-passed h c rows p) (readable-passed h c rows p) p.passes e).readable
-          go (code.Some OneLine) z d e =
+          go OneLine z d e =
               (one-line-accepted (history_of h) (certificate_of h c rows) d (processes-passed h c rows p) (readable-passed h c rows p) p.passes z e).readable
 
       -- the record of the lists, written: what the writer answers and leaves in the buffer is of the text of the lists

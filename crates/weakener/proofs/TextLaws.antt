@@ -3,23 +3,21 @@ use Rattle.std.specs.Prelude as code
 use Rattle.std.specs.Prelude.{Result, Ok, Err, is_ok}
 use Prim.Native.Nat.{ℕ}
 use mathlib.Core.Path.{◌≡◌, refl, sym, ap, ◌∙◌, subst}
-use mathlib.Core.Bool.{Bool, true, false, cond}
+use mathlib.Core.Bool.{Bool, true, false}
 use mathlib.Core.List.{List}
 use mathlib.Core.Option.{Option, none, some}
-use lib.ListN.{length, replicate}
-use lib.Dec.{eqb, leb}
+use lib.ListN.{replicate}
+use lib.Dec.{eqb}
 use borrow.Author.Tests.{eq-eqb, ne_eqb}
-use Rattle.layout.proofs.Cases.{by-eq}
 use Rattle.history.specs.declared.record.History.{History}
 use Rattle.history.specs.Record.{events_in}
-use Rattle.history_reader.specs.ReadHistory.{read_history}
 use Rattle.certificate.specs.declared.record.Criterion.{Criterion}
 use Rattle.certificate.specs.declared.record.Certificate.{Certificate}
 use Rattle.certificate.specs.Record.{no_row}
 use Rattle.certificate_reader.specs.declared.read.Unread.{Unread}
 use Rattle.certificate_reader.specs.declared.read.Unread.TheVariants.{NoHistory, NoCertificate}
 use Rattle.certificate_reader.specs.ReadCertificate.{CertificateRead, texts_read, refusal_in, read_certificate, rows_read}
-use Rattle.criteria.specs.Check.{Fault, check}
+use Rattle.criteria.specs.Check.{check}
 use Rattle.criteria.specs.Records.{history_of, certificate_of}
 use Rattle.checker.specs.CheckText.{Verdict, refused, found_in, history_read, certificate_read, check_text}
 use Rattle.checker.specs.MadeText.{text_if_some, plain, made_answer, made_verdict, length_made, bytes_made}
@@ -28,19 +26,21 @@ use Rattle.checker.specs.OneLine.{one_line_text, crossing, line_answer, line_len
 use Rattle.checker.proofs.VerdictLaws.{unread-fault, no-fault, of-texts, checked-read}
 use Rattle.weakener.specs.declared.made.Made.{Made}
 use Rattle.weakener.specs.declared.made.Wanted.{Wanted}
-use Rattle.weakener.specs.declared.made.Wanted.TheVariants.{Named, OneLine}
+use Rattle.weakener.specs.declared.made.Wanted.TheVariants.{OneLine}
 use Rattle.weakener.specs.declared.made.Unmade.{Unmade}
-use Rattle.weakener.specs.declared.made.Unmade.TheVariants.{Refused}
+use Rattle.weakener.specs.declared.made.Unmade.TheVariants.{Refused, NotPair}
 use Rattle.weakener.specs.Made.{verdict_made, length_of}
 use Rattle.weakener.specs.Steps.{IsMade, wanted_in, lists_wanted, crosses_wanted, text_wanted, crossing_wanted}
 
 -- ---- the answer of two texts
 module _ (wanted : code.Option Wanted) (history text buffer : List ℕ) where
-  -- an answer and the buffer are those of the texts
+  -- an answer and the buffer are those of the texts, whatever is wanted of them
+  abbrev Answers : code.Option Wanted → Result Made Unmade → List ℕ → Type 0
+  Answers w k then =
+      IsMade (made_verdict history text (crossing_wanted w history text) (text_wanted w history text) buffer) (text_wanted w history text) buffer k then
+
   abbrev pub AnswersTexts : Result Made Unmade → List ℕ → Type 0
-  AnswersTexts k then =
-      IsMade (made_verdict history text (crossing_wanted wanted history text) (text_wanted wanted history text) buffer)
-      (text_wanted wanted history text) buffer k then
+  AnswersTexts k then = Answers wanted k then
 
   -- a reading refusal
   refusal-is : (u : Unread) → verdict_made (Err (Refused (refusal_in u))) ≡ refused (texts_read (Err u))
@@ -60,47 +60,62 @@ module _ (wanted : code.Option Wanted) (history text buffer : List ℕ) where
 
   module _ (r : CertificateRead) (read : r ≡ read_certificate history text) where
     module _ (z : r.fault ≡ 0) (rows : List (List ℕ)) (rows-read : rows ≡ rows_read history text (replicate 64 no_row)) where
-      lists-read : text_if_some (events_in r.history) (lists_wanted wanted (history_of r.history) (certificate_of r.history r.certificate rows))
-          ≡ text_wanted wanted history text
-      unfolding history_read certificate_read
-      lists-read =
-          of-texts history text r read z rows rows-read
-          (λ (h : History) (c : Certificate) (l : List (List ℕ)). text_if_some (events_in h) (lists_wanted wanted (history_of h) (certificate_of h c l)))
-
-      cross-read : crosses_wanted wanted (history_of r.history) (certificate_of r.history r.certificate rows) ≡ crossing_wanted wanted history text
-      unfolding history_read certificate_read
-      cross-read =
-          of-texts history text r read z rows rows-read
-          (λ (h : History) (c : Certificate) (l : List (List ℕ)). crosses_wanted wanted (history_of h) (certificate_of h c l))
+      readable : eqb (read_certificate history text).fault 0 ≡ true
+      readable = eq-eqb (read_certificate history text).fault 0 (no-fault history text r read z rows rows-read)
 
       criterion-read : r.certificate.criterion ≡ (certificate_read history text).criterion
       unfolding certificate_read certificate_of
       criterion-read = ap (λ (x : CertificateRead). x.certificate.criterion) read
 
+      -- nothing is wanted that there is: 17
+      pub texts-none : wanted ≡ code.None → AnswersTexts (Err (NotPair r.certificate.criterion)) buffer
+      texts-none q =
+          subst (λ (w : code.Option Wanted). Answers w (Err (NotPair r.certificate.criterion)) buffer) (sym q)
+          record {
+            answer = rw readable (ap (λ (c : Criterion). plain c 17) criterion-read);
+            made = rw readable refl;
+            long = rw readable refl;
+            bytes = rw readable refl;
+          }
+
       -- both texts are read
-      pub texts-read : (k : Result Made Unmade) (then : List ℕ)
-          → IsMade (made_answer (found_in history r.history.declared r.certificate.criterion
-          (check (history_of r.history) (certificate_of r.history r.certificate rows))) r.certificate.criterion
-          (crosses_wanted wanted (history_of r.history) (certificate_of r.history r.certificate rows))
-          (text_if_some (events_in r.history) (lists_wanted wanted (history_of r.history) (certificate_of r.history r.certificate rows))) buffer)
-          (text_if_some (events_in r.history) (lists_wanted wanted (history_of r.history) (certificate_of r.history r.certificate rows))) buffer k then
-          → AnswersTexts k then
-      texts-read k then p =
-          let e = eq-eqb (read_certificate history text).fault 0 (no-fault history text r read z rows rows-read) in
-          rw e
-          (subst (As (check_text history text) (certificate_read history text).criterion (crossing_wanted wanted history text)) lists-read
-          (subst (λ (x : Bool). As (check_text history text) (certificate_read history text).criterion x made) cross-read
-          (subst (λ (c : Criterion). As (check_text history text) c cross made) criterion-read
-          (subst (λ (v : Verdict). As v r.certificate.criterion cross made) (checked-read history text r read z rows rows-read) p))))
-        where
-          As : Verdict → Criterion → Bool → Option (List ℕ) → Type 0
-          As v c x t = IsMade (made_answer v c x t buffer) t buffer k then
+      module _ (w : Wanted) where
+        lists-read : text_if_some (events_in r.history) (lists_wanted w (history_of r.history) (certificate_of r.history r.certificate rows))
+            ≡ text_wanted (code.Some w) history text
+        unfolding history_read certificate_read
+        lists-read =
+            of-texts history text r read z rows rows-read
+            (λ (h : History) (c : Certificate) (l : List (List ℕ)). text_if_some (events_in h) (lists_wanted w (history_of h) (certificate_of h c l)))
 
-          cross : Bool
-          cross = crosses_wanted wanted (history_of r.history) (certificate_of r.history r.certificate rows)
+        cross-read : crosses_wanted w (history_of r.history) (certificate_of r.history r.certificate rows) ≡ crossing_wanted (code.Some w) history text
+        unfolding history_read certificate_read
+        cross-read =
+            of-texts history text r read z rows rows-read
+            (λ (h : History) (c : Certificate) (l : List (List ℕ)). crosses_wanted w (history_of h) (certificate_of h c l))
 
-          made : Option (List ℕ)
-          made = text_if_some (events_in r.history) (lists_wanted wanted (history_of r.history) (certificate_of r.history r.certificate rows))
+        pub texts-read : wanted ≡ code.Some w → (k : Result Made Unmade) (then : List ℕ)
+            → IsMade (made_answer (found_in history r.history.declared r.certificate.criterion
+            (check (history_of r.history) (certificate_of r.history r.certificate rows))) r.certificate.criterion
+            (crosses_wanted w (history_of r.history) (certificate_of r.history r.certificate rows))
+            (text_if_some (events_in r.history) (lists_wanted w (history_of r.history) (certificate_of r.history r.certificate rows))) buffer)
+            (text_if_some (events_in r.history) (lists_wanted w (history_of r.history) (certificate_of r.history r.certificate rows))) buffer k then
+            → AnswersTexts k then
+        texts-read q k then p =
+            subst (λ (x : code.Option Wanted). Answers x k then) (sym q)
+            (rw readable
+            (subst (As (check_text history text) (certificate_read history text).criterion (crossing_wanted (code.Some w) history text)) lists-read
+            (subst (λ (x : Bool). As (check_text history text) (certificate_read history text).criterion x made) cross-read
+            (subst (λ (c : Criterion). As (check_text history text) c cross made) criterion-read
+            (subst (λ (v : Verdict). As v r.certificate.criterion cross made) (checked-read history text r read z rows rows-read) p)))))
+          where
+            As : Verdict → Criterion → Bool → Option (List ℕ) → Type 0
+            As v c x t = IsMade (made_answer v c x t buffer) t buffer k then
+
+            cross : Bool
+            cross = crosses_wanted w (history_of r.history) (certificate_of r.history r.certificate rows)
+
+            made : Option (List ℕ)
+            made = text_if_some (events_in r.history) (lists_wanted w (history_of r.history) (certificate_of r.history r.certificate rows))
 
 -- ---- weakening: what is wanted is the criterion of a number, if there is one
 pub weakens-to : (history text : List ℕ) (wanted : ℕ) (buffer : List ℕ) (w : code.Option Wanted) → w ≡ wanted_in (wanted_of wanted)

@@ -27,35 +27,33 @@ wanted_in none = code.None
 wanted_in (some w) = code.Some (Named w)
 
 -- It can be made of a certificate that names the criterion.
-abbrev pub may_be_made : Criterion → code.Option Wanted → Bool
-may_be_made c code.None = false
-may_be_made c (code.Some (Named w)) = is_pair c w
-may_be_made c (code.Some OneLine) = has_pasts c
+abbrev pub may_be_made : Criterion → Wanted → Bool
+may_be_made c (Named w) = is_pair c w
+may_be_made c OneLine = has_pasts c
 
 -- The lists that are wanted, and whether updates cross where one line is wanted.
-abbrev pub lists_wanted : code.Option Wanted → History → Certificate → Option Certificate
-lists_wanted code.None h c = none
-lists_wanted (code.Some (Named w)) h c = weakened w h c
-lists_wanted (code.Some OneLine) h c = in_one_line h c
+abbrev pub lists_wanted : Wanted → History → Certificate → Option Certificate
+lists_wanted (Named w) h c = weakened w h c
+lists_wanted OneLine h c = in_one_line h c
 
-abbrev pub crosses_wanted : code.Option Wanted → History → Certificate → Bool
-crosses_wanted code.None h c = false
-crosses_wanted (code.Some (Named w)) h c = false
-crosses_wanted (code.Some OneLine) h c = crosses h (order h c)
+abbrev pub crosses_wanted : Wanted → History → Certificate → Bool
+crosses_wanted (Named w) h c = false
+crosses_wanted OneLine h c = crosses h (order h c)
 
--- The same on texts.
+-- The same on texts; nothing may be wanted that there is.
 abbrev pub text_wanted : code.Option Wanted → List ℕ → List ℕ → Option (List ℕ)
-text_wanted wanted history text =
+text_wanted code.None history text = none
+text_wanted (code.Some wanted) history text =
     text_if_some (events_in (read_history history).history) (lists_wanted wanted (history_read history) (certificate_read history text))
 
 abbrev pub crossing_wanted : code.Option Wanted → List ℕ → List ℕ → Bool
-crossing_wanted wanted history text = crosses_wanted wanted (history_read history) (certificate_read history text)
+crossing_wanted code.None history text = false
+crossing_wanted (code.Some wanted) history text = crosses_wanted wanted (history_read history) (certificate_read history text)
 
 -- Where one line is wanted, the order of the certificate was read.
-abbrev pub OrderWanted : code.Option Wanted → WrittenHistory.History → WrittenCertificate.Certificate → Type 0
-OrderWanted code.None h c = Unit {0}
-OrderWanted (code.Some (Named w)) h c = Unit {0}
-OrderWanted (code.Some OneLine) h c = OrderRead h c
+abbrev pub OrderWanted : Wanted → WrittenHistory.History → WrittenCertificate.Certificate → Type 0
+OrderWanted (Named w) h c = Unit {0}
+OrderWanted OneLine h c = OrderRead h c
 
 -- An answer and a buffer are those of a verdict and the text made.
 pub record IsMade (v : Verdict) (t : Option (List ℕ)) (buffer : List ℕ) (r : Result Made Unmade) (after : List ℕ) : Type 0 where

@@ -63,44 +63,46 @@ pub enum Wanted {
 }
 
 // Whether what is wanted can be made of a certificate that names the criterion.
-fn may_be_made(named: Criterion, wanted: Option<Wanted>) -> bool
+fn may_be_made(named: Criterion, wanted: Wanted) -> bool
     ensures { result ≡ may_be_made named wanted }
 {
     match wanted {
-        None => false,
-        Some(Wanted::Named(w)) => is_pair(named, w),
-        Some(Wanted::OneLine) => has_pasts(named),
+        Wanted::Named(w) => is_pair(named, w),
+        Wanted::OneLine => has_pasts(named),
     }
 }
 
 // Whether one line is wanted and two updates are unordered.
-fn crosses_wanted(h: &History, c: &Certificate, wanted: Option<Wanted>) -> bool
+fn crosses_wanted(h: &History, c: &Certificate, wanted: Wanted) -> bool
     requires { OrderWanted wanted h.now c.now }
     ensures { (views : List (List ℕ)) → result ≡ crosses_wanted wanted (history_of h.now) (certificate_of h.now c.now views) }
 {
     match wanted {
-        None | Some(Wanted::Named(_)) => false,
-        Some(Wanted::OneLine) => crosses(h, c),
+        Wanted::Named(_) => false,
+        Wanted::OneLine => crosses(h, c),
     }
 }
 
-// The record of what is wanted, of a certificate that passed the check.
-fn record_wanted(h: &History, of: &ViewedRecord, wanted: Option<Wanted>) -> ViewedRecord
+// The record of what is wanted, of a certificate that passed the check. It is no part of its caller, whose stack the check and the writer
+// would share with it.
+#[inline(never)]
+fn record_wanted(h: &History, of: &ViewedRecord, wanted: Wanted) -> ViewedRecord
     requires { Passed h.now of.now.certificate of.now.views × OrderWanted wanted h.now of.now.certificate }
     ensures { IsRecordOf (lists_wanted wanted (history_of h.now) (certificate_of h.now of.now.certificate of.now.views)) result.certificate result.views }
 {
     match wanted {
-        None => *of,
-        Some(Wanted::Named(w)) => weakened_record(h, of, w),
-        Some(Wanted::OneLine) => line_record(h, &of.certificate),
+        Wanted::Named(w) => weakened_record(h, of, w),
+        Wanted::OneLine => line_record(h, &of.certificate),
     }
 }
 
-// What is wanted of a certificate that was read; h is the record of the history text.
+// What is wanted of a certificate that was read; h is the record of the history text. It is no part of its caller, whose stack the readers
+// would share with it.
+#[inline(never)]
 fn make_record(
     h: &History,
     of: &ViewedRecord,
-    wanted: Option<Wanted>,
+    wanted: Wanted,
     buffer: &mut [u8],
     history: &[u8],
 ) -> Result<Made, Unmade>
@@ -137,6 +139,9 @@ pub(crate) fn make(
 {
     let mut views = [[0u8; 64]; 64];
     let read = read_certificate(history, text, &mut views)?;
+    let Some(wanted) = wanted else {
+        return Err(Unmade::NotPair(read.certificate.criterion));
+    };
     let of = ViewedRecord {
         certificate: read.certificate,
         views,

@@ -9,8 +9,8 @@ pub(crate) fn is_pair(named: Criterion, wanted: Criterion) -> bool
     ensures { result ≡ is_pair named wanted }
 {
     match named {
-        Criterion::Pram => matches!(wanted, Criterion::Pram),
-        Criterion::Weak => matches!(wanted, Criterion::Weak),
+        Criterion::Pram => wanted == Criterion::Pram,
+        Criterion::Weak => wanted == Criterion::Weak,
         Criterion::Causal => matches!(
             wanted,
             Criterion::Pram | Criterion::Weak | Criterion::Causal

@@ -1,11 +1,18 @@
 -- What the reader keeps of a line: its list and fault 0, or its first fault and no list.
-use Rattle.std.specs.Prelude.{ℕ, Bool, cond, List, eqb, Result, Ok, Err}
+use Rattle.std.specs.Prelude.{ℕ, Bool, true, false, cond, List, eqb, Result, Ok, Err}
 use Rattle.layout.specs.List.{numbers_of}
 use Rattle.history.specs.declared.fault.Fault.{Fault}
 use Rattle.history.specs.Faults.{fault_number}
+use Rattle.certificate.specs.declared.list.Sort.{Sort}
+use Rattle.certificate.specs.declared.list.Sort.TheVariants.{Past, View}
 use Rattle.certificate.specs.declared.record.EventList.{EventList}
 use Rattle.certificate.specs.Record.{no_list, event_list_of}
 use Rattle.certificate.specs.Faults.{pair_fault, list_fault, list_said}
+
+-- A list of the sort is a past, and has to rise.
+abbrev pub is_past : Sort → Bool
+is_past Past = true
+is_past View = false
 
 pub record ListLine : Type 0 where
   pub fault : ℕ

@@ -6,11 +6,19 @@ use Rattle.layout.specs.List.{all_numbers, all_below}
 use Rattle.history.specs.Record.{value_bound, no_object}
 use Rattle.history.specs.Kinds.{op_of, has_op, takes_value, may_answer}
 use Rattle.history.specs.Faults.{EventRead, answer_items, answer_said, event_layout, event_limits, faulty_event}
+use Rattle.layout.specs.declared.list.ListFault.{ListFault}
+use Rattle.layout.specs.declared.list.ListFault.TheVariants.{NotList, Over, Many}
 use Rattle.history.specs.declared.fault.Fault.{Fault}
 use Rattle.history.specs.declared.fault.Fault.TheVariants.{Layout, Limits}
 use Rattle.history.specs.declared.record.Object.{Object}
 use Rattle.history.specs.declared.record.Answer.{Answer}
 use Rattle.history.specs.declared.event.Said.{Said}
+
+-- What is wrong with a field that is no list of so many numbers below a bound.
+abbrev pub listed_fault : ListFault → Fault
+listed_fault NotList = Layout
+listed_fault Over = Limits
+listed_fault Many = Limits
 
 -- A number below a bound.
 unfoldable pub number_field : ℕ → List ℕ → Result (Result ℕ Fault) Fault

@@ -1,5 +1,5 @@
 -- The fields of a line as they are written.
-use Rattle.std.specs.Prelude.{ℕ, cond, List, [], ◌∷◌, ◌++◌, get_or}
+use Rattle.std.specs.Prelude.{ℕ, cond, List, [], ◌∷◌, ◌++◌, length, get_or}
 use Rattle.layout.specs.Word.{dash, object_heading, event_heading}
 use Rattle.layout.specs.Number.{spell}
 use Rattle.layout.specs.Pieces.{pieces_from}
@@ -8,7 +8,6 @@ use Rattle.history.specs.Record.{no_object, no_event}
 use Rattle.history.specs.HistoryText.{answer_text, object_text, event_text}
 use Rattle.history.specs.declared.record.Object.{Object}
 use Rattle.history.specs.declared.record.Event.{Event}
-use Rattle.history.specs.declared.record.History.{History}
 use Rattle.history_writer.specs.declared.line.Field.{Field}
 use Rattle.history_writer.specs.declared.line.Field.TheVariants.{Dash, Number, Kind, Op, Answer}
 
@@ -36,11 +35,11 @@ abbrev pub event_piece : List Event → ℕ → List ℕ
 event_piece es i = event_text i (get_or es i no_event) ++ 10 ∷ []
 
 -- The whole text: the objects with their heading, and the events with theirs.
-abbrev pub objects_bytes : History → List ℕ
-objects_bytes h = (object_heading ++ 10 ∷ []) ++ pieces_from (object_piece h.objects) 0 h.declared
+abbrev pub objects_bytes : List Object → List ℕ
+objects_bytes os = (object_heading ++ 10 ∷ []) ++ pieces_from (object_piece os) 0 (length os)
 
-abbrev pub events_bytes : History → List ℕ
-events_bytes h = (event_heading ++ 10 ∷ []) ++ pieces_from (event_piece h.events) 0 h.count
+abbrev pub events_bytes : List Event → List ℕ
+events_bytes es = (event_heading ++ 10 ∷ []) ++ pieces_from (event_piece es) 0 (length es)
 
-abbrev pub text_bytes : History → List ℕ
-text_bytes h = objects_bytes h ++ events_bytes h
+abbrev pub text_bytes : List Object → List Event → List ℕ
+text_bytes os es = objects_bytes os ++ events_bytes es

@@ -1,46 +1,48 @@
 -- `read_pair` meets its contract, by what the second field is as a list. Assumes nothing.
-use mathlib.Core.Path.{◌≡◌, sym, ap, ◌∙◌}
-use mathlib.Core.Bool.{true, not, ◌||◌, or-true}
-use lib.ListN.{take}
+use mathlib.Core.Path.{refl, sym, ◌∙◌}
 use borrow.Author.Rules.{rules}
-use Rattle.std.proofs.Common.{Err}
-use Rattle.certificate.specs.Faults.{rising}
-use Rattle.certificate.proofs.ListLineLaws.{pair-number, pair-not, pair-over, pair-many, pair-good, pair-falls, kept-count, kept-fits}
+use Rattle.std.proofs.Common.{ℕ, ◌<◌, arith, List, ◌++◌, drop, replicate}
+use Rattle.std.proofs.lemmas.Grind.{common_steps, same_number_lists}
+use Rattle.std.proofs.lemmas.Iterator.Adapters.{serves_from_places}
+use Rattle.layout.proofs.ListLaws.{yields_items}
+use Rattle.certificate.proofs.ListLineLaws.{pair-number, pair-refused, pair-good, pair-falls, kept-numbers, kept-count, kept-long, kept-few, kept-below, kept-list}
 use Rattle.certificate.proofs.list.read_pair.Goals as goal
-use Rattle.certificate.proofs.list.read_pair.Goals.{else-past-via-then-past+else-not-is_rising, else-past-via-else-past}
 
 pub returns-then-not-is_spelling : goal.returns-then-not-is_spelling
 returns-then-not-is_spelling c = pair-number _ _ _ _ _ (sym c.if-not-is_spelling.ensures)
 
-pub returns-in-Err-NotList : goal.returns-in-Err-NotList
-returns-in-Err-NotList c =
-    pair-not _ _ _ _ _ (sym c.if-not-is_spelling.ensures) _ (search rules) (sym c.read_list.ensures.0 ∙ c.in-Err-NotList.is ∙ ap Err c.in-Err-NotList.field-0-is)
+pub returns-in_err-n : goal.returns-in_err-n
+returns-in_err-n c =
+    pair-refused _ _ _ _ _ (sym c.if-not-is_spelling.ensures) _ (search rules) _ (sym c.read_list.ensures.0 ∙ c.in_err-n.was) _ c.from_residual.ensures.1
 
-pub returns-in-Err-Over : goal.returns-in-Err-Over
-returns-in-Err-Over c =
-    pair-over _ _ _ _ _ (sym c.if-not-is_spelling.ensures) _ (search rules) (sym c.read_list.ensures.0 ∙ c.in-Err-Over.is ∙ ap Err c.in-Err-Over.field-0-is)
+pub slice_bounds-items-end-2 : goal.slice_bounds-items-end-2
+slice_bounds-items-end-2 c =
+    kept-few _ _ _ _ c.args.part.few _ refl (sym c.read_list.ensures.0 ∙ c.in_ok-n.was) c.read_list.ensures.1 _ refl
 
-pub returns-in-Err-Many : goal.returns-in-Err-Many
-returns-in-Err-Many c =
-    pair-many _ _ _ _ _ (sym c.if-not-is_spelling.ensures) _ (search rules) (sym c.read_list.ensures.0 ∙ c.in-Err-Many.is ∙ ap Err c.in-Err-Many.field-0-is)
+pub slice_bounds-in_order-end : goal.slice_bounds-in_order-end
+slice_bounds-in_order-end c =
+    sym (kept-count _ _ _ _ c.args.part.few _ refl (sym c.read_list.ensures.0 ∙ c.in_ok-n.was) c.read_list.ensures.1 _ refl)
 
-pub slice_bounds-listed-end : goal.slice_bounds-listed-end
-slice_bounds-listed-end c = sym (kept-count _ _ _ _ _ c.requires (search rules) (sym c.read_list.ensures.0 ∙ c.in-Ok.is) c.read_list.ensures.1)
+pub returns-then-not-in_order : goal.returns-then-not-in_order
+returns-then-not-in_order c =
+    let e = kept-numbers _ _ _ _ c.args.part.few _ refl (sym c.read_list.ensures.0 ∙ c.in_ok-n.was) c.read_list.ensures.1 _ refl in
+    pair-falls _ _ _ _ _ (sym c.if-not-is_spelling.ensures) _ (search rules) _ (sym c.read_list.ensures.0 ∙ c.in_ok-n.was) _ e (sym c.if-not-in_order.ensures)
 
-pub returns-then-not-is_rising : goal.returns-then-not-is_rising
-returns-then-not-is_rising c =
-    pair-falls _ _ _ _ _ (sym c.if-not-is_spelling.ensures) _ (search rules) _ (sym c.read_list.ensures.0 ∙ c.in-Ok.is) _ c.read_list.ensures.1
-    c.if-past.true (sym c.if-not-is_rising.ensures)
-
-pub narrow-requires : goal.narrow-requires
-narrow-requires c = kept-fits _ _ _ _ _ c.requires (search rules) (sym c.read_list.ensures.0 ∙ c.in-Ok.is) c.read_list.ensures.1
+pub map-requires : goal.map-requires
+map-requires c =
+    let ys : List ℕ = c.read_list.new.items ++ drop c.args.part.count (replicate 64 0) in
+    let below = kept-below _ _ _ _ c.args.part.few _ refl (sym c.read_list.ensures.0 ∙ c.in_ok-n.was) c.read_list.ensures.1 ys refl in (
+      omega arith,
+      (omega arith, (omega arith, serves_from_places (yields_items ys) (λ x q k. refl) (λ x k l e κs p n a r. grind (arith, common_steps, below k)))),
+    )
 
 pub returns : goal.returns
 returns c =
-    let r : not c.args.past || rising (take c.in-Ok.n c.read_list.new.items) ≡ true =
-    elim c.else-past.branch [
-      | else-past-via-then-past+else-not-is_rising w ↦ rw (sym w.if-not-is_rising.ensures) (or-true (not c.args.past))
-      | else-past-via-else-past w ↦ rw w.if-past.false
-    ] in
-    rw c.narrow.ensures
-    (pair-good _ _ _ _ _ (sym c.if-not-is_spelling.ensures) _ (search rules) _ (sym c.read_list.ensures.0 ∙ c.in-Ok.is) _ c.read_list.ensures.1 r)
+    let ys : List ℕ = c.read_list.new.items ++ drop c.args.part.count (replicate 64 0) in
+    let q = sym c.read_list.ensures.0 ∙ c.in_ok-n.was in
+    let m = c.map.ensures.items in
+    let long = kept-long _ _ _ _ c.args.part.few _ refl q c.read_list.ensures.1 ys refl in
+    let same = same_number_lists c.map.result ys (m.long ∙ sym long) (λ k l. let n : k < 64 = omega (arith, m.long) in let at = m.at k 0 0 n in search rules) in
+    let e = kept-numbers _ _ _ _ c.args.part.few _ refl q c.read_list.ensures.1 ys refl in
+    rw (← kept-list _ _ _ _ c.args.part.few _ refl q c.read_list.ensures.1 ys refl c.map.result same)
+    (pair-good _ _ _ _ _ (sym c.if-not-is_spelling.ensures) _ (search rules) _ q _ e (sym c.if-not-in_order.ensures))

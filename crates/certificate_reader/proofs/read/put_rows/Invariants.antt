@@ -9,6 +9,6 @@ abbrev pub invariant-loop-i : goal.invariant-loop-i
 invariant-loop-i l = record {
   long : length l.lengths ≡ 64;
   tall : length l.rows ≡ 64;
-  lengths_are : take l.i l.lengths ≡ map (λ (v : EventList). v.count) (take l.i l.view-items);
-  rows_are : take l.i l.rows ≡ map (λ (v : EventList). v.events) (take l.i l.view-items);
+  lengths_are : take l.i l.lengths ≡ map (λ (v : EventList). v.count) (take l.i l.views);
+  rows_are : take l.i l.rows ≡ map (λ (v : EventList). v.events) (take l.i l.views);
 }

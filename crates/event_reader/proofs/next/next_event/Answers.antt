@@ -1,26 +1,7 @@
 -- `next_event` meets its contract: the quick way tells what the line is, or the line is cut and read. Assumes nothing.
-use native.Mathlib.Omega.{arith}
-use Prim.Native.Nat.{◌+◌}
-use mathlib.Core.Path.{◌≡◌, sym, ap, ◌∙◌}
-use lib.ListN.{length, drop, length-drop}
-use Rattle.std.proofs.Common.{Ok, Err}
-use Rattle.layout.specs.Split.{find}
-use Rattle.history.specs.declared.fault.Fault.TheVariants.{Layout}
-use Rattle.event_reader.specs.Steps.Next.{ending_at}
-use Rattle.event_reader.proofs.NextLaws.{next-cut, next-line, next_place}
+use borrow.Author.Rules.{rules}
+use Rattle.event_reader.proofs.NextLaws.{next_is}
 use Rattle.event_reader.proofs.next.next_event.Goals as goal
 
-pub returns-in-Some : goal.returns-in-Some
-returns-in-Some c = next_place _ _ _ _ c.requires.0 _ (Ok c.in-Some.quick.value) c.in-Some.ensures
-
-pub returns-in_default-find_from : goal.returns-in_default-find_from
-returns-in_default-find_from c =
-    let t = c.args.text.now in
-    let e : length t ≡ c.args.from + find 10 (drop c.args.from t) = omega (arith, c.in_default-find_from.ensures, length-drop c.args.from t) in
-    next_place _ _ _ _ c.requires.0 (length t) (Err Layout) (sym (next-cut _ _ _ _ _ e c.requires.0 (omega arith)))
-
 pub returns : goal.returns
-returns c =
-    next_place _ _ _ _ c.requires.0 _ c.read_event.result
-    (ap (ending_at c.in-Some-find_from.end) c.read_event.ensures
-    ∙ sym (next-line _ _ _ _ _ c.in-Some-find_from.ensures.0 c.requires.0 c.in-Some-find_from.ensures.2))
+returns c = next_is c.args.own c.args.objects.now c.args.text.now c.quick_event-quick.result c.next_line.result c.quick_event-quick.ensures (search rules)

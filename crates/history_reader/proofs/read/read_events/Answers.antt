@@ -16,7 +16,7 @@ use Rattle.history.specs.Record.{no_event}
 use Rattle.history_reader.specs.Place.{nowhere}
 use Rattle.history_reader.specs.ReadHistory.{HistoryRead, refusal, history_read, events_from}
 use Rattle.history.proofs.PadLaws.{filled_none, filled-count, filled-take, filled_more}
-use Rattle.history_reader.proofs.ReadLaws.{kept, failed, events-done, events-more, events-bad, event-short, event-few, history-made}
+use Rattle.history_reader.proofs.ReadLaws.{kept, failed, next-told, events-done, events-more, events-bad, event-short, event-few, history-made}
 use Rattle.history_reader.proofs.read.read_events.Goals as goal
 
 pub loop-start-init : goal.loop-start-init
@@ -29,36 +29,42 @@ loop-start-init c =
 
 pub returns-in_err-events : goal.returns-in_err-events
 returns-in_err-events c =
+    let n = next-told c.args.text.now c.loop-start.start _ _ c.loop-start.invariant.to c.next_event-next.result c.next_event-next.ensures in
     let p = err_from_is_err_and c.from_residual.result c.from_residual.ensures.1 in
-    let f = failed c.next_event-next.result.event c.map_err.result _ c.in_err-events.field-0.0 c.map_err.ensures.cases c.in_err-events.was in
+    let f = failed c.next_event-next.result.read c.map_err.result _ c.in_err-events.field-0.0 c.map_err.ensures.cases c.in_err-events.was in
     let l = f.1.1 in
-    let refused : history_read (Err c.in_err-events.field-0.0) ≡ refusal (fault_number f.0) (c.args.read.declared + c.loop-start.count + 3) c.loop-start.start (c.next_event-next.result.end - c.loop-start.start) = search rules in
+    let refused : history_read (Err c.in_err-events.field-0.0) ≡ refusal (fault_number f.0) (c.args.read.declared + c.loop-start.count + 3) c.loop-start.start (c.loop-start.start + c.next_event-next.result.length - c.loop-start.start) = search rules in
     rw (p.1, p.2)
     (refused
     ∙ sym (c.loop-start.invariant.says
-    ∙ events-bad (c.args.read.declared + c.loop-start.count + 3) c.args.text.now c.loop-start.start c.next_event-next.result.end c.next_event-next.ensures.1 c.loop-start.invariant.to c.next_event-next.ensures.3 _ c.loop-start-test.true
-    c.next_event-next.result.event c.loop-start.count c.next_event-next.ensures.0 _ (filled-count c.loop-start.invariant.filled) f.0 f.1.0))
+    ∙ events-bad (c.args.read.declared + c.loop-start.count + 3) c.args.text.now c.loop-start.start _ n.1 c.loop-start.invariant.to n.2 _ c.loop-start-test.true
+    c.next_event-next.result.read c.loop-start.count n.0 _ (filled-count c.loop-start.invariant.filled) f.0 f.1.0))
 
 pub bounds-events-count : goal.bounds-events-count
 bounds-events-count c =
-    event-few c.loop-start.count _ c.args.text.now c.loop-start.start c.next_event-next.result.end c.next_event-next.ensures.1 c.loop-start.invariant.to c.next_event-next.result.event c.next_event-next.ensures.0 c.in_ok-events.field-0
-    (kept c.next_event-next.result.event c.map_err.result _ c.in_ok-events.field-0 c.map_err.ensures.cases c.in_ok-events.was)
+    let n = next-told c.args.text.now c.loop-start.start _ _ c.loop-start.invariant.to c.next_event-next.result c.next_event-next.ensures in
+    event-few c.loop-start.count _ c.args.text.now c.loop-start.start _ n.1 c.loop-start.invariant.to c.next_event-next.result.read n.0 c.in_ok-events.field-0
+    (kept c.next_event-next.result.read c.map_err.result _ c.in_ok-events.field-0 c.map_err.ensures.cases c.in_ok-events.was)
 
 pub loop-start-preserved : goal.loop-start-preserved
 loop-start-preserved c =
-    let v = kept c.next_event-next.result.event c.map_err.result _ c.in_ok-events.field-0 c.map_err.ensures.cases c.in_ok-events.was in
-    let few : c.loop-start.count < 64 = event-few c.loop-start.count _ c.args.text.now c.loop-start.start c.next_event-next.result.end c.next_event-next.ensures.1 c.loop-start.invariant.to c.next_event-next.result.event c.next_event-next.ensures.0 c.in_ok-events.field-0 v in
-    let short : c.next_event-next.result.end < length c.args.text.now = event-short c.loop-start.count _ c.args.text.now c.loop-start.start c.next_event-next.result.end c.next_event-next.ensures.1 c.loop-start.invariant.to c.next_event-next.result.event c.next_event-next.ensures.0 c.in_ok-events.field-0 v in
-    record {
+    let n = next-told c.args.text.now c.loop-start.start _ _ c.loop-start.invariant.to c.next_event-next.result c.next_event-next.ensures in
+    let e : ℕ = c.loop-start.start + c.next_event-next.result.length in
+    let v = kept c.next_event-next.result.read c.map_err.result _ c.in_ok-events.field-0 c.map_err.ensures.cases c.in_ok-events.was in
+    let few : c.loop-start.count < 64 = event-few c.loop-start.count _ c.args.text.now c.loop-start.start e n.1 c.loop-start.invariant.to c.next_event-next.result.read n.0 c.in_ok-events.field-0 v in
+    let short : e < length c.args.text.now = event-short c.loop-start.count _ c.args.text.now c.loop-start.start e n.1 c.loop-start.invariant.to c.next_event-next.result.read n.0 c.in_ok-events.field-0 v in
+    let k : c.loop-start.start + (c.next_event-next.result.length + 1) ≡ e + 1 = omega arith in
+    rw k
+    (record {
       to = omega arith;
       filled = filled_more c.loop-start.invariant.filled c.in_ok-events.field-0 few;
       says =
           c.loop-start.invariant.says
-          ∙ events-more (c.args.read.declared + c.loop-start.count + 3) c.args.text.now c.loop-start.start c.next_event-next.result.end c.next_event-next.ensures.1 c.loop-start.invariant.to c.next_event-next.ensures.3 _ c.loop-start-test.true
-          c.next_event-next.result.event c.loop-start.count c.next_event-next.ensures.0 _ (filled-count c.loop-start.invariant.filled) c.in_ok-events.field-0 (c.args.read.declared + (c.loop-start.count + 1) + 3) v (omega arith)
-          ∙ ap (λ (es : List Event). events_from (take c.args.read.declared c.args.read.objects) es (c.args.read.declared + (c.loop-start.count + 1) + 3) (c.next_event-next.result.end + 1) (split 10 (drop (c.next_event-next.result.end + 1) c.args.text.now)))
+          ∙ events-more (c.args.read.declared + c.loop-start.count + 3) c.args.text.now c.loop-start.start e n.1 c.loop-start.invariant.to n.2 _ c.loop-start-test.true
+          c.next_event-next.result.read c.loop-start.count n.0 _ (filled-count c.loop-start.invariant.filled) c.in_ok-events.field-0 (c.args.read.declared + (c.loop-start.count + 1) + 3) v (omega arith)
+          ∙ ap (λ (es : List Event). events_from (take c.args.read.declared c.args.read.objects) es (c.args.read.declared + (c.loop-start.count + 1) + 3) (e + 1) (split 10 (drop (e + 1) c.args.text.now)))
           (sym (filled-take c.loop-start.invariant.filled c.in_ok-events.field-0 few));
-    }
+    })
 
 pub returns : goal.returns
 returns c =

@@ -9,12 +9,12 @@ use Rattle.history_reader.specs.ReadHistory.{objects_from}
 use Rattle.history.proofs.PadLaws.{Filled}
 use Rattle.history_reader.proofs.read.read_objects.Given as goal
 
-abbrev pub invariant-loop-end : goal.invariant-loop-end
-invariant-loop-end l = record {
+abbrev pub invariant-loop-line : goal.invariant-loop-line
+invariant-loop-line l = record {
   to : l.start ≤ length l.text;
   filled : Filled 16 no_object l.objects l.declared;
   says : objects_from [] 2 l.from (split 10 (drop l.from l.text)) ≡ objects_from (take l.declared l.objects) (l.declared + 2) l.start (split 10 (drop l.start l.text));
 }
 
-abbrev pub decreases-loop-end : goal.decreases-loop-end
-decreases-loop-end l = length l.text - l.start
+abbrev pub decreases-loop-line : goal.decreases-loop-line
+decreases-loop-line l = length l.text - l.start

@@ -10,4 +10,4 @@ pub returns : goal.returns
 returns c =
     let n : c.min.result ≡ min c.args.a.count 8 = rw c.from.ensures at c.min.ensures in
     let long : length c.args.a.values ≡ 8 = search rules in
-    (c.list_len.ensures.0 ∙ ap length (told_is c.args.a c.min.result c.widen.result c.if-a.false n long c.widen.ensures), c.list_len.ensures.1)
+    (c.list_len.ensures.0 ∙ ap length (told_is c.args.a c.min.result c.if-a.false n long), c.list_len.ensures.1)

@@ -16,11 +16,11 @@ pub put_list-requires : goal.put_list-requires
 put_list-requires c =
     let n : c.min.result ≡ min c.args.a.count 8 = rw c.from.ensures at c.min.ensures in
     let long : length c.args.a.values ≡ 8 = search rules in
-    omega (arith, c.requires, ap length (told_is c.args.a c.min.result c.widen.result c.if-a.false n long c.widen.ensures))
+    omega (arith, c.requires, ap length (told_is c.args.a c.min.result c.if-a.false n long))
 
 pub returns : goal.returns
 returns c =
     let n : c.min.result ≡ min c.args.a.count 8 = rw c.from.ensures at c.min.ensures in
     let long : length c.args.a.values ≡ 8 = search rules in
-    let e = told_is c.args.a c.min.result c.widen.result c.if-a.false n long c.widen.ensures in
+    let e = told_is c.args.a c.min.result c.if-a.false n long in
     (c.put_list.ensures.0 ∙ ap length e, c.put_list.ensures.1 ∙ ap (λ (t : List ℕ). fill t c.args.part.now) e)

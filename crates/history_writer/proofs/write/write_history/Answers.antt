@@ -6,8 +6,11 @@ use Rattle.history_writer.proofs.write.write_history.Goals as goal
 pub returns-then-not-is_within : goal.returns-then-not-is_within
 returns-then-not-is_within c = answer_refused c.args.h c.args.buf.now (sym c.if-not-is_within.ensures)
 
-pub history_len-n-requires : goal.history_len-n-requires
-history_len-n-requires c = counts_few c.args.h (sym c.if-not-is_within.ensures)
+pub shared_ref_as_front-objects : goal.shared_ref_as_front-objects
+shared_ref_as_front-objects c = (counts_few c.args.h (sym c.if-not-is_within.ensures)).0
+
+pub shared_ref_as_front-events : goal.shared_ref_as_front-events
+shared_ref_as_front-events c = (counts_few c.args.h (sym c.if-not-is_within.ensures)).1
 
 pub returns-then-buf-n : goal.returns-then-buf-n
 returns-then-buf-n c =
@@ -15,8 +18,7 @@ returns-then-buf-n c =
 
 pub put_history-requires : goal.put_history-requires
 put_history-requires c =
-    let f = counts_few c.args.h (sym c.if-not-is_within.ensures) in
-    (f.0, f.1, omega (arith, c.history_len-n.ensures, c.if-buf-n.false))
+    omega (arith, c.history_len-n.ensures, c.if-buf-n.false)
 
 pub returns : goal.returns
 returns c =

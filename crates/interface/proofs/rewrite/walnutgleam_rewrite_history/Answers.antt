@@ -8,10 +8,10 @@ use Rattle.interface.proofs.rewrite.walnutgleam_rewrite_history.Goals as goal
 
 pub returns-in-Ok : goal.returns-in-Ok
 returns-in-Ok c =
-    rw (c.give.ensures.0, c.give.ensures.1)
+    rw (c.give.ensures.0, c.give.ensures.1, c.numbered.ensures.0, c.numbered.ensures.1)
     (history-back c.args.history.now c.args.buffer.now _ c.in-Ok.ensures refl (written_of c.write_history.result) _ c.write_history.ensures.0 c.write_history.ensures.1)
 
 pub returns-in-Err : goal.returns-in-Err
 returns-in-Err c =
-    rw (c.refuse.ensures.0, c.refuse.ensures.1)
+    rw (c.give-in-Err.ensures.0, c.give-in-Err.ensures.1, c.from.ensures, c.number.ensures)
     (refused c.args.history.now c.args.buffer.now _ _ (ap (λ (x : HistoryRead). x.fault) c.in-Err.ensures) (fault-some c.in-Err.refusal.fault))

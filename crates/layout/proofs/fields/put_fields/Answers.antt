@@ -4,8 +4,8 @@ use Rattle.layout.specs.Fill.{fill}
 use Rattle.layout.proofs.FieldLaws.{line_is}
 use Rattle.layout.proofs.fields.put_fields.Goals as goal
 
-pub put_pieces-requires-clause-room : goal.put_pieces-requires-clause-room
-put_pieces-requires-clause-room g c = omega (arith, ap length (line_is g.F.Field.text c.args.fields.now), c.requires)
+pub put_pieces-requires : goal.put_pieces-requires
+put_pieces-requires g c = omega (arith, ap length (line_is g.F.Field.text c.args.fields.now), c.requires)
 
 pub returns : goal.returns
 returns g c =

@@ -6,5 +6,6 @@ use Rattle.layout.proofs.pieces.put_pieces.Given as goal
 
 abbrev pub invariant-loop-i : goal.invariant-loop-i
 invariant-loop-i g l =
-    (l.i ≤ l.n)
-    × Writing (pieces_from (g.P.Pieces.piece l.pieces) 0 l.n) l.initial.part (pieces_from (g.P.Pieces.piece l.pieces) l.i (l.n - l.i)) l.part l.at
+    (l.i ≤ g.P.Pieces.count l.pieces)
+    × Writing (pieces_from (g.P.Pieces.piece l.pieces) 0 (g.P.Pieces.count l.pieces)) l.initial.part
+    (pieces_from (g.P.Pieces.piece l.pieces) l.i (g.P.Pieces.count l.pieces - l.i)) l.part l.at

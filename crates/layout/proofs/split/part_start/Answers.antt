@@ -1,13 +1,11 @@
 -- `part_start` meets its contract: the part with the number k is one of those that are left of the rest. Assumes nothing.
-use Rattle.std.proofs.Common.{◌≡◌, ◌<◌, ◌+◌, ◌-◌, arith, sym, ◌∙◌, length, drop, length-drop, le_refl}
-use Rattle.layout.specs.Split.{find}
-use Rattle.layout.proofs.SplitLaws.{part-next, part_none, part_end, start_first, start-next, start_none}
+use Rattle.std.proofs.Common.{◌≡◌, ◌<◌, ◌+◌, ◌-◌, arith, sym, ◌∙◌, length, drop, le_refl}
+use Rattle.layout.proofs.SplitLaws.{part-told, part-last, part-next, part_none, part_end, start_first, start-next, start_none}
 use Rattle.layout.proofs.split.part_start.Goals as goal
 
 pub returns-in_default : goal.returns-in_default
 returns-in_default c =
-    let none : length c.args.s.now ≡ c.loop.start + find c.args.b (drop c.loop.start c.args.s.now) =
-    omega (arith, c.in_default.ensures, length-drop c.loop.start c.args.s.now) in
+    let none = part-last c.args.b c.args.s.now c.loop.start c.loop.invariant.0 c.in_default.ensures.0 in
     let left : 0 < c.args.k - c.loop.counter = omega arith in
     let all = le_refl (length c.args.s.now) in (
       sym (c.loop.invariant.2 ∙ start_none c.args.b c.args.s.now c.loop.start (length c.args.s.now) none c.loop.invariant.0 (c.args.k - c.loop.counter) left all),
@@ -18,12 +16,14 @@ returns-in_default c =
 
 pub loop-preserved : goal.loop-preserved
 loop-preserved c =
+    let p = part-told c.args.b c.args.s.now c.loop.start c.in-Some.part.now c.loop.invariant.0 c.in-Some.ensures.0 c.in-Some.ensures.1 in
     let left : 0 < c.args.k - c.loop.counter = omega arith in
     let k : c.args.k - (c.loop.counter + 1) ≡ c.args.k - c.loop.counter - 1 = omega arith in
-    rw k (
-      omega (arith, c.in-Some.ensures.2),
-      c.loop.invariant.1 ∙ part-next c.args.b c.args.s.now c.loop.start c.in-Some.e c.in-Some.ensures.0 c.loop.invariant.0 (c.args.k - c.loop.counter) left c.in-Some.ensures.2,
-      c.loop.invariant.2 ∙ start-next c.args.b c.args.s.now c.loop.start c.in-Some.e c.in-Some.ensures.0 c.loop.invariant.0 (c.args.k - c.loop.counter) left c.in-Some.ensures.2,
+    let n : c.loop.start + (length c.in-Some.part.now + 1) ≡ c.loop.start + length c.in-Some.part.now + 1 = omega arith in
+    rw (k, n) (
+      omega (arith, p.1),
+      c.loop.invariant.1 ∙ part-next c.args.b c.args.s.now c.loop.start _ p.0 c.loop.invariant.0 (c.args.k - c.loop.counter) left p.1,
+      c.loop.invariant.2 ∙ start-next c.args.b c.args.s.now c.loop.start _ p.0 c.loop.invariant.0 (c.args.k - c.loop.counter) left p.1,
     )
 
 pub returns : goal.returns

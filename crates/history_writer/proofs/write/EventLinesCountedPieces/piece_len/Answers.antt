@@ -6,4 +6,4 @@ use Rattle.history_writer.proofs.write.EventLinesCountedPieces.piece_len.Goals a
 pub returns : goal.returns
 returns c =
     let n : length c.event_fields.result ≡ 6 = search rules in
-    (c.fields_len.ensures.0 ∙ ap length (event_line c.args.self.now.events.now c.args.i _ c.requires.0 c.event_fields.result c.event_fields.ensures), omega (arith, c.fields_len.ensures.1))
+    (c.fields_len.ensures.0 ∙ ap length (event_line c.args.self.now.events.now c.args.i _ c.requires c.event_fields.result c.event_fields.ensures), omega (arith, c.fields_len.ensures.1))

@@ -6,4 +6,4 @@ use Rattle.history_writer.proofs.write.ObjectLinesCountedPieces.piece_len.Goals 
 pub returns : goal.returns
 returns c =
     let n : length c.object_fields.result ≡ 3 = search rules in
-    (c.fields_len.ensures.0 ∙ ap length (object_line c.args.self.now.objects.now c.args.i _ c.requires.0 c.object_fields.result c.object_fields.ensures), omega (arith, c.fields_len.ensures.1))
+    (c.fields_len.ensures.0 ∙ ap length (object_line c.args.self.now.objects.now c.args.i _ c.requires c.object_fields.result c.object_fields.ensures), omega (arith, c.fields_len.ensures.1))
