@@ -16,11 +16,12 @@ use Rattle.history.specs.declared.record.Kind.{Kind}
 use Rattle.history.specs.declared.record.Kind.TheVariants.{Register, Queue, Stack, Window, Channel}
 use Rattle.history.specs.Kinds.{has_width, width_limit}
 use Rattle.history.specs.Readable.{good_object, within}
-use Rattle.history.proofs.PadLaws.{pad-length, take-pad, get_or-pad}
+use Rattle.history.proofs.PadLaws.{pad-length, get_or-pad}
 use Rattle.history.proofs.WithinLaws.{within-limits}
 use Rattle.history.proofs.Guarantees.{within-sound}
 use Rattle.certificate.specs.declared.numbers.ViewNumbers.{ViewNumbers}
 use Rattle.certificate.specs.Steps.Numbers.{view_numbers_of}
+use Rattle.certificate.proofs.NumberingLaws.{numbers-in}
 use Rattle.criteria.specs.Object.{keeps}
 use Rattle.criteria.specs.History.{event}
 use Rattle.criteria.specs.Records as CriteriaRecords
@@ -97,10 +98,6 @@ number-count x ns q = ap (λ (y : ViewNumbers). y.count) q
 pub number_at : (x : ViewNumbers) (ns : List ℕ) → x ≡ view_numbers_of ns → (k : ℕ) → get_or x.numbers k 0 ≡ get_or ns k 0
 unfolding view_numbers_of
 number_at x ns q k = ap (λ (y : ViewNumbers). get_or y.numbers k 0) q ∙ get_or-pad 64 0 ns k
-
-pub numbers-in : (x : ViewNumbers) (ns : List ℕ) → x ≡ view_numbers_of ns → take x.count x.numbers ≡ ns
-unfolding view_numbers_of
-numbers-in x ns q = ap (λ (y : ViewNumbers). take y.count y.numbers) q ∙ take-pad 64 0 ns
 
 pub numbers-long : (x : ViewNumbers) (ns : List ℕ) → x ≡ view_numbers_of ns → length (take x.count x.numbers) ≡ x.count
 numbers-long x ns q = ap length (numbers-in x ns q) ∙ sym (number-count x ns q)

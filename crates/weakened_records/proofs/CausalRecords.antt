@@ -34,7 +34,7 @@ use Rattle.weakened.specs.Steps.{lengths_of, view_rows_of, last_in}
 use Rattle.weakened_records.specs.declared.records.ViewedRecord.{ViewedRecord}
 use Rattle.weakened.proofs.CausalLaws.{last-below}
 use Rattle.orders.proofs.ViewLaws.{view-first, views-first}
-use Rattle.faults.proofs.RecordFacts.{numbers-in}
+use Rattle.certificate.proofs.NumberingLaws.{numbers-in}
 use Rattle.faults.proofs.CheckLaws.{process-of, event-views, view-same}
 use Rattle.weakened_records.proofs.PassedLaws.{size-passed, few-passed, few-numbers, pasts-passed, lengths-passed, rows-passed, good-passed}
 use Rattle.weakened_records.proofs.RecordLaws.{record-made, same-criterion}

@@ -28,7 +28,8 @@ use Rattle.criteria.proofs.Meeting.{process-listed}
 use Rattle.criteria.proofs.RecordLaws.{processes-are, view-count}
 use Rattle.orders.specs.Rows.{view_at}
 use Rattle.orders.proofs.ViewLaws.{view-first}
-use Rattle.faults.proofs.RecordFacts.{numbers-in, numbers-long}
+use Rattle.certificate.proofs.NumberingLaws.{numbers-in}
+use Rattle.faults.proofs.RecordFacts.{numbers-long}
 use Rattle.faults.proofs.CheckLaws.{few-of, process-at, view-same}
 use Rattle.weakened.specs.declared.views.ViewRows.{ViewRows}
 use Rattle.weakened.specs.Steps.{lengths_of, view_rows_of}

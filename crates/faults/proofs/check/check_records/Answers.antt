@@ -3,9 +3,10 @@ use Rattle.std.proofs.Common.{rules, arith, ◌≡◌, ◌<◌, ◌∙◌, ap, s
 use Rattle.std.proofs.Math.Seq.{get_or-take}
 use Rattle.std.proofs.lemmas.Result.{err_from_is_err_and}
 use Rattle.certificate.specs.Record.{no_list}
+use Rattle.certificate.proofs.NumberingLaws.{numbers-in}
 use Rattle.orders.proofs.ViewLaws.{views-first}
 use Rattle.faults.specs.Finding.{finding_of}
-use Rattle.faults.proofs.RecordFacts.{process-small, numbers-in, numbers-long}
+use Rattle.faults.proofs.RecordFacts.{process-small, numbers-long}
 use Rattle.faults.proofs.CheckLaws.{few-of, short-past, short-views, event-views, few-views, order-stops, views-stop, replay-stops, take-few, taken}
 use Rattle.faults.proofs.check.check_records.Goals as goal
 
