@@ -57,8 +57,8 @@ fn places_of(answer: Result<Checked, Refusal>) -> [u32; 7]
     requires { SmallPlace (verdict_of answer).place }
     ensures { result ≡ places_of (verdict_of answer) }
 {
-    let criterion = or_none(criterion_in(answer).map(|c| criterion_number(c)));
-    let view = or_none(view_in(answer).map(|v| u32::from(v)));
+    let criterion = or_none(criterion_in(answer).map(criterion_number));
+    let view = or_none(view_in(answer).map(u32::from));
     let event = or_none(event_in(answer).map(|e| u32::from(e.0)));
     match place_in(answer) {
         Some(place) => {

@@ -1,7 +1,7 @@
 -- On texts: what is made of two texts is what is made of the records that they are read as. Assumes nothing.
 use Rattle.std.specs.Prelude as code
 use Rattle.std.specs.Prelude.{Result, Ok, Err, is_ok}
-use Prim.Native.Nat.{ℕ}
+use Prim.Native.Nat.{ℕ, zero, suc}
 use mathlib.Core.Path.{◌≡◌, refl, sym, ap, ◌∙◌, subst}
 use mathlib.Core.Bool.{Bool, true, false}
 use mathlib.Core.List.{List}
@@ -12,6 +12,9 @@ use borrow.Author.Tests.{eq-eqb, ne_eqb}
 use Rattle.history.specs.declared.record.History.{History}
 use Rattle.history.specs.Record.{events_in}
 use Rattle.certificate.specs.declared.record.Criterion.{Criterion}
+use Rattle.certificate.specs.declared.criterion.NoCriterion.{NoCriterion}
+use Rattle.certificate.specs.Criteria.{criterion_numbered}
+use Rattle.weakener.specs.declared.made.Wanted.TheVariants.{Named}
 use Rattle.certificate.specs.declared.record.Certificate.{Certificate}
 use Rattle.certificate.specs.Record.{no_row}
 use Rattle.certificate_reader.specs.declared.read.Unread.{Unread}
@@ -118,6 +121,19 @@ module _ (wanted : code.Option Wanted) (history text buffer : List ℕ) where
             made = text_if_some (events_in r.history) (lists_wanted w (history_of r.history) (certificate_of r.history r.certificate rows))
 
 -- ---- weakening: what is wanted is the criterion of a number, if there is one
+abbrev pub named-if : Result Criterion NoCriterion → code.Option Wanted
+named-if (Ok c) = code.Some (Named c)
+named-if (Err e) = code.None
+
+pub wanted_numbered : (n : ℕ) → wanted_in (wanted_of n) ≡ named-if (criterion_numbered n)
+wanted_numbered zero = refl
+wanted_numbered (suc zero) = refl
+wanted_numbered (suc (suc zero)) = refl
+wanted_numbered (suc (suc (suc zero))) = refl
+wanted_numbered (suc (suc (suc (suc zero)))) = refl
+wanted_numbered (suc (suc (suc (suc (suc zero))))) = refl
+wanted_numbered (suc (suc (suc (suc (suc (suc n)))))) = refl
+
 pub weakens-to : (history text : List ℕ) (wanted : ℕ) (buffer : List ℕ) (w : code.Option Wanted) → w ≡ wanted_in (wanted_of wanted)
     → (k : Result Made Unmade) (then : List ℕ) → AnswersTexts w history text buffer k then
     → (verdict_made k ≡ weaken_answer history text wanted buffer) × (is_ok k ≡ eqb (weaken_answer history text wanted buffer).number 0)

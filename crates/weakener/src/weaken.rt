@@ -8,18 +8,13 @@ use crate::made::{Made, Unmade, Wanted, make};
 use certificate::record::Criterion;
 
 // What a number wants: to be weakened to the criterion of the number, if it is that of one.
+#[tactic(auto, using(crate::proofs::TextLaws::wanted_numbered))]
 fn wanted_of(number: u32) -> Option<Wanted>
     ensures { result ≡ wanted_in (wanted_of number) }
 {
-    match number {
-        0 => Some(Wanted::Named(Criterion::Pram)),
-        1 => Some(Wanted::Named(Criterion::Weak)),
-        2 => Some(Wanted::Named(Criterion::Causal)),
-        3 => Some(Wanted::Named(Criterion::Converge)),
-        4 => Some(Wanted::Named(Criterion::Sequential)),
-        5 => Some(Wanted::Named(Criterion::Strict)),
-        _ => None,
-    }
+    Criterion::try_from(number)
+        .ok()
+        .map(|c| Wanted::Named(c))
 }
 
 // Weakens a certificate text for a history text to the criterion wanted, into a lent buffer.
