@@ -44,7 +44,8 @@ pub fn found(
     }
 }
 
-// What the check says of the records of two texts. It is no part of its caller, whose stack the readers would share with it.
+// What the check says of the records of two texts. A function of its own to the compiler too: its locals would else be on the stack while
+// the texts are read.
 #[inline(never)]
 fn checked_texts(history: &[u8], read: &Texts, rows: &[[u8; 64]; 64]) -> Checked
     requires { (within read.now.history ≡ true) × (fits (events_in read.now.history) read.now.certificate rows.now ≡ true) }

@@ -83,8 +83,8 @@ fn crosses_wanted(h: &History, c: &Certificate, wanted: Wanted) -> bool
     }
 }
 
-// The record of what is wanted, of a certificate that passed the check. It is no part of its caller, whose stack the check and the writer
-// would share with it.
+// The record of what is wanted, of a certificate that passed the check. A function of its own to the compiler too: its locals would else be
+// on the stack while the texts are read.
 #[inline(never)]
 fn record_wanted(h: &History, of: &ViewedRecord, wanted: Wanted) -> ViewedRecord
     requires { Passed h.now of.now.certificate of.now.views × OrderWanted wanted h.now of.now.certificate }
@@ -96,9 +96,7 @@ fn record_wanted(h: &History, of: &ViewedRecord, wanted: Wanted) -> ViewedRecord
     }
 }
 
-// What is wanted of a certificate that was read; h is the record of the history text. It is no part of its caller, whose stack the readers
-// would share with it.
-#[inline(never)]
+// What is wanted of a certificate that was read; h is the record of the history text.
 fn make_record(
     h: &History,
     of: &ViewedRecord,
