@@ -51,7 +51,8 @@ pub fn no_list() -> EventList
 }
 
 // Whether the items are strictly rising.
-// Kept: one call of the library's method; a generic one for the writer's u8 too needs a law that T's order is that of its number.
+// Kept: one call of the library's method; a generic one, for the writer's rows of u8 too, would put `map T.number` into each caller's
+// clauses.
 fn is_rising(items: &[u32]) -> bool
     ensures { result ≡ rising items.now }
 {

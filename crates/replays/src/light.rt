@@ -14,6 +14,8 @@ use objects::state::{Given, State};
 
 // The objects and their states at the start; the light records of the events, and beside them their values and their answers. The last
 // of the values is 0, for the start.
+// Kept: no one array of all three: `values` has a 65th place (`value_in`), and most functions read the light records alone, so that an
+// answer inside each would go with it where nothing reads it.
 #[derive(Clone, Copy)]
 pub struct LightHistory {
     pub objects: [Object; 16],
