@@ -65,8 +65,14 @@ pub pad_part : (places some : ℕ) (xs : List ℕ) → length xs ≤ some → so
 unfolding fill pad
 pad_part places some xs few room =
     let m : some - length xs + (places - some) ≡ places - length xs = omega arith in
-    rw (take-replicate {X = ℕ} some places 0 room, drop-replicate {X = ℕ} (length xs) some 0, drop-replicate {X = ℕ} some places 0, append_assoc,
-      replicate-append-replicate {A = ℕ} (some - length xs) (places - some) 0, m)
+    rw (
+      take-replicate {X = ℕ} some places 0 room,
+      drop-replicate {X = ℕ} (length xs) some 0,
+      drop-replicate {X = ℕ} some places 0,
+      append_assoc,
+      replicate-append-replicate {A = ℕ} (some - length xs) (places - some) 0,
+      m,
+    )
 
 -- each number there is below a bound, where those of the list are
 pub pad_below : (places : ℕ) (xs : List ℕ) (bound : ℕ) → 0 < bound → ((i : ℕ) → i < length xs → get_or xs i 0 < bound)
