@@ -61,7 +61,7 @@ op-without Push = (refl, refl)
 op-without Pop = (refl, refl)
 op-without Peek = (refl, refl)
 
-pub word-op : (f : List ℕ) → is_op f ≡ true → op_word (op_of f) ≡ f
+word-op : (f : List ℕ) → is_op f ≡ true → op_word (op_of f) ≡ f
 unfolding is_op op_of op_word
 word-op f e =
     by_bool (same f read_word)

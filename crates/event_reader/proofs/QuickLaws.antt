@@ -8,7 +8,7 @@ use lib.ListN.{length, get_or, take, drop, set}
 use lib.Dec.{eqb}
 use lib.Pointwise.{pointwise}
 use borrow.Author.Tests.{lt-ltb}
-use Rattle.std.specs.Prelude.{Option, Some, None}
+use Rattle.std.specs.Prelude.{Some}
 use Rattle.std.proofs.Common.{Bor}
 use Rattle.std.proofs.lemmas.Bool.Decides.{Decides-eqb}
 use Rattle.std.proofs.lemmas.Slice.Eq.{strip_prefix_is}
@@ -16,24 +16,16 @@ use Rattle.layout.specs.Split.{join}
 use Rattle.layout.specs.Word.{dash}
 use Rattle.layout.specs.Number.{spell}
 use Rattle.layout.specs.List.{list_text}
-use Rattle.layout.proofs.Cases.{by_bool}
 use Rattle.history.specs.declared.record.Op.{Op}
 use Rattle.history.specs.declared.record.Object.{Object}
 use Rattle.history.specs.declared.record.Answer.{Answer}
 use Rattle.history.specs.Record.{value_bound, no_object, no_answer, lost_answer, answer_of}
-use Rattle.history.specs.Kinds.{op_word, is_op, op_of, has_op, takes_value, can_answer, may_answer}
+use Rattle.history.specs.Kinds.{op_word, has_op, takes_value, can_answer, may_answer}
 use Rattle.history.specs.HistoryText.{answer_text, event_text}
 use Rattle.history.specs.Readable.{all_less, all_zero, good_answer, good_value, good_event}
 use Rattle.history.proofs.ListedLaws.{Listed, listed-small, listed-filled, listed-count, listed-ends}
 use Rattle.event_reader.specs.Steps.Next.{AnswerFirst, EventFirst}
-use Rattle.event_reader.proofs.EventRound.{word-op, made-good, made-lost}
-
--- the op of a word that was read
-pub op_read : (word : List ℕ) (op : Op) → Some op ≡ cond (is_op word) (Some (op_of word)) None → op_word op ≡ word
-op_read word op e =
-    by_bool (is_op word)
-    (λ t. let p : Some op ≡ Some (op_of word) = rw t at e in let q : op ≡ op_of word = cc in ap op_word q ∙ word-op word t)
-    (λ t. let p : ◌≡◌ {A = Option Op} (Some op) None = rw t at e in absurd (cc))
+use Rattle.event_reader.proofs.EventRound.{made-good, made-lost}
 
 -- a field and its space before other fields
 field-first : (f g : List ℕ) (fs : List (List ℕ)) {text rest : List ℕ} (behind : List ℕ) → text ≡ f ++ 32 ∷ rest → rest ≡ join 32 (g ∷ fs) ++ behind

@@ -1,5 +1,5 @@
 // The line of an event that a text begins with.
-ghost use Rattle.std.specs.Prelude.{◌≡◌, ◌≤◌, true, cond, ◌∷◌, ◌++◌, length, IfSome};
+ghost use Rattle.std.specs.Prelude.{◌≡◌, ◌≤◌, true, cond, [], ◌∷◌, ◌++◌, length, IfSome};
 ghost use Rattle.layout.specs.Split.{find};
 ghost use Rattle.layout.specs.Word.{dash};
 ghost use Rattle.layout.specs.Number.{spell};
@@ -12,19 +12,32 @@ use history::answer::{lost_answer, no_answer};
 use history::event::read_event;
 use history::next::{Next, next_line};
 use history::record::{Answer, Event, Object, Op, ProcessNo, VALUES, Value};
-use history::word::{has_op, may_answer, read_op, takes_value};
+use history::word::{has_op, may_answer, takes_value};
 use layout::number::{leading_number, number_before_space};
-use layout::split::split_once;
 
 // The quick way goes over a line once, a field after the other. Each of its steps tells what the text begins with and what stands
 // behind it, or nothing where it does not know; the line is then read the general way, which also says which fault it has.
 
+// An op, and what stands behind its word and a space where a text begins with them.
+fn op_behind<'a>(text: &'a [u8], word: &[u8], op: Op) -> Option<(Op, &'a [u8])>
+    requires { word.now ≡ op_word op ++ 32 ∷ [] }
+    ensures { IfSome result (λ r. text.now ≡ op_word r.0 ++ 32 ∷ r.1.now) }
+{
+    let rest = text.strip_prefix(word)?;
+    Some((op, rest))
+}
+
 // The op whose word a text begins with, with a space behind it, and what stands behind the space.
+// Kept: the words one after the other; `split_once` and `read_op` were tried, and to read a history took a seventh more instructions.
+#[tactic(auto, unfolding(history::specs::Kinds::op_word))]
 fn leading_op(text: &[u8]) -> Option<(Op, &[u8])>
     ensures { IfSome result (λ r. text.now ≡ op_word r.0 ++ 32 ∷ r.1.now) }
 {
-    let (word, rest) = split_once(text, b' ')?;
-    Some((read_op(word)?, rest))
+    op_behind(text, b"write ", Op::Write)
+        .or_else(|| op_behind(text, b"read ", Op::Read))
+        .or_else(|| op_behind(text, b"push ", Op::Push))
+        .or_else(|| op_behind(text, b"pop ", Op::Pop))
+        .or_else(|| op_behind(text, b"peek ", Op::Peek))
 }
 
 // The value that a text begins with, with a space behind it: a number where the op takes one, and else `-`; and what stands behind

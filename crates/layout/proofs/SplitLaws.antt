@@ -10,7 +10,7 @@ use mathlib.Core.List.{List, [], ◌∷◌, ◌++◌}
 use lib.ListN.{length, get_or, take, drop, length-drop, drop_of_length-le}
 use lib.Seq.{drop-drop, take_all, length-take-le}
 use lib.Dec.{eqb}
-use borrow.Author.Tests.{eq-eqb, eqb-true, ne_eqb, not-true, lt-ltb, le-ltb}
+use borrow.Author.Tests.{eq-eqb, ne_eqb, not-true, lt-ltb, le-ltb}
 use Rattle.std.specs.Prelude.{Option, Some, None, MatchOption}
 use Rattle.std.specs.Option.{unwrap_or}
 use Rattle.std.specs.List.{position, position_or_len, slice_split, onto_first}
@@ -64,23 +64,6 @@ pub split-more : (b : ℕ) (s : List ℕ) → find b s < length s
 unfolding find split
 split-more b [] h = absurd (not-suc-le-zero h)
 split-more b (x ∷ xs) h = split-more-by b x xs (eqb x b) (split-more b xs) h
-
--- the whole: the first part, its b, and what is behind it
-split_whole-by : (b x : ℕ) (xs : List ℕ) (t : Bool) → eqb x b ≡ t
-    → (find b xs < length xs → xs ≡ take (find b xs) xs ++ b ∷ drop (suc (find b xs)) xs)
-    → cond t 0 (suc (find b xs)) < suc (length xs)
-    → x ∷ xs ≡ take (cond t 0 (suc (find b xs))) (x ∷ xs) ++ b ∷ drop (suc (cond t 0 (suc (find b xs)))) (x ∷ xs)
-split_whole-by b x xs true e ih h = ap (λ (y : ℕ). y ∷ xs) (eqb-true x b e)
-split_whole-by b x xs false e ih h = ap (λ (l : List ℕ). x ∷ l) (ih (le_of_suc-le-suc h))
-
-split_whole : (b : ℕ) (s : List ℕ) → find b s < length s → s ≡ take (find b s) s ++ b ∷ drop (suc (find b s)) s
-unfolding find
-split_whole b [] h = absurd (not-suc-le-zero h)
-split_whole b (x ∷ xs) h = split_whole-by b x xs (eqb x b) refl (split_whole b xs) h
-
--- what `split_once` tells of the whole
-pub once-whole : (b : ℕ) (s p q : List ℕ) → find b s < length s → p ≡ take (find b s) s → q ≡ drop (find b s + 1) s → s ≡ p ++ b ∷ q
-once-whole b s p q h e f = rw (e, f, add-one) (split_whole b s h)
 
 -- the one part, where b does not occur
 split-last-by : (b x : ℕ) (xs : List ℕ) (t : Bool)
