@@ -19,9 +19,9 @@ use orders::listed::program_rows;
 use orders::views::Views;
 
 // The first of the faults 11 to 16, with 20 after 15, of a certificate, with the rows of its views beside it, for a history.
-pub fn check_records(h: History, c: Certificate, views: &[[u8; 64]; 64]) -> Result<(), Finding>
-    requires { (within h ≡ true) × (fits (events_in h) c views.now ≡ true) }
-    ensures { finding_of result ≡ check (history_of h) (certificate_of h c views.now) }
+pub fn check_records(h: &History, c: &Certificate, views: &[[u8; 64]; 64]) -> Result<(), Finding>
+    requires { (within h.now ≡ true) × (fits (events_in h.now) c.now views.now ≡ true) }
+    ensures { finding_of result ≡ check (history_of h.now) (certificate_of h.now c.now views.now) }
 {
     let n = h.count;
     let named = view_numbers(c.criterion, &h.events[..n]);
@@ -35,5 +35,5 @@ pub fn check_records(h: History, c: Certificate, views: &[[u8; 64]; 64]) -> Resu
     };
     order_fault(&rows, &program, past_count(c.criterion, n))?;
     view_fault(c.criterion, &views, &rows, &processes, n)?;
-    replay_fault(&h, c.criterion, &views, &rows)
+    replay_fault(h, c.criterion, &views, &rows)
 }

@@ -111,7 +111,7 @@ fn make_record(
     if !may_be_made(criterion, wanted) {
         return Err(Unmade::NotPair(criterion));
     }
-    if let Err(finding) = check_records(*h, of.certificate, &of.views) {
+    if let Err(finding) = check_records(h, &of.certificate, &of.views) {
         let checked = found(history, h.declared, criterion, Some(finding));
         return Err(Unmade::Faulty(checked));
     }
