@@ -15,6 +15,7 @@ use crate::finding::Finding;
 use certificate::numbers::ViewNumbers;
 use certificate::record::Criterion;
 use history::record::History;
+use objects::starts::starts;
 use orders::views::Views;
 use replayed_views::cut::first_wrong_cut;
 use replayed_views::search::first_wrong;
@@ -40,14 +41,15 @@ pub(crate) fn replay_fault(
     ensures { finding_of result ≡ find16 criterion (history_of h.now) (in_rows rows.now) (beginnings (take views.now.count views.now.lengths.now) (take views.now.count views.now.rows.now)) }
 {
     let history = light_history(h);
+    let begin = starts(h.objects);
     if is_converge(criterion) {
-        return match first_wrong_cut(&history, rows, views.get(0)) {
+        return match first_wrong_cut(&history, begin, rows, views.get(0)) {
             Some(e) => Err(Finding::Wrong(named.numbers[0], e)),
             None => Ok(()),
         };
     }
     let who = visible_views(criterion, named.numbers, history.events);
-    match first_wrong(&history, views, &who) {
+    match first_wrong(&history, begin, views, &who) {
         Some(place) => Err(Finding::Wrong(named.numbers[place.view], place.event)),
         None => Ok(()),
     }

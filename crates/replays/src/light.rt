@@ -9,11 +9,9 @@ use crate::replay::Light;
 use history::answer::no_answer;
 use history::record::{Answer, Event, History, Kind, Object, Op, ProcessNo, Value};
 use history::word::{is_channel, takes_value};
-use objects::starts::starts;
-use objects::state::{Given, State};
+use objects::state::Given;
 
-// The objects and their states at the start; the light records of the events, and beside them their values and their answers. The last
-// of the values is 0, for the start.
+// The light records of the events, and beside them their values and their answers. The last of the values is 0, for the start.
 #[derive(Clone, Copy)]
 pub struct LightHistory {
     pub objects: [Object; 16],
@@ -21,7 +19,6 @@ pub struct LightHistory {
     pub values: [Value; 65],
     pub answers: [Answer; 64],
     pub size: usize,
-    pub starts: [State; 16],
 }
 
 impl LightHistory {
@@ -101,7 +98,6 @@ pub fn light_history(h: &History) -> LightHistory
         values: [0; 65],
         answers: [no_answer(); 64],
         size: h.count,
-        starts: starts(h.objects),
     };
     for (i, e) in h.events[..h.count].iter().enumerate() {
         let kind = h.objects[usize::from(e.object)].kind;
