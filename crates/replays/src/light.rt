@@ -12,6 +12,8 @@ use history::word::{is_channel, takes_value};
 use objects::state::Given;
 
 // The light records of the events, and beside them their values and their answers. The last of the values is 0, for the start.
+// Kept: the states at the start stand beside it: tried as a field, and the check took 5.2 percent longer of converge and 4.2 of strict, as
+// all of it is then cleared three times.
 #[derive(Clone, Copy)]
 pub struct LightHistory {
     pub objects: [Object; 16],
