@@ -8,7 +8,7 @@ use mathlib.Core.Option.{Option, none, some}
 use lib.ListN.{length, get_or, take}
 use lib.Seq.{get_or-take}
 use Rattle.history.specs.declared.record.History as WrittenHistory
-use Rattle.history.specs.Record.{events_in}
+use Rattle.history.specs.Record.{no_object, events_in}
 use Rattle.history.specs.Readable.{within}
 use Rattle.history.proofs.Guarantees.{within-sound}
 use Rattle.certificate.specs.declared.record.Criterion.{Criterion}
@@ -23,6 +23,8 @@ use Rattle.criteria.specs.Replay.{start}
 use Rattle.criteria.specs.Check.{Fault, fault16, first_wrong, map_fault, find16}
 use Rattle.criteria.specs.Records.{history_of}
 use Rattle.criteria.proofs.RecordLaws.{size_is, view-count, view-number}
+use Rattle.objects.specs.declared.state.State.{State}
+use Rattle.objects.specs.State.{no_state, Fresh}
 use Rattle.orders.specs.declared.views.Views.{Views}
 use Rattle.orders.specs.Rows.{in_rows, view_at, EventViews}
 use Rattle.orders.proofs.ViewLaws.{view-few, view-inside}
@@ -138,26 +140,28 @@ Asked h c views =
 mem-below : (n : ℕ) (v : List ℕ) → ((i : ℕ) → i < length v → get_or v i 0 < n) → (e : ℕ) → mem e v ≡ true → e < n
 mem-below n v f e t = let p = place_in e v t in rw p.1 at (f (place e v) p.0)
 
-module _ {h : WrittenHistory.History} {l : LightHistory} (t : TakenApart h l)
+module _ {h : WrittenHistory.History} {l : LightHistory} (t : TakenApart h l) (states : List State)
+    (fresh-as : (o : ℕ) → o < 16 → Fresh (get_or h.objects o no_object) (get_or states o no_state)) (states-long : length states ≡ 16)
     (c : Criterion) (views : Views) (asked : Asked h c views) where
   counted : length views.numbers.now ≡ length (view_numbers c (events_in h))
   counted = ap length asked.1
 
   -- each view is ready for its replay
-  pub view-ready : (k : ℕ) → k < length views.numbers.now → Ready l (view_at views.rows.now views.lengths.now k)
+  pub view-ready : (k : ℕ) → k < length views.numbers.now → Ready l states (view_at views.rows.now views.lengths.now k)
   view-ready k b =
-      ready_of h (within-sound h asked.0) l t (view_at views.rows.now views.lengths.now k) (objects-agree h asked.0) (all-keep-few h asked.0)
+      ready_of h (within-sound h asked.0) l t states (view_at views.rows.now views.lengths.now k) (objects-agree h asked.0) fresh-as (all-keep-few h asked.0)
       (view-few views.rows.now views.lengths.now (length views.numbers.now) h.count asked.2 k b) (view-inside views.rows.now views.lengths.now (length views.numbers.now) h.count asked.2 k b)
 
   view-below : (k : ℕ) → k < length views.numbers.now → (e : ℕ) → mem e (view_at views.rows.now views.lengths.now k) ≡ true → e < h.count
   view-below k b = mem-below h.count (view_at views.rows.now views.lengths.now k) (view-inside views.rows.now views.lengths.now (length views.numbers.now) h.count asked.2 k b)
 
   replayed-is : (who : Visible) (view : List ℕ) → ((e : ℕ) → mem e view ≡ true → e < h.count)
-      → first_wrong (history_in l) (is_visible (history_in l) who) (contents_in l.values l.starts) view
+      → first_wrong (history_in l) (is_visible (history_in l) who) (contents_in l.values states) view
       ≡ first_wrong (history_of h) (is_visible (history_of h) who) (start (history_of h)) view
   replayed-is who view inside =
       let s = within-sound h asked.0 in
-      replay-is h l t s.count (events-long h asked.0) (omega (arith, s.objects, s.declared)) (objects-agree h asked.0) who view (λ e q. object-declared h asked.0 e (inside e q))
+      replay-is h l t states s.count (events-long h asked.0) (omega (arith, s.objects, s.declared, states-long)) (objects-agree h asked.0)
+      (λ o b. fresh-as o (omega (arith, b, s.objects, s.declared))) who view (λ e q. object-declared h asked.0 e (inside e q))
 
   number_is : (k : ℕ) → k < length views.numbers.now → get_or views.numbers.now k 0 ≡ view_number c (history_of h) k
   number_is k b = ap (λ (ns : List ℕ). get_or ns k 0) asked.1 ∙ sym (view-number c h k (omega (arith, b, counted, view-count c h)))
@@ -167,12 +171,12 @@ module _ {h : WrittenHistory.History} {l : LightHistory} (t : TakenApart h l)
       (seen : (k : ℕ) → k < length views.numbers.now → get_or who k no_visible ≡ visible_at c views.numbers.now l.events k) where
     -- the first wrong answer of a view
     wrong-view : (k : ℕ) → k < length views.numbers.now
-        → at_place views.numbers.now (wrong_in (history_in l) (contents_in l.values l.starts) who views.rows.now views.lengths.now k)
+        → at_place views.numbers.now (wrong_in (history_in l) (contents_in l.values states) who views.rows.now views.lengths.now k)
         ≡ fault_of c (history_of h) R (beginnings views.lengths.now views.rows.now) k
     wrong-view k b =
         let view : List ℕ = view_at views.rows.now views.lengths.now k in
         let there : k < view_count c (history_of h) = omega (arith, b, counted, view-count c h) in
-        place_view views.numbers.now k (first_wrong (history_in l) (is_visible (history_in l) (get_or who k no_visible)) (contents_in l.values l.starts) view)
+        place_view views.numbers.now k (first_wrong (history_in l) (is_visible (history_in l) (get_or who k no_visible)) (contents_in l.values states) view)
         ∙ ap₂ (λ (i : ℕ) (o : Option ℕ). map_fault (fault16 i) o) (number_is k b)
         (replayed-is (get_or who k no_visible) view (view-below k b)
         ∙ ap (λ (x : Visible). first_wrong (history_of h) (is_visible (history_of h) x) (start (history_of h)) view) (seen k b)
@@ -182,10 +186,10 @@ module _ {h : WrittenHistory.History} {l : LightHistory} (t : TakenApart h l)
         ∙ ap (first_wrong (history_of h) (visible c (history_of h) k) (start (history_of h)))
         (sym (beginning-at views.lengths.now views.rows.now k) ∙ replayed-same c R (beginnings views.lengths.now views.rows.now) k other))
 
-    module _ (found : Option Place) (q : found ≡ lowest (length views.numbers.now) (wrong_in (history_in l) (contents_in l.values l.starts) who views.rows.now views.lengths.now)) where
+    module _ (found : Option Place) (q : found ≡ lowest (length views.numbers.now) (wrong_in (history_in l) (contents_in l.values states) who views.rows.now views.lengths.now)) where
       pub place_is : at_place views.numbers.now found ≡ find16 c (history_of h) R (beginnings views.lengths.now views.rows.now)
       place_is =
-          let f : ℕ → Option Place = wrong_in (history_in l) (contents_in l.values l.starts) who views.rows.now views.lengths.now in
+          let f : ℕ → Option Place = wrong_in (history_in l) (contents_in l.values states) who views.rows.now views.lengths.now in
           let n : length views.numbers.now ≡ replay_count c (history_of h) = counted ∙ sym (view-count c h) ∙ sym (count_same c (history_of h) other) in
           ap (at_place views.numbers.now) q
           ∙ sym (lowest-places views.numbers.now (length views.numbers.now) f)
@@ -194,10 +198,10 @@ module _ {h : WrittenHistory.History} {l : LightHistory} (t : TakenApart h l)
 
       pub place-below : (p : Place) → found ≡ some p → p.view < length views.numbers.now
       place-below p is =
-          lowest-holds (λ (x : Place). x.view < length views.numbers.now) (length views.numbers.now) (wrong_in (history_in l) (contents_in l.values l.starts) who views.rows.now views.lengths.now) p
+          lowest-holds (λ (x : Place). x.view < length views.numbers.now) (length views.numbers.now) (wrong_in (history_in l) (contents_in l.values states) who views.rows.now views.lengths.now) p
           (λ k b e.
           let z : p.view ≡ k =
-          view-at k (first_wrong (history_in l) (is_visible (history_in l) (get_or who k no_visible)) (contents_in l.values l.starts) (view_at views.rows.now views.lengths.now k)) p e in
+          view-at k (first_wrong (history_in l) (is_visible (history_in l) (get_or who k no_visible)) (contents_in l.values states) (view_at views.rows.now views.lengths.now k)) p e in
           omega (arith, z, b)) (sym q ∙ is)
 
   -- ---- converge: one replay an event
@@ -207,7 +211,7 @@ module _ {h : WrittenHistory.History} {l : LightHistory} (t : TakenApart h l)
   module _ (rows : List ℕ) (one : is_converge c ≡ true) where
     -- the first wrong answer of the part of an event
     wrong-part : (e : ℕ)
-        → wrong_cut (history_in l) (contents_in l.values l.starts) rows (view_at views.rows.now views.lengths.now 0) e
+        → wrong_cut (history_in l) (contents_in l.values states) rows (view_at views.rows.now views.lengths.now 0) e
         ≡ first_wrong (history_of h) (visible Converge (history_of h) e) (start (history_of h))
         (replayed Converge (in_rows rows) (beginnings views.lengths.now views.rows.now) e)
     wrong-part e =
@@ -216,11 +220,11 @@ module _ {h : WrittenHistory.History} {l : LightHistory} (t : TakenApart h l)
         ∙ ap (λ (v : List ℕ). first_wrong (history_of h) (is_visible (history_of h) (Only record { 0 = e })) (start (history_of h)) (keep (past_with (in_rows rows) e) v))
         (sym (beginning-at views.lengths.now views.rows.now 0))
 
-    module _ (found : Option ℕ) (q : found ≡ lowest l.size (wrong_cut (history_in l) (contents_in l.values l.starts) rows (view_at views.rows.now views.lengths.now 0))) where
+    module _ (found : Option ℕ) (q : found ≡ lowest l.size (wrong_cut (history_in l) (contents_in l.values states) rows (view_at views.rows.now views.lengths.now 0))) where
       event-is-converge : map_fault (fault16 (get_or views.numbers.now 0 0)) found
           ≡ find16 Converge (history_of h) (in_rows rows) (beginnings views.lengths.now views.rows.now)
       event-is-converge =
-          let f : ℕ → Option ℕ = wrong_cut (history_in l) (contents_in l.values l.starts) rows (view_at views.rows.now views.lengths.now 0) in
+          let f : ℕ → Option ℕ = wrong_cut (history_in l) (contents_in l.values states) rows (view_at views.rows.now views.lengths.now 0) in
           let zero-is : get_or views.numbers.now 0 0 ≡ 0 = number_is 0 (view-there one) ∙ ap (λ (x : Criterion). view_number x (history_of h) 0) (converge-is c one) in
           let n : l.size ≡ size (history_of h) = t.size ∙ sym (size_is h ∙ (within-sound h asked.0).events) in
           ap₂ (λ (i : ℕ) (o : Option ℕ). map_fault (fault16 i) o) zero-is q

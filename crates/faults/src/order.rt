@@ -16,10 +16,15 @@ use orders::listed::past_rows;
 use orders::rows::{in_own_past, lacks_own, not_transitive};
 
 // The process of each event.
+// Kept: tried as `events.map(|e| e.process.0)`: it proves, but copies the events and clears a record for the answers.
 pub fn processes_of(events: &[Event; 64]) -> [u8; 64]
     ensures { (e : ℕ) → e < 64 → get_or result e 0 ≡ (get_or events.now e no_event).process.0 }
 {
-    events.map(|e| e.process.0)
+    let mut processes = [0u8; 64];
+    for (e, event) in events.iter().enumerate() {
+        processes[e] = event.process.0;
+    }
+    processes
 }
 
 // The rows of the order of a certificate: that of its pasts, or program order where the criterion has none.

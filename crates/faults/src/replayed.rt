@@ -13,6 +13,7 @@ ghost use Rattle.faults.specs.Steps.{is_converge};
 use crate::finding::Finding;
 use certificate::record::Criterion;
 use history::record::History;
+use objects::starts::starts;
 use orders::views::Views;
 use replayed_views::cut::first_wrong_cut;
 use replayed_views::search::first_wrong;
@@ -37,14 +38,15 @@ pub(crate) fn replay_fault(
     ensures { finding_of result ≡ find16 criterion (history_of h.now) (in_rows rows.now) (beginnings views.now.lengths.now views.now.rows.now) }
 {
     let history = light_history(h);
+    let begin = starts(h.objects);
     if is_converge(criterion) {
-        return match first_wrong_cut(&history, rows, views.get(0).events) {
+        return match first_wrong_cut(&history, begin, rows, views.get(0).events) {
             Some(e) => Err(Finding::Wrong(views.numbers[0], e)),
             None => Ok(()),
         };
     }
     let who = visible_views(criterion, views.numbers, &history.events);
-    match first_wrong(&history, views, &who) {
+    match first_wrong(&history, begin, views, &who) {
         Some(place) => Err(Finding::Wrong(views.numbers[place.view], place.event)),
         None => Ok(()),
     }

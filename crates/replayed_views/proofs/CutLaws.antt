@@ -15,12 +15,13 @@ use Rattle.criteria.specs.Tests.{lowest, keep_if, keep, mem, place}
 use Rattle.criteria.specs.History.{Event, event, only}
 use Rattle.criteria.specs.Check.{first_wrong}
 use Rattle.criteria.proofs.Lists.{by-test, true-or-left, true-or-right, none-lowest, mem-keep, mem-get_or, place_in}
-use Rattle.criteria.proofs.Loops.{lowest-found}
+use Rattle.criteria.proofs.Loops.{any-default, lowest-found}
+use Rattle.objects.specs.declared.state.State.{State}
 use Rattle.objects.specs.State.{no_state, contents_of}
 use Rattle.orders.specs.Rows.{in_row}
 use Rattle.replays.specs.declared.light.LightHistory.{LightHistory}
 use Rattle.replays.specs.Replay.{no_light, history_in, contents_in, found_event, Ready}
-use Rattle.replayed_views.specs.Steps.{its_start, one_wrong, ReadyKept}
+use Rattle.replayed_views.specs.Steps.{one_wrong, ReadyKept}
 use Rattle.replays.proofs.ReplayLaws.{event-at, get_or-contents}
 use Rattle.replayed_views.proofs.ObjectLaws.{on_object, one-object}
 
@@ -45,8 +46,8 @@ module _ (view : List ℕ) (size : ℕ) (entries : (i : ℕ) → i < length view
   kept-below f e t = first_below e (mem-keep f e view t).1
 
 -- the view that is cut down to a row of events of e's object
-module _ {h : LightHistory} {view : List ℕ} {e : ℕ} (row : ℕ) (r : ReadyKept h view (in_row row) e) where
-  pub part-ready : {part : List ℕ} → part ≡ keep (in_row row) view → length part ≤ length view → ReadyKept h part (λ f. mem f part) e
+module _ {h : LightHistory} {start : State} {view : List ℕ} {e : ℕ} (row : ℕ) (r : ReadyKept h start view (in_row row) e) where
+  pub part-ready : {part : List ℕ} → part ≡ keep (in_row row) view → length part ≤ length view → ReadyKept h start part (λ f. mem f part) e
   part-ready {part} q few = record {
     parts = r.parts;
     short = omega (arith, few, r.short);
@@ -56,30 +57,33 @@ module _ {h : LightHistory} {view : List ℕ} {e : ℕ} (row : ℕ) (r : ReadyKe
     start = r.start;
   }
 
-module _ {h : LightHistory} {view : List ℕ} {e o : ℕ} (row : ℕ) (r : Ready h view) (below : e < h.size)
+module _ {h : LightHistory} {starts : List State} {view : List ℕ} {e o : ℕ} (row : ℕ) (r : Ready h starts view) (below : e < h.size)
     (on : o ≡ (get_or h.events e no_light).object) (g : ℕ → Bool)
     (is_row : (f : ℕ) → f < h.size → in_row row f ≡ g f && eqb (get_or h.events f no_light).object o) where
   -- the replay of the events that pass is that of those in the row
-  row-wrong : length h.starts ≡ 16
-      → first_wrong (history_in h) (only e) (contents_in h.values h.starts) (keep g view)
-      ≡ one_wrong (history_in h) e (get_or h.events e no_light).object (its_start h e) (keep (in_row row) view)
+  row-wrong : length starts ≡ 16
+      → first_wrong (history_in h) (only e) (contents_in h.values starts) (keep g view)
+      ≡ one_wrong (history_in h) e (get_or h.events e no_light).object (contents_of h.values (get_or starts o no_state)) (keep (in_row row) view)
   row-wrong long =
       let its : (f : ℕ) → f < h.size → (event (history_in h) f).object ≡ (get_or h.events f no_light).object =
       λ f l. ap (λ (x : Event). x.object) (event-at h f l) in
       let small : o < 16 = rw on (r.parts.object e below) in
       rw (← on)
-      (one-object (history_in h) e o (its e below ∙ sym on) (contents_in h.values h.starts) (keep g view) (omega (arith, small, long, length-map h.starts (contents_of h.values)))
-      ∙ ap (λ (c : List ℕ). one_wrong (history_in h) e o c (keep (on_object (history_in h) o) (keep g view))) (get_or-contents h.values h.starts o)
-      ∙ ap (one_wrong (history_in h) e o (contents_of h.values (get_or h.starts o no_state)))
+      (one-object (history_in h) e o (its e below ∙ sym on) (contents_in h.values starts) (keep g view) (omega (arith, small, long, length-map starts (contents_of h.values)))
+      ∙ ap (λ (c : List ℕ). one_wrong (history_in h) e o c (keep (on_object (history_in h) o) (keep g view))) (get_or-contents h.values starts o)
+      ∙ ap (one_wrong (history_in h) e o (contents_of h.values (get_or starts o no_state)))
       (keep-both (on_object (history_in h) o) g (in_row row) view
       (λ x t.
       let l = first_below view h.size r.event x t in
       is_row x l ∙ ap (λ (k : ℕ). g x && eqb k o) (sym (its x l)))))
 
-  pub row-found : length h.starts ≡ 16 → (found : Option EventNo)
-      → found_event found ≡ one_wrong (history_in h) e (get_or h.events e no_light).object (its_start h e) (keep (in_row row) view)
-      → found_event found ≡ first_wrong (history_in h) (only e) (contents_in h.values h.starts) (keep g view)
-  row-found long found q = q ∙ sym (row-wrong long)
+  -- the code reads the state with any default
+  pub row-found : length starts ≡ 16 → (found : Option EventNo) (d : State)
+      → found_event found ≡ one_wrong (history_in h) e (get_or h.events e no_light).object (contents_of h.values (get_or starts o d)) (keep (in_row row) view)
+      → found_event found ≡ first_wrong (history_in h) (only e) (contents_in h.values starts) (keep g view)
+  row-found long found d q =
+      let small : o < 16 = rw on (r.parts.object e below) in
+      rw (any-default starts o d no_state (omega (arith, small, long))) at q ∙ sym (row-wrong long)
 
 -- ---- the search
 pub found-some : {found : Option EventNo} {x : EventNo} {r : math.Option ℕ} → found ≡ Some x → found_event found ≡ r → math.some x.0 ≡ r

@@ -88,9 +88,3 @@ decides-on h before p a view e entries below shows on s right-yet =
     (sym (shown (history_in h) before p.0 s a shows) ∙ right-yet)
     (λ f t seen. on.alone f t (sym (its f (inside f t)) ∙ eqb-true (process (history_in h) f) p.0 seen))
     ∙ ap (first_wrong (history_in h) (only e) s) (sym whole)
-
--- what stands in the tables of earlier events at first
-pub blank-at : (n i : ℕ) (P : ℕ → Type 0) → MatchOption (get_or (replicate {A = std.Option ℕ} n None) i None) Unit P
-blank-at zero i P = tt
-blank-at (suc n) zero P = tt
-blank-at (suc n) (suc i) P = blank-at n i P

@@ -21,12 +21,12 @@ use Rattle.criteria.specs.Check.{fits, right, first_wrong}
 use Rattle.criteria.proofs.Lists.{by-test, mem-get_or}
 use Rattle.objects.specs.declared.state.State.{State}
 use Rattle.objects.specs.declared.state.Given.{Given}
-use Rattle.objects.specs.State.{no_state, value_in, contents_of, given_of, Changed, Answered}
+use Rattle.objects.specs.State.{value_in, contents_of, given_of, Changed, Answered}
 use Rattle.orders.specs.Rows.{in_row}
 use Rattle.replays.specs.declared.replay.Light.{Light}
 use Rattle.replays.specs.declared.light.LightHistory.{LightHistory}
 use Rattle.replays.specs.Replay.{no_light, unused_answer, history_in, Stands}
-use Rattle.replayed_views.specs.Steps.{its_start, one_wrong, ReadyKept}
+use Rattle.replayed_views.specs.Steps.{one_wrong, ReadyKept}
 use Rattle.replays.proofs.ReplayLaws.{stands_on, event-at, has-its-op, given-is, contents-after}
 
 -- an event of the object o
@@ -72,27 +72,23 @@ module _ (h : LightHistory) (e : ℕ) where
   abbrev its-object : Object
   its-object = get_or h.objects its-place no_object
 
-  -- its state at the start
-  abbrev pub start_of : State
-  start_of = get_or h.starts its-place no_state
-
   -- the first wrong answer of what is left of a part
   unfoldable pub one_from : State → List ℕ → Option ℕ
   one_from s part = one_wrong (history_in h) e its-place (contents_of h.values s) part
 
 -- Nothing is wrong in the first i entries of the part: the object's state stands, and what is left says what the whole part says.
-pub record PartPassed (h : LightHistory) (part : List ℕ) (e i : ℕ) (s : State) : Type 0 where
+pub record PartPassed (h : LightHistory) (start : State) (part : List ℕ) (e i : ℕ) (s : State) : Type 0 where
   pub stand : Stands (get_or h.objects (get_or h.events e no_light).object no_object) i s
-  pub same : one_from h e (start_of h e) part ≡ one_from h e s (drop i part)
+  pub same : one_from h e start part ≡ one_from h e s (drop i part)
 
-module _ {h : LightHistory} {part : List ℕ} {e : ℕ} (r : ReadyKept h part (λ f. mem f part) e) where
-  pub all-passed : {s : State} {i : ℕ} → length part ≤ i → PartPassed h part e i s
-      → none ≡ one_wrong (history_in h) e (get_or h.events e no_light).object (its_start h e) part
+module _ {h : LightHistory} {start : State} {part : List ℕ} {e : ℕ} (r : ReadyKept h start part (λ f. mem f part) e) where
+  pub all-passed : {s : State} {i : ℕ} → length part ≤ i → PartPassed h start part e i s
+      → none ≡ one_wrong (history_in h) e (get_or h.events e no_light).object (contents_of h.values start) part
   unfolding one_from
   all-passed {s} {i} l p = sym (p.same ∙ ap (one_from h e s) (drop_all i part l))
 
   -- entry i of the part: event x
-  module _ {i : ℕ} {s : State} (p : PartPassed h part e i s) (lt : i < length part) {x : ℕ} (is : x ≡ get_or part i 0) where
+  module _ {i : ℕ} {s : State} (p : PartPassed h start part e i s) (lt : i < length part) {x : ℕ} (is : x ≡ get_or part i 0) where
     is-event : x < h.size
     is-event = rw is (r.event i lt)
 
@@ -119,7 +115,7 @@ module _ {h : LightHistory} {part : List ℕ} {e : ℕ} (r : ReadyKept h part (�
         ∙ ap (λ (l : List ℕ). only e x && not (fits (recorded_in (get_or h.answers x unused_answer)) l)) (sym (given-is h r.parts is-event its p.stand g a))
         ∙ ap (λ (t : Bool). only e x && not t) (sym q)
 
-    stops : wrong-here ≡ true → some x ≡ one_wrong (history_in h) e (get_or h.events e no_light).object (its_start h e) part
+    stops : wrong-here ≡ true → some x ≡ one_wrong (history_in h) e (get_or h.events e no_light).object (contents_of h.values start) part
     unfolding one_from
     stops q = sym (p.same ∙ ap (one_from h e s) left ∙ rw q)
 
@@ -130,7 +126,7 @@ module _ {h : LightHistory} {part : List ℕ} {e : ℕ} (r : ReadyKept h part (�
         ap (λ (y : Event). after (its-object h e) y.op y.value (contents_of h.values s)) (event-at h x is-event)
         ∙ contents-after h r.parts is-event its p.stand t c
 
-    goes-on : wrong-here ≡ false → (t : State) → Changed s light.op x t → PartPassed h part e (i + 1) t
+    goes-on : wrong-here ≡ false → (t : State) → Changed s light.op x t → PartPassed h start part e (i + 1) t
     unfolding one_from
     goes-on q t c = record {
       stand = stands_on (its-object h e) i s p.stand light.op (has-its-op h r.parts is-event its) x t c;
@@ -148,19 +144,19 @@ module _ {h : LightHistory} {part : List ℕ} {e : ℕ} (r : ReadyKept h part (�
     answered-as {g} a = subst (λ (k : ℕ). Answered s light.op k g) (sym is) a
 
     pub its-wrong : (g : Given) → number ≡ e → Answered s light.op number g → false ≡ fits (recorded_in (get_or h.answers x unused_answer)) (given_of h.values g)
-        → some e ≡ one_wrong (history_in h) e (get_or h.events e no_light).object (its_start h e) part
+        → some e ≡ one_wrong (history_in h) e (get_or h.events e no_light).object (contents_of h.values start) part
     its-wrong g here a f =
         ap some (sym (is ∙ here)) ∙ stops (asked g (answered-as a) f ∙ ap (λ (b : Bool). b && true) (eq-eqb x e (is ∙ here)))
 
     pub its-right : (g : Given) (t : State) → number ≡ e → Answered s light.op number g → true ≡ fits (recorded_in (get_or h.answers x unused_answer)) (given_of h.values g)
-        → Changed s light.op number t → PartPassed h part e (i + 1) t
+        → Changed s light.op number t → PartPassed h start part e (i + 1) t
     its-right g t here a f c = goes-on (asked g (answered-as a) f ∙ and-false (only e x)) t (changed-as c)
 
-    pub passes : (t : State) → (number ≡ e → ⊥) → Changed s light.op number t → PartPassed h part e (i + 1) t
+    pub passes : (t : State) → (number ≡ e → ⊥) → Changed s light.op number t → PartPassed h start part e (i + 1) t
     passes t other c = goes-on (rw (ne_eqb x e (λ q. other (sym is ∙ q)))) t (changed-as c)
 
 -- a silent event is never wrong
-module _ {h : LightHistory} {view : List ℕ} {kept : ℕ → Bool} {e : ℕ} (r : ReadyKept h view kept e) (t : (get_or h.events e no_light).silent ≡ true) where
+module _ {h : LightHistory} {start : State} {view : List ℕ} {kept : ℕ → Bool} {e : ℕ} (r : ReadyKept h start view kept e) (t : (get_or h.events e no_light).silent ≡ true) where
   its-answer : (c : List ℕ)
       → fits (event (history_in h) e).answer (gives (object (history_in h) (its-place h e)) (event (history_in h) e).op (event (history_in h) e).value c) ≡ true
   unfolding history_in

@@ -7,7 +7,7 @@ use Rattle.criteria.specs.Tests.{or, found_if, mem}
 use Rattle.criteria.specs.History.{History, event, object, only}
 use Rattle.criteria.specs.Replay.{Contents}
 use Rattle.criteria.specs.Check.{fits, first_wrong}
-use Rattle.objects.specs.State.{no_state, contents_of}
+use Rattle.objects.specs.declared.state.State.{State}
 use Rattle.orders.specs.Rows.{in_row}
 use Rattle.replays.specs.declared.light.LightHistory.{LightHistory}
 use Rattle.replays.specs.declared.replay.Light.{Light}
@@ -26,20 +26,15 @@ one_wrong h e o c (f ∷ fs) =
 abbrev pub ObjectRows : List Light → List ℕ → Type 0
 ObjectRows ls rows = (o : ℕ) → o < 16 → (f : ℕ) → f < 64 → in_row (get_or rows o 0) f ≡ eqb (get_or ls f no_light).object o
 
--- What e's object holds at the start.
-abbrev pub its_start : LightHistory → ℕ → List ℕ
-its_start h e = contents_of h.values (get_or h.starts (get_or h.events e no_light).object no_state)
-
 -- What the replay of one object's events takes for granted: the parts of the history are sound, the view has at most 64 entries, all of
--- them events, e is an event, the events that are kept are of e's object, and the state of that object at the start stands before any
--- event.
-pub record ReadyKept (h : LightHistory) (view : List ℕ) (kept : ℕ → Bool) (e : ℕ) : Type 0 where
+-- them events, e is an event, the events that are kept are of e's object, and the state of that object stands before any event.
+pub record ReadyKept (h : LightHistory) (first : State) (view : List ℕ) (kept : ℕ → Bool) (e : ℕ) : Type 0 where
   pub parts : SoundParts h
   pub short : length view ≤ 64
   pub event : (i : ℕ) → i < length view → get_or view i 0 < h.size
   pub own : e < h.size
   pub same : (f : ℕ) → f < h.size → kept f ≡ true → (get_or h.events f no_light).object ≡ (get_or h.events e no_light).object
-  pub start : Stands (get_or h.objects (get_or h.events e no_light).object no_object) 0 (get_or h.starts (get_or h.events e no_light).object no_state)
+  pub start : Stands (get_or h.objects (get_or h.events e no_light).object no_object) 0 first
 
 -- The answers of process p are the visible ones.
 abbrev pub shows_of : Visible → ℕ → Bool

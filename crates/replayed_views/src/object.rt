@@ -1,12 +1,13 @@
 // The replay of one object's events where one answer is visible.
 ghost use Rattle.std.specs.Prelude.{◌≡◌, get_or};
 ghost use Rattle.criteria.specs.Tests.{keep, mem};
+ghost use Rattle.objects.specs.State.{contents_of};
 ghost use Rattle.orders.specs.Rows.{in_row};
 ghost use Rattle.replays.specs.Replay.{no_light, history_in, found_event};
-ghost use Rattle.replayed_views.specs.Steps.{its_start, one_wrong, ObjectRows, ReadyKept};
+ghost use Rattle.replayed_views.specs.Steps.{one_wrong, ObjectRows, ReadyKept};
 
 use history::record::EventNo;
-use objects::state::EventOp;
+use objects::state::{EventOp, State};
 use orders::sets::with_event;
 use orders::views::View;
 use replays::light::LightHistory;
@@ -27,12 +28,11 @@ pub(crate) fn object_rows(events: &[Light; 64]) -> [u64; 16]
 }
 
 // Event e, where its answer is not what the replay of the part gives. The part holds events of e's object.
-fn replay_object(history: &LightHistory, part: &[u8], e: EventNo) -> Option<EventNo>
-    requires { ReadyKept history.now part.now (λ f. mem f part.now) e.0 }
-    ensures { found_event result ≡ one_wrong (history_in history.now) e.0 (get_or history.now.events e.0 no_light).object (its_start history.now e.0) part.now }
+fn replay_object(history: &LightHistory, start: State, part: &[u8], e: EventNo) -> Option<EventNo>
+    requires { ReadyKept history.now start part.now (λ f. mem f part.now) e.0 }
+    ensures { found_event result ≡ one_wrong (history_in history.now) e.0 (get_or history.now.events e.0 no_light).object (contents_of history.now.values start) part.now }
 {
-    let o = usize::from(history.events[usize::from(e.0)].object);
-    let mut state = history.starts[o];
+    let mut state = start;
     for number in part {
         let no = EventNo(*number);
         let at = usize::from(*number);
@@ -53,16 +53,17 @@ fn replay_object(history: &LightHistory, part: &[u8], e: EventNo) -> Option<Even
 // Event e, where its answer is not what the replay of the view gives, cut down to a row of events of e's object.
 pub(crate) fn replay_row(
     history: &LightHistory,
+    start: State,
     view: &[u8],
     row: u64,
     e: EventNo,
 ) -> Option<EventNo>
-    requires { ReadyKept history.now view.now (in_row row) e.0 }
-    ensures { found_event result ≡ one_wrong (history_in history.now) e.0 (get_or history.now.events e.0 no_light).object (its_start history.now e.0) (keep (in_row row) view.now) }
+    requires { ReadyKept history.now start view.now (in_row row) e.0 }
+    ensures { found_event result ≡ one_wrong (history_in history.now) e.0 (get_or history.now.events e.0 no_light).object (contents_of history.now.values start) (keep (in_row row) view.now) }
 {
     if history.events[usize::from(e.0)].silent {
         return None;
     }
     let cut = View { events: view }.cut_to(row);
-    replay_object(history, &cut.events[..cut.count], e)
+    replay_object(history, start, &cut.events[..cut.count], e)
 }

@@ -14,6 +14,7 @@ ghost use Rattle.replayed_views.specs.Search.{wrong_in};
 use crate::deciding::{ShownView, deciding};
 use crate::object::{object_rows, replay_row};
 use history::record::EventNo;
+use objects::state::State;
 use orders::views::Views;
 use replays::light::LightHistory;
 use replays::replay::{Light, Visible, replay};
@@ -51,26 +52,32 @@ fn before<'a>(
 // The first wrong answer of view k, if the one before it is right.
 fn wrong_answer(
     history: &LightHistory,
+    starts: &[State; 16],
     rows: &[u64; 16],
     known: ShownView,
     this: ShownView,
     k: usize,
 ) -> Option<EventNo>
-    requires { (k < 64) × Ready history.now this.view.now × ObjectRows history.now.events rows.now }
-    ensures { first_wrong (history_in history.now) (is_visible (history_in history.now) known.entry.seen) (contents_in history.now.values history.now.starts) known.entry.view.now ≡ none → found_event result ≡ first_wrong (history_in history.now) (is_visible (history_in history.now) this.entry.seen) (contents_in history.now.values history.now.starts) this.entry.view.now }
+    requires { (k < 64) × Ready history.now starts.now this.view.now × ObjectRows history.now.events rows.now }
+    ensures { first_wrong (history_in history.now) (is_visible (history_in history.now) known.entry.seen) (contents_in history.now.values starts.now) known.entry.view.now ≡ none → found_event result ≡ first_wrong (history_in history.now) (is_visible (history_in history.now) this.entry.seen) (contents_in history.now.values starts.now) this.entry.view.now }
 {
     // Where one event's answer decides a view, only the events of its object are replayed.
     let Some(e) = deciding(history, known, this, k) else {
-        return replay(history, this.view, this.seen);
+        return replay(history, *starts, this.view, this.seen);
     };
     let o = usize::from(history.events[usize::from(e.0)].object);
-    replay_row(history, this.view, rows[o], e)
+    replay_row(history, starts[o], this.view, rows[o], e)
 }
 
 // The lowest view in which the replay does not give a visible answer, and the first such event.
-pub fn first_wrong(history: &LightHistory, views: &Views, who: &[Visible; 64]) -> Option<Place>
-    requires { (k : ℕ) → k < length views.now.numbers.now → Ready history.now (view_at views.now.rows.now views.now.lengths.now k) }
-    ensures { option_in result ≡ lowest (length views.now.numbers.now) (wrong_in (history_in history.now) (contents_in history.now.values history.now.starts) who.now views.now.rows.now views.now.lengths.now) }
+pub fn first_wrong(
+    history: &LightHistory,
+    starts: [State; 16],
+    views: &Views,
+    who: &[Visible; 64],
+) -> Option<Place>
+    requires { (k : ℕ) → k < length views.now.numbers.now → Ready history.now starts (view_at views.now.rows.now views.now.lengths.now k) }
+    ensures { option_in result ≡ lowest (length views.now.numbers.now) (wrong_in (history_in history.now) (contents_in history.now.values starts) who.now views.now.rows.now views.now.lengths.now) }
 {
     let rows = object_rows(&history.events);
     for k in 0..views.count() {
@@ -79,7 +86,7 @@ pub fn first_wrong(history: &LightHistory, views: &Views, who: &[Visible; 64]) -
             view: views.get(k).events,
             seen: who[k],
         };
-        if let Some(event) = wrong_answer(history, &rows, known, this, k) {
+        if let Some(event) = wrong_answer(history, &starts, &rows, known, this, k) {
             return Some(Place { view: k, event });
         }
     }

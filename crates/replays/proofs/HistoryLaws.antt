@@ -141,39 +141,41 @@ starts-are os all states vs few z same fresh-as =
     ∙ sym (get_or-mapped fresh os o no_object l))
 
 -- ---- a replay of the history that was taken apart is a replay of the history
-module _ (h : WrittenHistory.History) (l : LightHistory) (t : TakenApart h l)
+module _ (h : WrittenHistory.History) (l : LightHistory) (t : TakenApart h l) (states : List State)
     (few : h.count ≤ 64)
     (long : length h.events ≡ 64)
-    (declared : length (objects_in h) ≤ 16)
+    (places : length (objects_in h) ≤ length states)
     (agree : (o : ℕ) → get_or h.objects o no_object ≡ get_or (objects_in h) o no_object)
+    (fresh-as : (o : ℕ) → o < length (objects_in h) → Fresh (get_or h.objects o no_object) (get_or states o no_state))
     (who : Visible) (v : List ℕ)
     (named : (e : ℕ) → mem e v ≡ true → (event (history_of h) e).object < length (objects_in h)) where
-  same_start : contents_in l.values l.starts ≡ map fresh (objects_in h) ++ drop (length (objects_in h)) (contents_in l.values l.starts)
+  same_start : contents_in l.values states ≡ map fresh (objects_in h) ++ drop (length (objects_in h)) (contents_in l.values states)
   same_start =
-      sym (take-append-drop (length (objects_in h)) (contents_in l.values l.starts))
-      ∙ ap (λ (c : Contents). c ++ drop (length (objects_in h)) (contents_in l.values l.starts))
-      (starts-are (objects_in h) h.objects l.starts l.values (omega (arith, declared, t.places)) t.start (λ o b. agree o) (λ o b. t.starts o (omega (arith, b, declared))))
+      sym (take-append-drop (length (objects_in h)) (contents_in l.values states))
+      ∙ ap (λ (c : Contents). c ++ drop (length (objects_in h)) (contents_in l.values states))
+      (starts-are (objects_in h) h.objects states l.values places t.start (λ o b. agree o) fresh-as)
 
   same_history : history_in l ≡ record { objects = h.objects; events = map event_of (events_in h) }
   unfolding history_in
   same_history = rw (t.objects, t.size, events-are h l t few long)
 
-  pub replay-is : first_wrong (history_in l) (is_visible (history_in l) who) (contents_in l.values l.starts) v
+  pub replay-is : first_wrong (history_in l) (is_visible (history_in l) who) (contents_in l.values states) v
       ≡ first_wrong (history_of h) (is_visible (history_of h) who) (start (history_of h)) v
   unfolding history_of
   replay-is =
       let es : List Event = map event_of (events_in h) in
       let k : History = record { objects = objects_in h; events = map event_of (events_in h) } in
-      ap (λ (x : History). first_wrong x (is_visible x who) (contents_in l.values l.starts) v) same_history
-      ∙ other-objects h.objects (objects_in h) es agree (is_visible record { objects = h.objects; events = es } who) (contents_in l.values l.starts) v
-      ∙ same-visible k (is_visible record { objects = h.objects; events = es } who) (is_visible k who) (visible-events h.objects (objects_in h) es who) (contents_in l.values l.starts) v
+      ap (λ (x : History). first_wrong x (is_visible x who) (contents_in l.values states) v) same_history
+      ∙ other-objects h.objects (objects_in h) es agree (is_visible record { objects = h.objects; events = es } who) (contents_in l.values states) v
+      ∙ same-visible k (is_visible record { objects = h.objects; events = es } who) (is_visible k who) (visible-events h.objects (objects_in h) es who) (contents_in l.values states) v
       ∙ ap (λ (s : Contents). first_wrong k (is_visible k who) s v) same_start
-      ∙ longer k (is_visible k who) (drop (length (objects_in h)) (contents_in l.values l.starts)) (map fresh (objects_in h)) v
+      ∙ longer k (is_visible k who) (drop (length (objects_in h)) (contents_in l.values states)) (map fresh (objects_in h)) v
       (λ e m. omega (arith, named e m, length-map (objects_in h) fresh))
 
 -- ---- what a replay takes for granted is what the reader guarantees
-module _ (h : WrittenHistory.History) (s : Sound h) (l : LightHistory) (t : TakenApart h l) (view : List ℕ)
+module _ (h : WrittenHistory.History) (s : Sound h) (l : LightHistory) (t : TakenApart h l) (states : List State) (view : List ℕ)
     (agree : (o : ℕ) → get_or h.objects o no_object ≡ get_or (objects_in h) o no_object)
+    (fresh-as : (o : ℕ) → o < 16 → Fresh (get_or h.objects o no_object) (get_or states o no_state))
     (narrow : (o : ℕ) → keeps (get_or h.objects o no_object).kind (get_or h.objects o no_object).width ≤ 8)
     (short-view : length view ≤ 64)
     (entries : (i : ℕ) → i < length view → get_or view i 0 < h.count) where
@@ -198,10 +200,10 @@ module _ (h : WrittenHistory.History) (s : Sound h) (l : LightHistory) (t : Take
         (silent-right (get_or h.objects x.object no_object) x.op x.answer (rw (t.lights e (below e b)) at q));
   }
 
-  pub ready_of : Ready l view
+  pub ready_of : Ready l states view
   ready_of = record {
     parts = parts-of;
     short = short-view;
     event = λ i b. omega (arith, entries i b, t.size);
-    start = λ o b. rw t.objects (fresh-stands (get_or h.objects o no_object) (get_or l.starts o no_state) (narrow o) (t.starts o b));
+    start = λ o b. rw t.objects (fresh-stands (get_or h.objects o no_object) (get_or states o no_state) (narrow o) (fresh-as o b));
   }

@@ -1,23 +1,17 @@
 -- Laws of an array that is made of another, an element at a time, and of a history that is taken apart an event at a time. Assumes nothing.
-use Prim.Native.Nat.{ℕ, ◌+◌, ◌≤◌, ◌<◌}
+use Prim.Native.Nat.{ℕ, ◌+◌, ◌<◌}
 use native.Mathlib.Omega.{arith}
-use mathlib.Core.Path.{◌≡◌, ◌∙◌}
+use mathlib.Core.Path.{◌≡◌}
 use mathlib.Core.List.{List}
 use lib.ListN.{length, get_or, set}
 use lib.Seq.{get_or-set_same, get_or-set_other}
-use lib.ListN.{take, length-set}
-use lib.Seq.{get_or-take}
 use Rattle.layout.proofs.Cases.{by-eq}
-use Rattle.history.specs.declared.record.Answer.{Answer}
 use Rattle.history.specs.declared.record.Event.{Event}
 use Rattle.history.specs.declared.record.History.{History}
-use Rattle.history.specs.Record.{no_object, no_event}
-use Rattle.criteria.proofs.Loops.{any-default}
-use Rattle.objects.specs.State.{no_state, Fresh}
+use Rattle.history.specs.Record.{no_event}
 use Rattle.replays.specs.declared.light.LightHistory.{LightHistory}
-use Rattle.replays.specs.declared.replay.Light.{Light}
 use Rattle.replays.specs.Replay.{no_light, unused_answer}
-use Rattle.replays.specs.Light.{light_of, TakenApart}
+use Rattle.replays.specs.Light.{light_of}
 
 -- one element more of an array whose element k is to be g k
 pub made_at : {B : Type 0} (g : ℕ → B) (b : B) (ys : List B) (i : ℕ) (y : B) → i < length ys → y ≡ g i
@@ -35,9 +29,8 @@ Made f d b xs ys i = (k : ℕ) → k < i → get_or ys k b ≡ f (get_or xs k d)
 pub record Apart (h : History) (i : ℕ) (r : LightHistory) : Type 0 where
   pub objects : r.objects ≡ h.objects
   pub size : r.size ≡ h.count
-  pub places : (length r.events ≡ 64) × (length r.values ≡ 65) × (length r.answers ≡ 64) × (length r.starts ≡ 16)
+  pub places : (length r.events ≡ 64) × (length r.values ≡ 65) × (length r.answers ≡ 64)
   pub start : get_or r.values 64 0 ≡ 0
-  pub starts : (o : ℕ) → o < 16 → Fresh (get_or h.objects o no_object) (get_or r.starts o no_state)
   pub lights : Made (light_of h.objects) no_event no_light h.events r.events i
   pub values : Made (λ (e : Event). e.value) no_event 0 h.events r.values i
   pub answers : Made (λ (e : Event). e.answer) no_event unused_answer h.events r.answers i

@@ -201,19 +201,19 @@ unfoldable pub wrong_from : LightHistory → Visible → List State → List ℕ
 wrong_from h who states view = first_wrong (history_in h) (is_visible (history_in h) who) (contents_in h.values states) view
 
 -- Nothing is wrong in the first i entries of the view: each object's state stands, and what is left says what the whole view says.
-pub record Passed (h : LightHistory) (view : List ℕ) (who : Visible) (i : ℕ) (states : List State) : Type 0 where
+pub record Passed (h : LightHistory) (starts : List State) (view : List ℕ) (who : Visible) (i : ℕ) (states : List State) : Type 0 where
   pub places : length states ≡ 16
   pub stand : AllStand h.objects i states
-  pub same : wrong_from h who h.starts view ≡ wrong_from h who states (drop i view)
+  pub same : wrong_from h who starts view ≡ wrong_from h who states (drop i view)
 
-module _ {h : LightHistory} {view : List ℕ} {who : Visible} (r : Ready h view) where
-  pub all-passed : {states : List State} {i : ℕ} → i ≡ length view → Passed h view who i states
-      → math.none ≡ first_wrong (history_in h) (is_visible (history_in h) who) (contents_in h.values h.starts) view
+module _ {h : LightHistory} {starts : List State} {view : List ℕ} {who : Visible} (r : Ready h starts view) where
+  pub all-passed : {states : List State} {i : ℕ} → i ≡ length view → Passed h starts view who i states
+      → math.none ≡ first_wrong (history_in h) (is_visible (history_in h) who) (contents_in h.values starts) view
   unfolding wrong_from
   all-passed {states} {i} e p = sym (p.same ∙ ap (wrong_from h who states) (drop_all i view (omega arith)))
 
   -- entry i of the view: event x, of the object o
-  module _ {i : ℕ} {states : List State} (p : Passed h view who i states) (lt : i < length view)
+  module _ {i : ℕ} {states : List State} (p : Passed h starts view who i states) (lt : i < length view)
       {x o : ℕ} (is : x ≡ get_or view i 0) (on : o ≡ (get_or h.events x no_light).object) where
     is-event : x < h.size
     is-event = rw is (r.event i lt)
@@ -256,7 +256,7 @@ module _ {h : LightHistory} {view : List ℕ} {who : Visible} (r : Ready h view)
         → b ≡ fits (recorded_in (get_or h.answers x unused_answer)) (given_of h.values g) → wrong-here ≡ not b
     asked g seen a q = rw (visible-at h who x is-event, seen, right-here, q, given-is h r.parts is-event on its-state g a)
 
-    stops : wrong-here ≡ true → math.some x ≡ first_wrong (history_in h) (is_visible (history_in h) who) (contents_in h.values h.starts) view
+    stops : wrong-here ≡ true → math.some x ≡ first_wrong (history_in h) (is_visible (history_in h) who) (contents_in h.values starts) view
     unfolding wrong_from
     stops q = sym (p.same ∙ ap (wrong_from h who states) left ∙ rw q)
 
@@ -276,7 +276,7 @@ module _ {h : LightHistory} {view : List ℕ} {who : Visible} (r : Ready h view)
             ∙ ap (λ (l : List ℕ). set (contents_in h.values states) light.object (after (get_or h.objects light.object no_object) light.op (value_in h.values x) l))
             (get_or-contents h.values states light.object)
 
-    goes-on : wrong-here ≡ false → (t : State) → Changed (get_or states o no_state) light.op x t → Passed h view who (i + 1) (set states o t)
+    goes-on : wrong-here ≡ false → (t : State) → Changed (get_or states o no_state) light.op x t → Passed h starts view who (i + 1) (set states o t)
     unfolding wrong_from
     goes-on q t c = record {
       places = length-set states o t ∙ p.places;
@@ -304,21 +304,21 @@ module _ {h : LightHistory} {view : List ℕ} {who : Visible} (r : Ready h view)
 
     pub asked-wrong : (d : State) (g : Given) → not light.silent && sees_of who light.process.0 number ≡ true → Answered (get_or states o d) light.op number g
         → false ≡ fits (recorded_in (get_or h.answers x unused_answer)) (given_of h.values g)
-        → math.some number ≡ first_wrong (history_in h) (is_visible (history_in h) who) (contents_in h.values h.starts) view
+        → math.some number ≡ first_wrong (history_in h) (is_visible (history_in h) who) (contents_in h.values starts) view
     asked-wrong d g q a f =
         ap math.some (sym is) ∙ stops (asked g (is-asked q) (answered-as d a) f)
 
     pub asked-right : (d : State) (g : Given) (t : State) → not light.silent && sees_of who light.process.0 number ≡ true → Answered (get_or states o d) light.op number g
         → true ≡ fits (recorded_in (get_or h.answers x unused_answer)) (given_of h.values g)
-        → Changed (get_or states o d) light.op number t → Passed h view who (i + 1) (set states o t)
+        → Changed (get_or states o d) light.op number t → Passed h starts view who (i + 1) (set states o t)
     asked-right d g t q a f c =
         goes-on (asked g (is-asked q) (answered-as d a) f) t (changed-as d c)
 
     pub unasked-changes : (d : State) (t : State) → not light.silent && sees_of who light.process.0 number ≡ false
-        → Changed (get_or states o d) light.op number t → Passed h view who (i + 1) (set states o t)
+        → Changed (get_or states o d) light.op number t → Passed h starts view who (i + 1) (set states o t)
     unasked-changes d t q c = goes-on (unasked (rw (sym is) at q)) t (changed-as d c)
 
-    pub unasked-still : not light.silent && sees_of who light.process.0 number ≡ false → is_update light.op ≡ false → Passed h view who (i + 1) states
+    pub unasked-still : not light.silent && sees_of who light.process.0 number ≡ false → is_update light.op ≡ false → Passed h starts view who (i + 1) states
     unasked-still q still =
-        subst (Passed h view who (i + 1)) (set-get_or states o no_state)
+        subst (Passed h starts view who (i + 1)) (set-get_or states o no_state)
         (goes-on (unasked (rw (sym is) at q)) (get_or states o no_state) (unchanged (get_or states o no_state) light.op x still its-state.ends))

@@ -7,7 +7,6 @@ use Rattle.history.specs.declared.record.Answer.{Answer}
 use Rattle.history.specs.declared.record.Event.{Event}
 use Rattle.history.specs.declared.record.History.{History}
 use Rattle.history.specs.Record.{no_object, no_event}
-use Rattle.objects.specs.State.{no_state, Fresh}
 use Rattle.history.specs.Kinds.{is_channel, takes_value}
 use Rattle.replays.specs.declared.light.LightHistory.{LightHistory}
 use Rattle.replays.specs.declared.replay.Light.{Light}
@@ -29,15 +28,13 @@ light_with k e = record { process = e.process; object = e.object; op = e.op; sil
 abbrev pub light_of : List Object → Event → Light
 light_of os e = light_with (get_or os e.object no_object).kind e
 
--- A history taken apart for its replays: of each of its objects the state at the start, and of each of its events the light record, the
--- value and the answer; the last of the values is 0, for the start.
+-- A history taken apart for its replays: of each of its events the light record, the value and the answer; the last of the values is 0,
+-- for the start.
 pub record TakenApart (h : History) (r : LightHistory) : Type 0 where
   pub objects : r.objects ≡ h.objects
   pub size : r.size ≡ h.count
   pub long : length r.values ≡ 65
   pub start : get_or r.values 64 0 ≡ 0
-  pub places : length r.starts ≡ 16
-  pub starts : (o : ℕ) → o < 16 → Fresh (get_or h.objects o no_object) (get_or r.starts o no_state)
   pub lights : (e : ℕ) → e < h.count → get_or r.events e no_light ≡ light_of h.objects (get_or h.events e no_event)
   pub values : (e : ℕ) → e < h.count → get_or r.values e 0 ≡ (get_or h.events e no_event).value
   pub answers : (e : ℕ) → e < h.count → get_or r.answers e unused_answer ≡ (get_or h.events e no_event).answer

@@ -83,9 +83,9 @@ pub record SoundParts (h : LightHistory) : Type 0 where
       → Silent (get_or h.objects (get_or h.events e no_light).object no_object) (get_or h.events e no_light).op (get_or h.answers e unused_answer)
 
 -- What the replay of a view takes for granted: the parts are sound, the view has at most 64 entries, all of them events, and each
--- object's state at the start stands before any event.
-pub record Ready (h : LightHistory) (view : List ℕ) : Type 0 where
+-- object's state stands before any event.
+pub record Ready (h : LightHistory) (starts : List State) (view : List ℕ) : Type 0 where
   pub parts : SoundParts h
   pub short : length view ≤ 64
   pub event : (i : ℕ) → i < length view → get_or view i 0 < h.size
-  pub start : (o : ℕ) → o < 16 → Stands (get_or h.objects o no_object) 0 (get_or h.starts o no_state)
+  pub start : (o : ℕ) → o < 16 → Stands (get_or h.objects o no_object) 0 (get_or starts o no_state)

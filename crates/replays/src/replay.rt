@@ -7,7 +7,7 @@ ghost use Rattle.replays.specs.Steps.{sees_of};
 
 use crate::light::LightHistory;
 use history::record::{EventNo, Op, ProcessNo};
-use objects::state::EventOp;
+use objects::state::{EventOp, State};
 
 // An event without its value and its answer. A silent one's answer is right whatever its object holds.
 #[derive(Clone, Copy)]
@@ -52,11 +52,16 @@ fn asks(who: Visible, e: Light, no: EventNo) -> bool
 }
 
 // The first event of the view whose visible answer the replay does not give.
-pub fn replay(history: &LightHistory, view: &[u8], who: Visible) -> Option<EventNo>
-    requires { Ready history.now view.now }
-    ensures { found_event result ≡ first_wrong (history_in history.now) (is_visible (history_in history.now) who) (contents_in history.now.values history.now.starts) view.now }
+pub fn replay(
+    history: &LightHistory,
+    starts: [State; 16],
+    view: &[u8],
+    who: Visible,
+) -> Option<EventNo>
+    requires { Ready history.now starts view.now }
+    ensures { found_event result ≡ first_wrong (history_in history.now) (is_visible (history_in history.now) who) (contents_in history.now.values starts) view.now }
 {
-    let mut states = history.starts;
+    let mut states = starts;
     for number in view {
         let no = EventNo(*number);
         let at = usize::from(*number);

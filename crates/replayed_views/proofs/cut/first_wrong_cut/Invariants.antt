@@ -7,4 +7,4 @@ use Rattle.replayed_views.proofs.cut.first_wrong_cut.Given as goal
 
 abbrev pub invariant-loop-e : goal.invariant-loop-e
 invariant-loop-e l =
-    (i : ℕ) → i < l.e → wrong_cut (history_in l.history) (contents_in l.history.values l.history.starts) l.rows l.view i ≡ none
+    (i : ℕ) → i < l.e → wrong_cut (history_in l.history) (contents_in l.history.values l.starts) l.rows l.view i ≡ none

@@ -3,9 +3,10 @@ use native.Mathlib.Omega.{arith}
 use mathlib.Core.Path.{◌≡◌, ap, ◌∙◌}
 use mathlib.Core.Bool.{true}
 use lib.ListN.{get_or, length-take}
+use Rattle.objects.specs.State.{contents_of}
 use Rattle.replays.specs.Replay.{no_light, history_in}
 use Rattle.orders.proofs.CutLaws.{entries-listed}
-use Rattle.replayed_views.specs.Steps.{its_start, one_wrong}
+use Rattle.replayed_views.specs.Steps.{one_wrong}
 use Rattle.replayed_views.proofs.ObjectLaws.{silent-part}
 use Rattle.replayed_views.proofs.CutLaws.{part-ready}
 use Rattle.replayed_views.proofs.object.replay_row.Goals as goal
@@ -24,4 +25,4 @@ pub returns : goal.returns
 returns c =
     let kept = entries-listed c.cut_to-cut.result _ c.cut_to-cut.ensures.list in
     c.replay_object.ensures
-    ∙ ap (one_wrong (history_in c.args.history.now) c.args.e.0 (get_or c.args.history.now.events c.args.e.0 no_light).object (its_start c.args.history.now c.args.e.0)) kept
+    ∙ ap (one_wrong (history_in c.args.history.now) c.args.e.0 (get_or c.args.history.now.events c.args.e.0 no_light).object (contents_of c.args.history.now.values c.args.start)) kept

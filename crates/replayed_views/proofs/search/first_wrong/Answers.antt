@@ -10,13 +10,13 @@ use Rattle.replayed_views.proofs.search.first_wrong.Goals as goal
 
 pub returns-in-Some : goal.returns-in-Some
 returns-in-Some c =
-    let right = c.before-known.ensures (history_in c.args.history.now) (contents_in c.args.history.now.values c.args.history.now.starts) c.loop-k.invariant in
+    let right = c.before-known.ensures (history_in c.args.history.now) (contents_in c.args.history.now.values c.args.starts) c.loop-k.invariant in
     let found = rw c.get.ensures at (c.wrong_answer.ensures right) in
     place_found (length c.args.views.now.numbers.now) _ (omega arith) c.loop-k.invariant (sym (ap (at_view c.loop-k.k) (found-some c.in-Some.is found)))
 
 pub loop-k-preserved : goal.loop-k-preserved
 loop-k-preserved c =
-    let right = c.before-known.ensures (history_in c.args.history.now) (contents_in c.args.history.now.values c.args.history.now.starts) c.loop-k.invariant in
+    let right = c.before-known.ensures (history_in c.args.history.now) (contents_in c.args.history.now.values c.args.starts) c.loop-k.invariant in
     let found = rw c.get.ensures at (c.wrong_answer.ensures right) in
     none-on c.loop-k.invariant (ap (at_view c.loop-k.k) (found-none c.in_default.is found))
 
