@@ -25,7 +25,8 @@ pub bounds-views-0 : goal.bounds-views-0
 bounds-views-0 c =
     let a = c.args in
     let one : is_converge a.criterion ≡ true = sym c.is_converge.ensures ∙ c.if-is_converge.true in
-    view-there c.light_history-history.ensures a.criterion a.views.now c.requires one
+    let long : length c.starts-begin.result ≡ 16 = search rules in
+    view-there c.light_history-history.ensures c.starts-begin.result c.starts-begin.ensures long a.criterion a.views.now c.requires one
 
 pub first_wrong_cut-requires : goal.first_wrong_cut-requires
 first_wrong_cut-requires c =
