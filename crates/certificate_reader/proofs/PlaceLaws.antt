@@ -11,7 +11,7 @@ use Rattle.layout.specs.Word.{same, past_heading, view_heading}
 use Rattle.layout.proofs.SplitLaws.{join-split}
 use Rattle.history.specs.declared.record.Event.{Event}
 use Rattle.history_reader.specs.Place.{CertificateText}
-use Rattle.history_reader.proofs.PlaceLaws.{PartOf, part-nowhere, part-faulty, join_more, join_one}
+use Rattle.history_reader.proofs.PlaceLaws.{PartOf, part-nowhere, part-faulty}
 use Rattle.certificate.specs.declared.record.Criterion.{Criterion}
 use Rattle.certificate.specs.Criteria.{has_pasts, count_from, view_numbers, criterion_of}
 use Rattle.certificate.specs.Faults.{criterion_line, list_fault, list_said}
@@ -32,7 +32,7 @@ module _ (n : ℕ) where
   placed-accepted c pasts views = part-nowhere CertificateText n
 
   placed-last : (line at : ℕ) (p : List ℕ) → line ≤ at + 1 → at + length (join 10 (p ∷ [])) ≤ n → Placed n (refusal 2 line at (length p))
-  placed-last line at p k h = placed-refusal 2 line at (length p) k (omega (arith, ap length (join_one p)))
+  placed-last line at p k h = placed-refusal 2 line at (length p) k (omega (arith, join_one 10 p))
 
   -- the lines from the place `at` on stand within the text
   abbrev AllPlaced : (ℕ → ℕ → List (List ℕ) → Lines) → Type 0
@@ -43,7 +43,7 @@ module _ (n : ℕ) where
   placed_end r p line at [] k h = placed-refusal 2 line at 0 k (omega arith)
   placed_end r p line at (l ∷ []) k h =
       placed-cond (eqb (length l) 0) r (refusal 2 line at (length l)) p (placed-last line at l k h)
-  placed_end r p line at (l ∷ q ∷ ps) k h = placed-refusal 2 line at (length l) k (omega (arith, join_more l q ps))
+  placed_end r p line at (l ∷ q ∷ ps) k h = placed-refusal 2 line at (length l) k (omega (arith, join_more 10 l q ps))
 
   placed-heading : (heading : List ℕ) (next : ℕ → ℕ → List (List ℕ) → Lines) → AllPlaced next → AllPlaced (heading_from heading next)
   unfolding heading_from
@@ -51,8 +51,8 @@ module _ (n : ℕ) where
   placed-heading heading next p line at (l ∷ []) k h = placed-last line at l k h
   placed-heading heading next p line at (l ∷ q ∷ ps) k h =
       placed-cond (same l heading) (next (line + 1) (at + length l + 1) (q ∷ ps)) (refusal 2 line at (length l))
-      (p (line + 1) (at + length l + 1) (q ∷ ps) (omega arith) (omega (arith, join_more l q ps)))
-      (placed-refusal 2 line at (length l) k (omega (arith, join_more l q ps)))
+      (p (line + 1) (at + length l + 1) (q ∷ ps) (omega arith) (omega (arith, join_more 10 l q ps)))
+      (placed-refusal 2 line at (length l) k (omega (arith, join_more 10 l q ps)))
 
   module _ (past : Bool) (count : ℕ) (next : List (List ℕ) → ℕ → ℕ → List (List ℕ) → Lines) (p : (ls : List (List ℕ)) → AllPlaced (next ls)) where
     placed-lists : (ns : List ℕ) (ls : List (List ℕ)) → AllPlaced (lists_from past count next ns ls)
@@ -64,8 +64,8 @@ module _ (n : ℕ) where
         placed-cond (eqb (list_fault past count own l) 0)
         (lists_from past count next ns (ls ++ list_said l ∷ []) (line + 1) (at + length l + 1) (q ∷ ps))
         (refusal (list_fault past count own l) line at (length l))
-        (placed-lists ns (ls ++ list_said l ∷ []) (line + 1) (at + length l + 1) (q ∷ ps) (omega arith) (omega (arith, join_more l q ps)))
-        (placed-refusal (list_fault past count own l) line at (length l) k (omega (arith, join_more l q ps)))
+        (placed-lists ns (ls ++ list_said l ∷ []) (line + 1) (at + length l + 1) (q ∷ ps) (omega arith) (omega (arith, join_more 10 l q ps)))
+        (placed-refusal (list_fault past count own l) line at (length l) k (omega (arith, join_more 10 l q ps)))
 
   placed-views : (c : Criterion) (count : ℕ) (numbers : List ℕ) (pasts : List (List ℕ)) → AllPlaced (views_from c count numbers pasts)
   unfolding views_from
@@ -92,11 +92,11 @@ module _ (n : ℕ) where
   placed-lines : (es : List Event) (ps : List (List ℕ)) → length (join 10 ps) ≤ n → Placed n (lines_from es ps)
   unfolding lines_from
   placed-lines es [] h = placed-refusal 2 1 0 0 (omega arith) (omega arith)
-  placed-lines es (l ∷ []) h = placed-refusal 2 1 0 (length l) (omega arith) (omega (arith, ap length (join_one l)))
+  placed-lines es (l ∷ []) h = placed-refusal 2 1 0 (length l) (omega arith) (omega (arith, join_one 10 l))
   placed-lines es (l ∷ q ∷ ps) h =
       placed-cond (criterion_line l) (body_from (criterion_of (get_or (split 32 l) 1 [])) es 2 (length l + 1) (q ∷ ps)) (refusal 2 1 0 (length l))
-      (placed-body (criterion_of (get_or (split 32 l) 1 [])) es 2 (length l + 1) (q ∷ ps) (omega arith) (omega (arith, join_more l q ps)))
-      (placed-refusal 2 1 0 (length l) (omega arith) (omega (arith, join_more l q ps)))
+      (placed-body (criterion_of (get_or (split 32 l) 1 [])) es 2 (length l + 1) (q ∷ ps) (omega arith) (omega (arith, join_more 10 l q ps)))
+      (placed-refusal 2 1 0 (length l) (omega arith) (omega (arith, join_more 10 l q ps)))
 
 -- the faulty line of a text is a part of it
 pub placed-text : (es : List Event) (text : List ℕ) → Placed (length text) (read_lines es text)

@@ -7,6 +7,7 @@ use lib.ListN.{length}
 use lib.Dec.{eqb, leb}
 use Rattle.layout.specs.Split.{split}
 use Rattle.layout.specs.Word.{same, object_heading, event_heading}
+use Rattle.layout.proofs.Cases.{in-either}
 use Rattle.history.specs.declared.record.Object.{Object}
 use Rattle.history.specs.declared.record.Event.{Event}
 use Rattle.history.specs.Faults.{object_line, event_line}
@@ -38,18 +39,14 @@ module _ (P : Text → Type 0) (h : P HistoryText) where
   layout : (line at size : ℕ) → Refused (refusal 2 line at size)
   layout line at size = faulty 2 line at size (λ n. refl)
 
-  either : (t : Bool) (r q : HistoryRead) → Refused r → Refused q → Refused (cond t r q)
-  either true r q a b = a
-  either false r q a b = b
-
   events : (os : List Object) (es : List Event) (line at : ℕ) (ps : List (List ℕ)) → Refused (events_from os es line at ps)
   unfolding events_from
   events os es line at [] = layout line at 0
   events os es line at (p ∷ []) =
-      either (eqb (length p) 0) (read_as os es) (refusal 2 line at (length p)) (refuses-nowhere P) (layout line at (length p))
+      in-either Refused (eqb (length p) 0) (read_as os es) (refusal 2 line at (length p)) (refuses-nowhere P) (layout line at (length p))
   events os es line at (p ∷ q ∷ ps) =
       let x = event_line (length es) os p in
-      either (eqb x.fault 0) (events_from os (es ++ x.event ∷ []) (line + 1) (at + length p + 1) (q ∷ ps)) (refusal x.fault line at (length p))
+      in-either Refused (eqb x.fault 0) (events_from os (es ++ x.event ∷ []) (line + 1) (at + length p + 1) (q ∷ ps)) (refusal x.fault line at (length p))
       (events os (es ++ (event_line (length es) os p).event ∷ []) (line + 1) (at + length p + 1) (q ∷ ps))
       (faulty x.fault line at (length p) (fault-event (length es) os p))
 
@@ -61,9 +58,9 @@ module _ (P : Text → Type 0) (h : P HistoryText) where
       let x = object_line (length os) p in
       let more = objects_from (os ++ x.object ∷ []) (line + 1) (at + length p + 1) (q ∷ ps) in
       let bad = refusal x.fault line at (length p) in
-      either (same p event_heading) (events_from os [] (line + 1) (at + length p + 1) (q ∷ ps)) (cond (eqb x.fault 0) more bad)
+      in-either Refused (same p event_heading) (events_from os [] (line + 1) (at + length p + 1) (q ∷ ps)) (cond (eqb x.fault 0) more bad)
       (events os [] (line + 1) (at + length p + 1) (q ∷ ps))
-      (either (eqb x.fault 0) more bad
+      (in-either Refused (eqb x.fault 0) more bad
       (objects (os ++ (object_line (length os) p).object ∷ []) (line + 1) (at + length p + 1) (q ∷ ps))
       (faulty x.fault line at (length p) (fault-object (length os) p)))
 
@@ -72,11 +69,11 @@ module _ (P : Text → Type 0) (h : P HistoryText) where
   lines [] = layout 1 0 0
   lines (p ∷ []) = layout 1 0 (length p)
   lines (p ∷ q ∷ ps) =
-      either (same p object_heading) (objects_from [] 2 (length p + 1) (q ∷ ps)) (refusal 2 1 0 (length p))
+      in-either Refused (same p object_heading) (objects_from [] 2 (length p + 1) (q ∷ ps)) (refusal 2 1 0 (length p))
       (objects [] 2 (length p + 1) (q ∷ ps))
       (layout 1 0 (length p))
 
   pub refuses-history : (text : List ℕ) → Refuses P (read_history text).fault (read_history text).place
   unfolding read_history
   refuses-history text =
-      either (leb (length text) 16384) (lines_from (split 10 text)) (refusal 1 0 0 0) (lines (split 10 text)) (faulty 1 0 0 0 (λ n. refl))
+      in-either Refused (leb (length text) 16384) (lines_from (split 10 text)) (refusal 1 0 0 0) (lines (split 10 text)) (faulty 1 0 0 0 (λ n. refl))
