@@ -21,5 +21,5 @@ first_told own os text None first = tt
 first_told own os text (Some (e, rest)) first = (
   first-long (event_line own os) (faulty_event 2) text (event_text own e) rest.now (event-clean own e) first.spelt,
   first-read (event_line own os) (faulty_event 2) text (event_text own e) rest.now (event-clean own e) first.spelt
-  ∙ event-written own os e first.numbered first.good,
+      ∙ event-written own os e first.numbered first.good,
 )
