@@ -167,7 +167,7 @@ fn put_history(part: &mut [u8], lines: &Lines) -> usize
 pub fn write_history(buf: &mut [u8], h: History) -> Result<usize, WriteFault>
     ensures { (written_of result ≡ history_written h buf.old) × (buf.new ≡ history_after h buf.old) }
 {
-    if !is_within(h) {
+    if !is_within(&h) {
         return Err(WriteFault::OutsideLimits);
     }
     let objects = ObjectLines {
