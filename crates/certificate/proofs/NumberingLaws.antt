@@ -1,13 +1,13 @@
 -- Laws of the numbers of the views. Assumes nothing.
 use Prim.Native.Nat.{ℕ, zero, suc, ◌+◌, ◌-◌, ◌≤◌, ◌<◌}
-use native.Mathlib.Nat.{add-zero}
+use native.Mathlib.Nat.{add-zero, not-suc-le-zero}
 use native.Mathlib.Numerals.{add-one}
 use native.Mathlib.Omega.{arith}
 use mathlib.Core.Logic.{◌⊎◌, inl, inr}
 use mathlib.Core.Path.{◌≡◌, refl, sym, ap, ap₂, ◌∙◌}
 use mathlib.Core.Bool.{Bool, true, false, ◌||◌, false≢true}
 use mathlib.Core.List.{List, [], ◌∷◌, ◌++◌, append_assoc, append-nil}
-use lib.ListN.{length, take, set, replicate}
+use lib.ListN.{length, get_or, take, set, replicate}
 use lib.Seq.{length-take-le}
 use lib.Dec.{eqb}
 use Rattle.std.specs.List.{list_any}
@@ -56,6 +56,12 @@ pub count_long : (k n : ℕ) → length (count_from k n) ≡ n
 unfolding count_from
 count_long k zero = refl
 count_long k (suc n) = ap suc (count_long (k + 1) n)
+
+pub count_at : (k n i d : ℕ) → i < n → get_or (count_from k n) i d ≡ k + i
+unfolding count_from
+count_at k zero i d h = absurd (not-suc-le-zero h)
+count_at k (suc n) zero d h = omega arith
+count_at k (suc n) (suc i) d h = count_at (k + 1) n i d (omega arith) ∙ omega arith
 
 -- the first n events are in the array, and nothing else
 pub record Counted (numbers : List ℕ) (n : ℕ) : Type 0 where
