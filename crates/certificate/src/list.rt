@@ -51,8 +51,7 @@ pub fn no_list() -> EventList
 }
 
 // Whether the items are strictly rising.
-// Kept: one call of the library's method; a generic one, for the writer's rows of u8 too, would put `map T.number` into each caller's
-// clauses.
+// Kept: one call of the library's method; one for u8 and u32 would take layout's `Item`, and each caller's answer a `map-id`.
 fn is_rising(items: &[u32]) -> bool
     ensures { result ≡ rising items.now }
 {
