@@ -3,7 +3,6 @@ use Rattle.std.proofs.Common.{rules, arith, ◌≡◌, ◌<◌, ◌∙◌, ap, s
 use Rattle.std.proofs.Math.Seq.{get_or-take, length-take-le}
 use Rattle.std.proofs.lemmas.Result.{err_from_is_err_and}
 use Rattle.certificate.specs.Record.{no_list}
-use Rattle.certificate.proofs.NumberingLaws.{numbers-in}
 use Rattle.orders.proofs.ViewLaws.{views-first}
 use Rattle.faults.specs.Finding.{finding_of}
 use Rattle.faults.proofs.RecordFacts.{process-small, numbers-long}
@@ -61,7 +60,7 @@ pub invariant_of-views-clause-events : goal.invariant_of-views-clause-events
 invariant_of-views-clause-events c =
     let views = few-views c.args.h.now c.args.c.now c.args.views.now c.requires c.view_numbers-named.result c.view_numbers-named.ensures in
     let m = c.view_numbers-named.result.count in
-    rw (numbers-long c.view_numbers-named.result _ c.view_numbers-named.ensures.0)
+    rw (c.all.ensures.first, numbers-long c.view_numbers-named.result _ c.view_numbers-named.ensures.0)
     (views-first c.args.views.now c.args.c.now.lengths m 64 (short-views c.args.h.now c.requires.0 c.args.c.now c.args.views.now c.requires.1 views m c.view_numbers-named.ensures.1))
 
 pub returns-in_err-order_fault : goal.returns-in_err-order_fault
@@ -81,7 +80,7 @@ returns-in_err-view_fault c =
     let is = views-stop c.args.h.now c.args.c.now c.args.views.now c.requires c.view_numbers-named.result c.view_numbers-named.ensures
     c.processes_of-processes.result long c.processes_of-processes.ensures c.program_rows-program.result c.program_rows-program.ensures
     c.order_rows-rows.result c.order_rows-rows.ensures c.past_count.result c.past_count.ensures
-    c.order_fault.result c.order_fault.ensures _ c.in_ok-order_fault.was c.view_fault.result c.view_fault.ensures c.in_err-view_fault.field-0.0 c.in_err-view_fault.was in
+    c.order_fault.result c.order_fault.ensures _ c.in_ok-order_fault.was c.view_fault.result (rw c.all.ensures.first at c.view_fault.ensures) c.in_err-view_fault.field-0.0 c.in_err-view_fault.was in
     rw (back.1, back.2) (ap finding_of (sym c.in_err-view_fault.was) ∙ is)
 
 pub replay_fault-requires : goal.replay_fault-requires
@@ -90,8 +89,8 @@ replay_fault-requires c =
     let m = c.view_numbers-named.result.count in
     let long = numbers-long c.view_numbers-named.result _ c.view_numbers-named.ensures.0 in (
       c.requires.0,
-      numbers-in c.view_numbers-named.result _ c.view_numbers-named.ensures.0,
-      rw long (views-first c.args.views.now c.args.c.now.lengths m c.args.h.now.count (event-views c.args.h.now c.requires.0 c.args.c.now c.args.views.now c.requires.1 views m c.view_numbers-named.ensures.1)),
+      c.all.ensures.all _ c.view_numbers-named.ensures.0,
+      rw (c.all.ensures.first, long) (views-first c.args.views.now c.args.c.now.lengths m c.args.h.now.count (event-views c.args.h.now c.requires.0 c.args.c.now c.args.views.now c.requires.1 views m c.view_numbers-named.ensures.1)),
     )
 
 pub returns : goal.returns
@@ -100,5 +99,5 @@ returns c =
     replay-stops c.args.h.now c.args.c.now c.args.views.now c.requires c.view_numbers-named.result c.view_numbers-named.ensures
     c.processes_of-processes.result long c.processes_of-processes.ensures c.program_rows-program.result c.program_rows-program.ensures
     c.order_rows-rows.result c.order_rows-rows.ensures c.past_count.result c.past_count.ensures
-    c.order_fault.result c.order_fault.ensures _ c.in_ok-order_fault.was c.view_fault.result c.view_fault.ensures _ c.in_ok-view_fault.was
+    c.order_fault.result c.order_fault.ensures _ c.in_ok-order_fault.was c.view_fault.result (rw c.all.ensures.first at c.view_fault.ensures) _ c.in_ok-view_fault.was
     c.replay_fault.result c.replay_fault.ensures
