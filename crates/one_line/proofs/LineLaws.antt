@@ -123,10 +123,6 @@ module _ (n : ℕ) (at : ℕ → ℕ) where
       ap event_list_of (rw (add-one e)
       (sym (line-more m e ∙ ap (λ (b : Bool). line_to m e ++ keep_if b e []) (ne_eqb (at e) m q) ∙ append-nil (line_to m e))))
 
-  -- none is tested yet
-  pub place-begins : (m : ℕ) → event_list_of (by_place n at m) ≡ event_list_of (line_to m 0)
-  place-begins m = ap event_list_of (sym (append-nil (by_place n at m)))
-
   -- there is room for it
   pub line-room : (m : ℕ) (l : EventList) → l ≡ event_list_of (by_place n at m) → n ≤ 64 → l.count ≤ 64
   unfolding event_list_of

@@ -1,5 +1,5 @@
 // The record of a weakened certificate, with the rows of its views beside it.
-ghost use Rattle.std.specs.Prelude.{◌≡◌, ℕ, ◌≤◌, ◌<◌, true, cond, [], map, length, replicate};
+ghost use Rattle.std.specs.Prelude.{◌≡◌, ℕ, ◌≤◌, ◌<◌, true, cond, [], map, length, replicate, take};
 ghost use Rattle.history.specs.Record.{pad};
 ghost use Rattle.certificate.specs.declared.record.Criterion.TheVariants.{Pram, Weak, Causal, Converge, Sequential, Strict};
 ghost use Rattle.certificate.specs.Record.{no_list, event_list_of};
@@ -41,7 +41,7 @@ pub fn no_pasts() -> [EventList; 64]
 
 // The record of a criterion, pasts and views.
 // Kept: rows and lengths are named first: tried with `made.rows` in the literal, and the borrow checker does not cover it yet.
-fn record_of(criterion: Criterion, pasts: [EventList; 64], made: ViewRows) -> ViewedRecord
+pub fn record_of(criterion: Criterion, pasts: [EventList; 64], made: ViewRows) -> ViewedRecord
     ensures { (result.certificate ≡ record { criterion = criterion; pasts = pasts; lengths = made.lengths }) × (result.views ≡ made.rows) }
 {
     let ViewRows { rows, lengths } = made;
@@ -99,6 +99,21 @@ struct Passing<'a> {
 }
 
 impl Passing<'_> {
+    // The first views of the certificate, as many as there are numbers, with these numbers.
+    fn views<'b>(&'b self, numbers: &'b [u8]) -> Views<'b>
+        requires { length numbers.now ≤ 64 }
+        ensures rows { result.rows.now ≡ take (length numbers.now) self.now.of.now.views }
+        ensures lengths { result.lengths.now ≡ take (length numbers.now) self.now.of.now.certificate.lengths }
+        ensures numbers { result.numbers.now ≡ numbers.now }
+    {
+        let m = numbers.len();
+        Views {
+            rows: &self.of.views[..m],
+            lengths: &self.of.certificate.lengths[..m],
+            numbers,
+        }
+    }
+
     // From sequential to any other criterion.
     fn sequential_to_other(&self, wanted: Criterion) -> ViewedRecord
         requires { (self.now.of.now.certificate.criterion ≡ Sequential) × (wanted ≡ Sequential → ⊥) }
@@ -144,11 +159,7 @@ impl Passing<'_> {
         let own = view_numbers(Criterion::Causal, &self.h.events[..n]);
         let named = view_numbers(Criterion::Pram, &self.h.events[..n]);
         let processes = processes_of(&self.h.events);
-        let views = Views {
-            rows: &self.of.views[..n],
-            lengths: &self.of.certificate.lengths[..n],
-            numbers: &own.numbers[..n],
-        };
+        let views = self.views(&own.numbers[..n]);
         let made = completed_views(&processes[..n], &views, &named.numbers[..named.count]);
         record_of(Criterion::Pram, no_pasts(), made)
     }
@@ -161,13 +172,9 @@ impl Passing<'_> {
         let n = self.h.count;
         let named = view_numbers(Criterion::Strict, &self.h.events[..n]);
         let processes = processes_of(&self.h.events);
-        let views = Views {
-            rows: &self.of.views[..named.count],
-            lengths: &self.of.certificate.lengths[..named.count],
-            numbers: &named.numbers[..named.count],
-        };
-        let made = own_parts(&processes[..n], &views);
-        record_of(wanted, self.of.certificate.pasts, made)
+        let pasts = self.of.certificate.pasts;
+        let views = self.views(&named.numbers[..named.count]);
+        record_of(wanted, pasts, own_parts(&processes[..n], &views))
     }
 
     // From causal: to weak the same lists.
