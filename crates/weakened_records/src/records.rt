@@ -115,6 +115,7 @@ impl Passing<'_> {
     }
 
     // From sequential to any other criterion.
+    #[tactic(auto, using(crate::proofs::PassedLaws::one_few, crate::proofs::PassedLaws::one_entries))]
     fn sequential_to_other(&self, wanted: Criterion) -> ViewedRecord
         requires { (self.now.of.now.certificate.criterion ≡ Sequential) × (wanted ≡ Sequential → ⊥) }
         ensures { IsRecordOf (weakened wanted (history_of self.now.h.now) (certificate_of self.now.h.now self.now.of.now.certificate self.now.of.now.views)) result.certificate result.views }
@@ -138,6 +139,7 @@ impl Passing<'_> {
     }
 
     // From converge to weak: the same pasts, and the view cut to past(e) and e.
+    #[tactic(auto, using(crate::proofs::PassedLaws::one_few, crate::proofs::PassedLaws::one_entries))]
     fn converge_to_weak(&self) -> ViewedRecord
         requires { self.now.of.now.certificate.criterion ≡ Converge }
         ensures { IsRecordOf (weakened Weak (history_of self.now.h.now) (certificate_of self.now.h.now self.now.of.now.certificate self.now.of.now.views)) result.certificate result.views }
@@ -217,6 +219,7 @@ impl Passing<'_> {
 }
 
 // The record that names the criterion wanted, of a certificate that passed the check; where the two are not a pair, the same record.
+#[tactic(auto, using(crate::proofs::PassedLaws::few_passed))]
 pub fn weakened_record(h: &History, of: &ViewedRecord, wanted: Criterion) -> ViewedRecord
     requires { Passed h.now of.now.certificate of.now.views }
     ensures { IsRecordOf (weakened wanted (history_of h.now) (certificate_of h.now of.now.certificate of.now.views)) result.certificate result.views }
