@@ -1,8 +1,7 @@
 -- `converge_to_weak` meets its contract: the view has all events, and the rows are the order of the pasts. Assumes nothing.
-use Rattle.std.proofs.Common.{rules, refl, length, ◌≡◌}
+use Rattle.std.proofs.Common.{rules, length, ◌≡◌}
 use Rattle.std.proofs.Math.Seq.{get_or-take}
 use Rattle.certificate.specs.Record.{no_list}
-use Rattle.certificate.specs.declared.record.Criterion.TheVariants.{Converge}
 use Rattle.faults.proofs.CheckLaws.{take-few, taken}
 use Rattle.weakened_records.proofs.PassedLaws.{short-passed}
 use Rattle.weakened_records.proofs.ConvergeRecords.{converge-record}
