@@ -9,7 +9,7 @@ use Rattle.history.specs.Record.{pad}
 use Rattle.history.proofs.PadLaws.{take-pad}
 use Rattle.certificate.specs.declared.record.EventList.{EventList}
 use Rattle.certificate.specs.Record.{event_list_of}
-use Rattle.criteria.specs.Tests.{highest, up_to, keep, one, mem, place}
+use Rattle.criteria.specs.Tests.{highest, up_to, keep, mem, place}
 use Rattle.criteria.specs.Weaken.{completed}
 use Rattle.criteria.proofs.Lists.{by-test, or-true, count-append, count-keep, count-up_to, count-out, mem-append, mem-keep, mem-up_to, keep_append, place_in, Once, one-le, length-once}
 use Rattle.orders.specs.Rows.{in_row}
