@@ -120,8 +120,9 @@ fn make_record(
     }
     let made = record_wanted(h, of, wanted);
     // A record that is made of an accepted one is within its limits: it is refused only where the buffer is too short.
-    let length = write_certificate(buffer, *h, made.certificate, &made.views)
-        .map_err(|_| Unmade::TooShort(criterion))?;
+    let length = write_certificate(buffer, *h, made.certificate, &made.views).map_err(
+        |_| Unmade::TooShort(criterion),
+    )?;
     Ok(Made { criterion, length })
 }
 
