@@ -36,6 +36,8 @@ fn shows(who: Visible, p: ProcessNo) -> bool
 }
 
 // A view, and whose answers are visible in it.
+// Kept: a slice, as `Ready` and `Decides` speak of its entries; `alone` asks about the rest behind the earlier view, and a `View` of that
+// rest would be made and proved again.
 #[derive(Clone, Copy)]
 pub(crate) struct ShownView<'a> {
     pub view: &'a [u8],
