@@ -12,14 +12,12 @@ use Rattle.criteria.specs.Check.{Fault, fault11, fault12, fault13, lacks_own, la
 use Rattle.criteria.proofs.Check.{program-parts}
 use Rattle.orders.specs.Rows.{in_rows, IsOrder}
 use Rattle.orders.proofs.BitLaws.{any_same}
+use Rattle.orders.proofs.RowLaws.{lacks}
 use Rattle.orders.proofs.SizeLaws.{any-fewer, past-size}
 use Rattle.faults.specs.Steps.{order_fault}
 use Rattle.faults.proofs.FoundLaws.{found-same, found_some, found_none}
 
--- the tests of 11 to 13 on rows
-abbrev pub lacks : List ℕ → List ℕ → ℕ → Bool
-lacks rows must e = any 64 (λ f. in_rows must f e && not (in_rows rows f e))
-
+-- the tests of 12 and 13 on rows; that of 11 is `lacks`
 abbrev pub own : List ℕ → ℕ → Bool
 own rows e = in_rows rows e e
 

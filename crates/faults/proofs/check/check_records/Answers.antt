@@ -65,20 +65,18 @@ invariant_of-views-clause-events c =
 
 pub returns-in_err-order_fault : goal.returns-in_err-order_fault
 returns-in_err-order_fault c =
-    let long : length c.processes_of-processes.result ≡ 64 = search rules in
     let back = err_from_is_err_and c.from_residual.result c.from_residual.ensures.1 in
     let is = order-stops c.args.h.now c.args.c.now c.args.views.now c.requires c.view_numbers-named.result c.view_numbers-named.ensures
-    c.processes_of-processes.result long c.processes_of-processes.ensures c.program_rows-program.result c.program_rows-program.ensures
+    c.processes_of-processes.result (search rules) c.processes_of-processes.ensures c.program_rows-program.result c.program_rows-program.ensures
     c.order_rows-rows.result c.order_rows-rows.ensures c.past_count.result c.past_count.ensures
     c.order_fault.result c.order_fault.ensures c.in_err-order_fault.field-0.0 c.in_err-order_fault.was in
     rw (back.1, back.2) (ap finding_of (sym c.in_err-order_fault.was) ∙ is)
 
 pub returns-in_err-view_fault : goal.returns-in_err-view_fault
 returns-in_err-view_fault c =
-    let long : length c.processes_of-processes.result ≡ 64 = search rules in
     let back = err_from_is_err_and c.from_residual-in_err-view_fault.result c.from_residual-in_err-view_fault.ensures.1 in
     let is = views-stop c.args.h.now c.args.c.now c.args.views.now c.requires c.view_numbers-named.result c.view_numbers-named.ensures
-    c.processes_of-processes.result long c.processes_of-processes.ensures c.program_rows-program.result c.program_rows-program.ensures
+    c.processes_of-processes.result (search rules) c.processes_of-processes.ensures c.program_rows-program.result c.program_rows-program.ensures
     c.order_rows-rows.result c.order_rows-rows.ensures c.past_count.result c.past_count.ensures
     c.order_fault.result c.order_fault.ensures _ c.in_ok-order_fault.was c.view_fault.result (rw c.all.ensures.first at c.view_fault.ensures) c.in_err-view_fault.field-0.0 c.in_err-view_fault.was in
     rw (back.1, back.2) (ap finding_of (sym c.in_err-view_fault.was) ∙ is)
@@ -95,9 +93,8 @@ replay_fault-requires c =
 
 pub returns : goal.returns
 returns c =
-    let long : length c.processes_of-processes.result ≡ 64 = search rules in
     replay-stops c.args.h.now c.args.c.now c.args.views.now c.requires c.view_numbers-named.result c.view_numbers-named.ensures
-    c.processes_of-processes.result long c.processes_of-processes.ensures c.program_rows-program.result c.program_rows-program.ensures
+    c.processes_of-processes.result (search rules) c.processes_of-processes.ensures c.program_rows-program.result c.program_rows-program.ensures
     c.order_rows-rows.result c.order_rows-rows.ensures c.past_count.result c.past_count.ensures
     c.order_fault.result c.order_fault.ensures _ c.in_ok-order_fault.was c.view_fault.result (rw c.all.ensures.first at c.view_fault.ensures) _ c.in_ok-view_fault.was
     c.replay_fault.result c.replay_fault.ensures
