@@ -1,8 +1,7 @@
 -- The criteria: their words and numbers, and which pasts and views a certificate of each has (document 01, "Certificate text").
-use Rattle.std.specs.Prelude.{ℕ, zero, suc, ◌+◌, Bool, true, false, cond, ◌||◌, List, [], ◌∷◌, length, eqb, Result, Ok, Err}
+use Rattle.std.specs.Prelude.{ℕ, zero, suc, ◌+◌, Bool, true, false, cond, ◌||◌, List, [], ◌∷◌, length, eqb}
 use Rattle.layout.specs.Word.{same, pram_word, weak_word, causal_word, converge_word, sequential_word, strict_word}
 use Rattle.history.specs.declared.record.Event.{Event}
-use Rattle.certificate.specs.declared.criterion.NoCriterion.{NoCriterion}
 use Rattle.certificate.specs.declared.record.Criterion.{Criterion}
 use Rattle.certificate.specs.declared.record.Criterion.TheVariants.{Pram, Weak, Causal, Converge, Sequential, Strict}
 
@@ -25,17 +24,6 @@ criterion_of f =
     cond (same f weak_word) Weak
     (cond (same f causal_word) Causal
     (cond (same f converge_word) Converge (cond (same f sequential_word) Sequential (cond (same f strict_word) Strict Pram))))
-
--- The criterion of a number (document 01: "criterion wanted: pram 0, weak 1, causal 2, converge 3, sequential 4"); strict 5 (document
--- 02, T-06).
-abbrev pub criterion_numbered : ℕ → Result Criterion NoCriterion
-criterion_numbered zero = Ok Pram
-criterion_numbered (suc zero) = Ok Weak
-criterion_numbered (suc (suc zero)) = Ok Causal
-criterion_numbered (suc (suc (suc zero))) = Ok Converge
-criterion_numbered (suc (suc (suc (suc zero)))) = Ok Sequential
-criterion_numbered (suc (suc (suc (suc (suc zero))))) = Ok Strict
-criterion_numbered (suc (suc (suc (suc (suc (suc n)))))) = Err (record {})
 
 -- A certificate of the criterion has the past of each event.
 abbrev pub has_pasts : Criterion → Bool

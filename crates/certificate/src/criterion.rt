@@ -1,8 +1,9 @@
 // The criteria: their words and numbers, and which certificates have pasts.
 ghost use Rattle.std.specs.Prelude.{◌≡◌, cond, [], get_or};
 ghost use Rattle.layout.specs.Split.{split};
-ghost use Rattle.certificate.specs.Criteria.{has_pasts, is_criterion, criterion_of, criterion_numbered};
+ghost use Rattle.certificate.specs.Criteria.{has_pasts, is_criterion, criterion_of};
 ghost use Rattle.certificate.specs.Faults.{criterion_line};
+ghost use Rattle.certificate.specs.Steps.Criteria.{criterion_numbered};
 
 use crate::record::Criterion;
 use layout::split::split_once;

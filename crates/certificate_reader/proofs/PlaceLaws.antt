@@ -8,10 +8,11 @@ use lib.ListN.{length, get_or}
 use lib.Dec.{eqb, leb}
 use Rattle.layout.specs.Split.{split, join}
 use Rattle.layout.specs.Word.{same, past_heading, view_heading}
-use Rattle.layout.proofs.SplitLaws.{join-split}
+use Rattle.layout.proofs.Cases.{in-either}
+use Rattle.layout.proofs.SplitLaws.{join-split, join_one, join_more}
 use Rattle.history.specs.declared.record.Event.{Event}
 use Rattle.history_reader.specs.Place.{CertificateText}
-use Rattle.history_reader.proofs.PlaceLaws.{PartOf, part-nowhere, part-faulty, join_more, join_one}
+use Rattle.history_reader.proofs.PlaceLaws.{PartOf, part-nowhere, part-faulty}
 use Rattle.certificate.specs.declared.record.Criterion.{Criterion}
 use Rattle.certificate.specs.Criteria.{has_pasts, count_from, view_numbers, criterion_of}
 use Rattle.certificate.specs.Faults.{criterion_line, list_fault, list_said}
@@ -24,15 +25,11 @@ module _ (n : ℕ) where
   placed-refusal : (fault line at size : ℕ) → line ≤ at + 1 → at + size ≤ n → Placed n (refusal fault line at size)
   placed-refusal fault line at size l h = part-faulty CertificateText n line at size l h
 
-  placed-cond : (t : Bool) (r q : Lines) → Placed n r → Placed n q → Placed n (cond t r q)
-  placed-cond true r q p s = p
-  placed-cond false r q p s = s
-
   placed-accepted : (c : Criterion) (pasts views : List (List ℕ)) → Placed n (accepted c pasts views)
   placed-accepted c pasts views = part-nowhere CertificateText n
 
   placed-last : (line at : ℕ) (p : List ℕ) → line ≤ at + 1 → at + length (join 10 (p ∷ [])) ≤ n → Placed n (refusal 2 line at (length p))
-  placed-last line at p k h = placed-refusal 2 line at (length p) k (omega (arith, ap length (join_one p)))
+  placed-last line at p k h = placed-refusal 2 line at (length p) k (omega (arith, join_one 10 p))
 
   -- the lines from the place `at` on stand within the text
   abbrev AllPlaced : (ℕ → ℕ → List (List ℕ) → Lines) → Type 0
@@ -42,17 +39,17 @@ module _ (n : ℕ) where
   unfolding end_from
   placed_end r p line at [] k h = placed-refusal 2 line at 0 k (omega arith)
   placed_end r p line at (l ∷ []) k h =
-      placed-cond (eqb (length l) 0) r (refusal 2 line at (length l)) p (placed-last line at l k h)
-  placed_end r p line at (l ∷ q ∷ ps) k h = placed-refusal 2 line at (length l) k (omega (arith, join_more l q ps))
+      in-either (Placed n) (eqb (length l) 0) r (refusal 2 line at (length l)) p (placed-last line at l k h)
+  placed_end r p line at (l ∷ q ∷ ps) k h = placed-refusal 2 line at (length l) k (omega (arith, join_more 10 l q ps))
 
   placed-heading : (heading : List ℕ) (next : ℕ → ℕ → List (List ℕ) → Lines) → AllPlaced next → AllPlaced (heading_from heading next)
   unfolding heading_from
   placed-heading heading next p line at [] k h = placed-refusal 2 line at 0 k (omega arith)
   placed-heading heading next p line at (l ∷ []) k h = placed-last line at l k h
   placed-heading heading next p line at (l ∷ q ∷ ps) k h =
-      placed-cond (same l heading) (next (line + 1) (at + length l + 1) (q ∷ ps)) (refusal 2 line at (length l))
-      (p (line + 1) (at + length l + 1) (q ∷ ps) (omega arith) (omega (arith, join_more l q ps)))
-      (placed-refusal 2 line at (length l) k (omega (arith, join_more l q ps)))
+      in-either (Placed n) (same l heading) (next (line + 1) (at + length l + 1) (q ∷ ps)) (refusal 2 line at (length l))
+      (p (line + 1) (at + length l + 1) (q ∷ ps) (omega arith) (omega (arith, join_more 10 l q ps)))
+      (placed-refusal 2 line at (length l) k (omega (arith, join_more 10 l q ps)))
 
   module _ (past : Bool) (count : ℕ) (next : List (List ℕ) → ℕ → ℕ → List (List ℕ) → Lines) (p : (ls : List (List ℕ)) → AllPlaced (next ls)) where
     placed-lists : (ns : List ℕ) (ls : List (List ℕ)) → AllPlaced (lists_from past count next ns ls)
@@ -61,11 +58,11 @@ module _ (n : ℕ) where
     placed-lists (own ∷ ns) ls line at [] k h = placed-refusal 2 line at 0 k (omega arith)
     placed-lists (own ∷ ns) ls line at (l ∷ []) k h = placed-last line at l k h
     placed-lists (own ∷ ns) ls line at (l ∷ q ∷ ps) k h =
-        placed-cond (eqb (list_fault past count own l) 0)
+        in-either (Placed n) (eqb (list_fault past count own l) 0)
         (lists_from past count next ns (ls ++ list_said l ∷ []) (line + 1) (at + length l + 1) (q ∷ ps))
         (refusal (list_fault past count own l) line at (length l))
-        (placed-lists ns (ls ++ list_said l ∷ []) (line + 1) (at + length l + 1) (q ∷ ps) (omega arith) (omega (arith, join_more l q ps)))
-        (placed-refusal (list_fault past count own l) line at (length l) k (omega (arith, join_more l q ps)))
+        (placed-lists ns (ls ++ list_said l ∷ []) (line + 1) (at + length l + 1) (q ∷ ps) (omega arith) (omega (arith, join_more 10 l q ps)))
+        (placed-refusal (list_fault past count own l) line at (length l) k (omega (arith, join_more 10 l q ps)))
 
   placed-views : (c : Criterion) (count : ℕ) (numbers : List ℕ) (pasts : List (List ℕ)) → AllPlaced (views_from c count numbers pasts)
   unfolding views_from
@@ -85,23 +82,23 @@ module _ (n : ℕ) where
   placed-body : (c : Criterion) (es : List Event) → AllPlaced (body_from c es)
   unfolding body_from
   placed-body c es line at ps k h =
-      placed-cond (has_pasts c) (pasts_from c (length es) (view_numbers c es) line at ps) (views_from c (length es) (view_numbers c es) [] line at ps)
+      in-either (Placed n) (has_pasts c) (pasts_from c (length es) (view_numbers c es) line at ps) (views_from c (length es) (view_numbers c es) [] line at ps)
       (placed-pasts c (length es) (view_numbers c es) line at ps k h)
       (placed-views c (length es) (view_numbers c es) [] line at ps k h)
 
   placed-lines : (es : List Event) (ps : List (List ℕ)) → length (join 10 ps) ≤ n → Placed n (lines_from es ps)
   unfolding lines_from
   placed-lines es [] h = placed-refusal 2 1 0 0 (omega arith) (omega arith)
-  placed-lines es (l ∷ []) h = placed-refusal 2 1 0 (length l) (omega arith) (omega (arith, ap length (join_one l)))
+  placed-lines es (l ∷ []) h = placed-refusal 2 1 0 (length l) (omega arith) (omega (arith, join_one 10 l))
   placed-lines es (l ∷ q ∷ ps) h =
-      placed-cond (criterion_line l) (body_from (criterion_of (get_or (split 32 l) 1 [])) es 2 (length l + 1) (q ∷ ps)) (refusal 2 1 0 (length l))
-      (placed-body (criterion_of (get_or (split 32 l) 1 [])) es 2 (length l + 1) (q ∷ ps) (omega arith) (omega (arith, join_more l q ps)))
-      (placed-refusal 2 1 0 (length l) (omega arith) (omega (arith, join_more l q ps)))
+      in-either (Placed n) (criterion_line l) (body_from (criterion_of (get_or (split 32 l) 1 [])) es 2 (length l + 1) (q ∷ ps)) (refusal 2 1 0 (length l))
+      (placed-body (criterion_of (get_or (split 32 l) 1 [])) es 2 (length l + 1) (q ∷ ps) (omega arith) (omega (arith, join_more 10 l q ps)))
+      (placed-refusal 2 1 0 (length l) (omega arith) (omega (arith, join_more 10 l q ps)))
 
 -- the faulty line of a text is a part of it
 pub placed-text : (es : List Event) (text : List ℕ) → Placed (length text) (read_lines es text)
 unfolding read_lines
 placed-text es text =
-    placed-cond (length text) (leb (length text) 32768) (lines_from es (split 10 text)) (refusal 1 0 0 0)
+    in-either (Placed (length text)) (leb (length text) 32768) (lines_from es (split 10 text)) (refusal 1 0 0 0)
     (placed-lines (length text) es (split 10 text) (omega (arith, ap length (join-split 10 text))))
     (placed-refusal (length text) 1 0 0 0 (omega arith) (omega arith))

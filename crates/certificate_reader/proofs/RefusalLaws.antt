@@ -9,13 +9,13 @@ use borrow.Author.Tests.{eq-eqb, ne_eqb}
 use Rattle.layout.specs.Split.{split}
 use Rattle.layout.specs.Word.{same, past_heading, view_heading}
 use Rattle.layout.specs.List.{numbers_of}
-use Rattle.layout.proofs.Cases.{by-eq}
+use Rattle.layout.proofs.Cases.{by-eq, in-either}
 use Rattle.history.specs.declared.record.Event.{Event}
 use Rattle.history.specs.Record.{events_in}
 use Rattle.history.proofs.FaultLaws.{IsFault, fault_no}
 use Rattle.history_reader.specs.Place.{Text, HistoryText, CertificateText}
 use Rattle.history_reader.specs.ReadHistory.{read_history}
-use Rattle.history_reader.proofs.RefusalLaws.{Refuses, refuses-nowhere, refuses-faulty, refuses-history}
+use Rattle.history_reader.proofs.RefusalLaws.{Refuses, refuses-nowhere, refuses-faulty, refuses-layout, refuses-history}
 use Rattle.certificate.specs.declared.record.Criterion.{Criterion}
 use Rattle.certificate.specs.Criteria.{has_pasts, count_from, view_numbers, criterion_of}
 use Rattle.certificate.specs.Faults.{criterion_line, rising, list_layout, list_limits, pair_fault, list_fault, list_said}
@@ -48,47 +48,36 @@ module _ (P : Text → Type 0) (h : P CertificateText) where
   abbrev Refused : Lines → Type 0
   Refused r = Refuses P r.fault r.place
 
-  faulty : (n line at size : ℕ) → IsFault n → Refused (refusal n line at size)
-  faulty n line at size f = refuses-faulty P CertificateText h n line at size f
-
-  -- the layout is wrong
-  layout : (line at size : ℕ) → Refused (refusal 2 line at size)
-  layout line at size = faulty 2 line at size (λ n. refl)
-
-  either : (t : Bool) (r q : Lines) → Refused r → Refused q → Refused (cond t r q)
-  either true r q a b = a
-  either false r q a b = b
-
   abbrev AllRefused : (ℕ → ℕ → List (List ℕ) → Lines) → Type 0
   AllRefused next = (line at : ℕ) (ps : List (List ℕ)) → Refused (next line at ps)
 
   end : (r : Lines) → Refused r → AllRefused (end_from r)
   unfolding end_from
-  end r p line at [] = layout line at 0
-  end r p line at (l ∷ []) = either (eqb (length l) 0) r (refusal 2 line at (length l)) p (layout line at (length l))
-  end r p line at (l ∷ q ∷ ps) = layout line at (length l)
+  end r p line at [] = refuses-layout h line at 0
+  end r p line at (l ∷ []) = in-either Refused (eqb (length l) 0) r (refusal 2 line at (length l)) p (refuses-layout h line at (length l))
+  end r p line at (l ∷ q ∷ ps) = refuses-layout h line at (length l)
 
   headed : (heading : List ℕ) (next : ℕ → ℕ → List (List ℕ) → Lines) → AllRefused next → AllRefused (heading_from heading next)
   unfolding heading_from
-  headed heading next p line at [] = layout line at 0
-  headed heading next p line at (l ∷ []) = layout line at (length l)
+  headed heading next p line at [] = refuses-layout h line at 0
+  headed heading next p line at (l ∷ []) = refuses-layout h line at (length l)
   headed heading next p line at (l ∷ q ∷ ps) =
-      either (same l heading) (next (line + 1) (at + length l + 1) (q ∷ ps)) (refusal 2 line at (length l))
+      in-either Refused (same l heading) (next (line + 1) (at + length l + 1) (q ∷ ps)) (refusal 2 line at (length l))
       (p (line + 1) (at + length l + 1) (q ∷ ps))
-      (layout line at (length l))
+      (refuses-layout h line at (length l))
 
   module _ (past : Bool) (count : ℕ) (next : List (List ℕ) → ℕ → ℕ → List (List ℕ) → Lines) (p : (ls : List (List ℕ)) → AllRefused (next ls)) where
     lists : (ns : List ℕ) (ls : List (List ℕ)) → AllRefused (lists_from past count next ns ls)
     unfolding lists_from
     lists [] ls line at ps = p ls line at ps
-    lists (own ∷ ns) ls line at [] = layout line at 0
-    lists (own ∷ ns) ls line at (l ∷ []) = layout line at (length l)
+    lists (own ∷ ns) ls line at [] = refuses-layout h line at 0
+    lists (own ∷ ns) ls line at (l ∷ []) = refuses-layout h line at (length l)
     lists (own ∷ ns) ls line at (l ∷ q ∷ ps) =
-        either (eqb (list_fault past count own l) 0)
+        in-either Refused (eqb (list_fault past count own l) 0)
         (lists_from past count next ns (ls ++ list_said l ∷ []) (line + 1) (at + length l + 1) (q ∷ ps))
         (refusal (list_fault past count own l) line at (length l))
         (lists ns (ls ++ list_said l ∷ []) (line + 1) (at + length l + 1) (q ∷ ps))
-        (faulty (list_fault past count own l) line at (length l) (fault-list past count own l))
+        (refuses-faulty h (list_fault past count own l) line at (length l) (fault-list past count own l))
 
   views : (c : Criterion) (count : ℕ) (numbers : List ℕ) (pasts : List (List ℕ)) → AllRefused (views_from c count numbers pasts)
   unfolding views_from
@@ -105,24 +94,24 @@ module _ (P : Text → Type 0) (h : P CertificateText) where
   body : (c : Criterion) (es : List Event) → AllRefused (body_from c es)
   unfolding body_from
   body c es line at ps =
-      either (has_pasts c) (pasts_from c (length es) (view_numbers c es) line at ps) (views_from c (length es) (view_numbers c es) [] line at ps)
+      in-either Refused (has_pasts c) (pasts_from c (length es) (view_numbers c es) line at ps) (views_from c (length es) (view_numbers c es) [] line at ps)
       (pasts c (length es) (view_numbers c es) line at ps)
       (views c (length es) (view_numbers c es) [] line at ps)
 
   lines : (es : List Event) (ps : List (List ℕ)) → Refused (lines_from es ps)
   unfolding lines_from
-  lines es [] = layout 1 0 0
-  lines es (l ∷ []) = layout 1 0 (length l)
+  lines es [] = refuses-layout h 1 0 0
+  lines es (l ∷ []) = refuses-layout h 1 0 (length l)
   lines es (l ∷ q ∷ ps) =
-      either (criterion_line l) (body_from (criterion_of (get_or (split 32 l) 1 [])) es 2 (length l + 1) (q ∷ ps)) (refusal 2 1 0 (length l))
+      in-either Refused (criterion_line l) (body_from (criterion_of (get_or (split 32 l) 1 [])) es 2 (length l + 1) (q ∷ ps)) (refusal 2 1 0 (length l))
       (body (criterion_of (get_or (split 32 l) 1 [])) es 2 (length l + 1) (q ∷ ps))
-      (layout 1 0 (length l))
+      (refuses-layout h 1 0 (length l))
 
   refuses-text : (es : List Event) (text : List ℕ) → Refused (read_lines es text)
   unfolding read_lines
   refuses-text es text =
-      either (leb (length text) 32768) (lines_from es (split 10 text)) (refusal 1 0 0 0) (lines es (split 10 text))
-      (faulty 1 0 0 0 (λ n. refl))
+      in-either Refused (leb (length text) 32768) (lines_from es (split 10 text)) (refusal 1 0 0 0) (lines es (split 10 text))
+      (refuses-faulty h 1 0 0 0 (λ n. refl))
 
 -- ---- of the two texts
 pub refuses-two : (P : Text → Type 0) → P HistoryText → P CertificateText → (history text : List ℕ)

@@ -127,7 +127,7 @@ impl<'a> LinesLeft<'a> {
             count: events.len(),
         };
         self.heading(b"event past")?;
-        self.lists(&numbers.numbers[..numbers.count], part)
+        self.lists(numbers.all(), part)
     }
 
     // Reads the heading of the views and their lines, which are the last.
@@ -141,7 +141,7 @@ impl<'a> LinesLeft<'a> {
             count: events.len(),
         };
         self.heading(b"view order")?;
-        let views = self.lists(&numbers.numbers[..numbers.count], part)?;
+        let views = self.lists(numbers.all(), part)?;
         self.end()?;
         Ok(views)
     }
@@ -158,7 +158,8 @@ impl<'a> LinesLeft<'a> {
 }
 
 // Hands the rows of the views over, and gives back their lengths.
-// Kept: two `map`s of the array were tried: they prove, and took 17,952 bytes more of the stack of `read_certificate`.
+// Kept: two `map`s of the array were tried: they prove, and take 17,952 bytes more of the stack, of which include/walnutgleam.h promises a
+// bound.
 fn put_rows(views: &[EventList; 64], rows: &mut [[u8; 64]; 64]) -> [u8; 64]
     requires { (k : ℕ) → (get_or views.now k no_list).count ≤ 64 }
     ensures { (result ≡ map (λ (l : EventList). l.count) views.now) × (rows.new ≡ map (λ (l : EventList). l.events) views.now) }
@@ -223,7 +224,7 @@ pub fn read_certificate(
 ) -> Result<Texts, Unread>
     ensures { (texts_read result ≡ read_certificate history.now text.now) × (rows.new ≡ rows_read history.now text.now rows.old) }
 {
-    let history = read_history(history).map_err(|refusal| Unread::NoHistory(refusal))?;
+    let history = read_history(history).map_err(Unread::NoHistory)?;
     let certificate = read_text(text, &history.events[..history.count], rows).map_err(
         |refusal| Unread::NoCertificate(history, refusal),
     )?;

@@ -18,7 +18,7 @@ use Rattle.certificate.specs.declared.record.EventList.{EventList}
 use Rattle.certificate.specs.Record.{no_list, entries_in, beginnings}
 use Rattle.certificate.specs.Criteria.{has_pasts, count_from}
 use Rattle.certificate.specs.CertificateText.{list_line, list_lines, criterion_text, past_part, view_part, text_of}
-use Rattle.certificate.proofs.NumberingLaws.{count_long}
+use Rattle.certificate.proofs.NumberingLaws.{count_long, count_at}
 use Rattle.certificate_writer.specs.Steps.Lines.{first_bytes, line_bytes, past_piece, view_piece, past_bytes, view_bytes}
 
 -- ---- a line: the number and its space, and the list and its line feed
@@ -41,13 +41,7 @@ pieces_are piece (n ∷ ns) (l ∷ ls) k e h =
     (λ j p. let s : k + suc j ≡ k + 1 + j = omega arith in rw s at (h (suc j) (omega arith))) in
     ap₂ (λ (x y : List ℕ). x ++ y) first rest ∙ append_assoc (list_line n l) (10 ∷ []) (lines_text (list_lines ns ls))
 
--- the numbers of the pasts
-count_at : (k n j d : ℕ) → j < n → get_or (count_from k n) j d ≡ k + j
-unfolding count_from
-count_at k zero j d h = absurd (not-suc-le-zero h)
-count_at k (suc n) zero d h = omega arith
-count_at k (suc n) (suc j) d h = let e = count_at (k + 1) n j d (omega arith) in omega (arith, e)
-
+-- a past of its place
 past_at : (pasts : List EventList) (j : ℕ) → j < length pasts
     → past_piece pasts (0 + j) ≡ line_bytes (get_or (count_from 0 (length pasts)) j 0) (get_or (map entries_in pasts) j [])
 past_at pasts j h =

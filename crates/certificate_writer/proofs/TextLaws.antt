@@ -14,7 +14,7 @@ use Rattle.layout.proofs.FillLaws.{after-fits, after-short}
 use Rattle.history.specs.declared.record.History.{History}
 use Rattle.history.specs.Record.{events_in}
 use Rattle.history.specs.Readable.{within}
-use Rattle.history.proofs.PadLaws.{take-pad}
+use Rattle.history.proofs.PadLaws.{pad-length}
 use Rattle.history.proofs.WithinLaws.{within-limits}
 use Rattle.history_writer.specs.declared.write.WriteFault.TheVariants.{OutsideLimits, TooShort}
 use Rattle.history_writer.specs.WriteHistory.{written_of}
@@ -25,6 +25,7 @@ use Rattle.certificate.specs.Criteria.{has_pasts, view_numbers}
 use Rattle.certificate.specs.CertificateText.{certificate_text}
 use Rattle.certificate.specs.Readable.{fits}
 use Rattle.certificate.specs.Steps.Numbers.{view_numbers_of}
+use Rattle.certificate.proofs.NumberingLaws.{numbers-in, numbers-few}
 use Rattle.certificate_writer.specs.WriteCertificate.{writable, certificate_written, certificate_after}
 use Rattle.certificate_writer.specs.Steps.Lines.{first_bytes, past_bytes, view_bytes}
 use Rattle.certificate_writer.proofs.LimitLaws.{Parts, parts_facts, fits_is}
@@ -35,13 +36,25 @@ pub count_few : (h : History) (c : Certificate) (rows : List (List ℕ)) → wri
 count_few h c rows w = (within-limits h (and_left (within h) (fits (events_in h) c rows) w)).count
 
 module _ (h : History) (c : Certificate) (rows : List (List ℕ)) (w : writable h c rows ≡ true)
-    (v : ViewNumbers) (are : v ≡ view_numbers_of (view_numbers c.criterion (events_in h))) (few : v.count ≤ 64) (long : length v.numbers ≡ 64)
+    (v : ViewNumbers) (are : v ≡ view_numbers_of (view_numbers c.criterion (events_in h)))
     (k : ℕ) (many : k ≡ cond (has_pasts c.criterion) h.count 0) where
   all : length (events_in h) ≡ h.count
   all = (within-limits h (and_left (within h) (fits (events_in h) c rows) w)).all
 
   few_events : h.count ≤ 64
   few_events = count_few h c rows w
+
+  -- the numbers of the views, at most 64, in their array
+  numbers_are : take v.count v.numbers ≡ view_numbers c.criterion (events_in h)
+  numbers_are = numbers-in v (view_numbers c.criterion (events_in h)) are
+
+  few : v.count ≤ 64
+  unfolding view_numbers_of
+  few = omega (arith, ap (λ (x : ViewNumbers). x.count) are, numbers-few c.criterion (events_in h) (omega (arith, all, few_events)))
+
+  long : length v.numbers ≡ 64
+  unfolding view_numbers_of
+  long = ap (λ (x : ViewNumbers). length x.numbers) are ∙ pad-length 64 0 (view_numbers c.criterion (events_in h)) (omega (arith, numbers-few c.criterion (events_in h) (omega (arith, all, few_events))))
 
   parts : Parts h.count k v.count c rows
   parts =
@@ -57,14 +70,10 @@ module _ (h : History) (c : Certificate) (rows : List (List ℕ)) (w : writable 
 
   pub views_all : (length (take v.count c.lengths) ≡ length (take v.count v.numbers)) × (length (take v.count rows) ≡ length (take v.count v.numbers))
   views_all =
-      let n = length-take-le v.count v.numbers (omega arith) in
-      let l = length-take-le v.count c.lengths (omega (arith, parts.lengths_long)) in
-      let r = length-take-le v.count rows (omega (arith, parts.rows_long)) in
+      let n = length-take-le v.count v.numbers (omega (arith, few, long)) in
+      let l = length-take-le v.count c.lengths (omega (arith, few, parts.lengths_long)) in
+      let r = length-take-le v.count rows (omega (arith, few, parts.rows_long)) in
       (l ∙ sym n, r ∙ sym n)
-
-  numbers_are : take v.count v.numbers ≡ view_numbers c.criterion (events_in h)
-  unfolding view_numbers_of
-  numbers_are = rw are (take-pad 64 0 (view_numbers c.criterion (events_in h)))
 
   abbrev pub bytes : List ℕ
   bytes =

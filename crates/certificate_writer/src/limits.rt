@@ -1,5 +1,5 @@
 // The limits of a certificate record and its rows, of a history.
-ghost use Rattle.std.specs.Prelude.{◌≡◌, ◌≤◌, ◌&&◌, length, take, drop, eqb};
+ghost use Rattle.std.specs.Prelude.{◌≡◌, ◌≤◌, ◌&&◌, length, eqb};
 ghost use Rattle.history.specs.Record.{events_in};
 ghost use Rattle.history.specs.Readable.{all_less, all_zero};
 ghost use Rattle.certificate.specs.Record.{entries_in};
@@ -21,7 +21,7 @@ fn all_less(row: &[u8], count: usize) -> bool
 }
 
 // Whether each place of a row holds 0.
-// Kept: one call of the library's `all`; a generic one, for values too, would put `map T.number` into each caller's clauses.
+// Kept: one call of the library's `all`; one for u8 and u16 would take layout's `Item`, and each caller's answer a `map-id`.
 fn all_zero(row: &[u8]) -> bool
     ensures { result ≡ all_zero row.now }
 {
@@ -29,7 +29,7 @@ fn all_zero(row: &[u8]) -> bool
 }
 
 // Whether the events of a row are strictly rising.
-// Kept: one call of the library's method; a generic one, for items of u32 too, would put `map T.number` into each caller's clauses.
+// Kept: one call of the library's method; one for u8 and u32 would take layout's `Item`, and each caller's answer a `map-id`.
 fn is_rising(row: &[u8]) -> bool
     ensures { result ≡ rising row.now }
 {

@@ -1,9 +1,9 @@
 // The lines of a certificate that have a number and a list, as pieces of its text.
-ghost use Rattle.std.specs.Prelude.{◌≡◌, ℕ, ◌≤◌, ◌<◌, [], ◌∷◌, ◌++◌, length, get_or};
+ghost use Rattle.std.specs.Prelude.{◌≡◌, ℕ, ◌≤◌, ◌<◌, [], ◌∷◌, ◌++◌, length, get_or, take};
 ghost use Rattle.layout.specs.Fill.{fill};
 ghost use Rattle.layout.specs.Number.{spell};
 ghost use Rattle.layout.specs.List.{list_text};
-ghost use Rattle.certificate.specs.Record.{no_list};
+ghost use Rattle.certificate.specs.Record.{no_list, entries_in};
 ghost use Rattle.certificate_writer.specs.Steps.Lines.{line_bytes, past_piece, view_piece};
 
 use certificate::record::{Criterion, EventList};
@@ -49,11 +49,23 @@ fn put_list_line(part: &mut [u8], own: u32, events: &[u8]) -> usize
 }
 
 // The lines of pasts, numbered from 0.
+// Kept: no plainer as one type with `ViewLines`: how a line's number and events are found is all that either impl has.
 #[derive(Clone, Copy)]
 pub(crate) struct PastLines<'a> {
     pub(crate) pasts: &'a [EventList],
     ghost few: { length pasts.now ≤ 64 },
     ghost short: { (i : ℕ) → i < length pasts.now → (get_or pasts.now i no_list).count ≤ 64 },
+}
+
+impl<'a> PastLines<'a> {
+    // The events of the past i.
+    fn events(&self, i: usize) -> &'a [u8]
+        requires { i < length self.now.pasts.now }
+        ensures { (result.now ≡ entries_in (get_or self.now.pasts.now i no_list)) × (length result.now ≤ 64) }
+    {
+        let past = &self.pasts[i];
+        &past.events[..past.count]
+    }
 }
 
 impl Pieces for PastLines<'_> {
@@ -66,8 +78,7 @@ impl Pieces for PastLines<'_> {
     }
 
     fn put_piece(&self, part: &mut [u8], i: usize) -> usize {
-        let past = &self.pasts[i];
-        put_list_line(part, i as u32, &past.events[..past.count])
+        put_list_line(part, i as u32, self.events(i))
     }
 }
 
@@ -75,12 +86,12 @@ impl CountedPieces for PastLines<'_> {
     ghost most = { 720 };
 
     fn piece_len(&self, i: usize) -> usize {
-        let past = &self.pasts[i];
-        list_line_len(i as u32, &past.events[..past.count])
+        list_line_len(i as u32, self.events(i))
     }
 }
 
 // The lines of views, each with its number.
+// Kept: not `Views` of orders, which is above this crate and whose `events` says more (each entry below 64).
 #[derive(Clone, Copy)]
 pub(crate) struct ViewLines<'a> {
     pub(crate) numbers: &'a [u8],
@@ -89,6 +100,17 @@ pub(crate) struct ViewLines<'a> {
     ghost few: { length numbers.now ≤ 64 },
     ghost all: { (length lengths.now ≡ length numbers.now) × (length rows.now ≡ length numbers.now) },
     ghost short: { (i : ℕ) → i < length lengths.now → get_or lengths.now i 0 ≤ 64 },
+}
+
+impl<'a> ViewLines<'a> {
+    // The events of the view i.
+    fn events(&self, i: usize) -> &'a [u8]
+        requires { i < length self.now.numbers.now }
+        ensures { (result.now ≡ take (get_or self.now.lengths.now i 0) (get_or self.now.rows.now i [])) × (length result.now ≤ 64) }
+    {
+        let row = &self.rows[i];
+        &row[..usize::from(self.lengths[i])]
+    }
 }
 
 impl Pieces for ViewLines<'_> {
@@ -101,9 +123,7 @@ impl Pieces for ViewLines<'_> {
     }
 
     fn put_piece(&self, part: &mut [u8], i: usize) -> usize {
-        let row = &self.rows[i];
-        let n = usize::from(self.lengths[i]);
-        put_list_line(part, u32::from(self.numbers[i]), &row[..n])
+        put_list_line(part, u32::from(self.numbers[i]), self.events(i))
     }
 }
 
@@ -111,9 +131,7 @@ impl CountedPieces for ViewLines<'_> {
     ghost most = { 720 };
 
     fn piece_len(&self, i: usize) -> usize {
-        let row = &self.rows[i];
-        let n = usize::from(self.lengths[i]);
-        list_line_len(u32::from(self.numbers[i]), &row[..n])
+        list_line_len(u32::from(self.numbers[i]), self.events(i))
     }
 }
 

@@ -19,11 +19,17 @@ use history_writer::write::WriteFault;
 use layout::fill::put_bytes;
 use layout::pieces::{pieces_len, put_headed};
 
+const CRITERION: &[u8] = b"criterion ";
+
+const PAST_HEADING: &[u8] = b"event past\n";
+
+const VIEW_HEADING: &[u8] = b"view order\n";
+
 // How many bytes the first line has, its line feed too.
 fn criterion_len(c: Criterion) -> usize
     ensures { (result ≡ length (first_bytes c)) × (result ≤ 21) }
 {
-    b"criterion ".len() + criterion_word(c).len() + 1
+    CRITERION.len() + criterion_word(c).len() + 1
 }
 
 // Writes the word of a criterion and the line feed behind it into a part that has room.
@@ -41,7 +47,7 @@ fn put_criterion(part: &mut [u8], c: Criterion) -> usize
     requires { length (first_bytes c) ≤ length part.old }
     ensures { (result ≡ length (first_bytes c)) × (part.new ≡ fill (first_bytes c) part.old) }
 {
-    let k = put_bytes(part, b"criterion ");
+    let k = put_bytes(part, CRITERION);
     k + put_word(&mut part[k..], c)
 }
 
@@ -50,7 +56,7 @@ fn pasts_len(c: Criterion, pasts: &PastLines) -> usize
     ensures { (result ≡ length (past_bytes c pasts.now.pasts.now)) × (result ≤ 46091) }
 {
     if has_pasts(c) {
-        return b"event past\n".len() + pieces_len(pasts);
+        return PAST_HEADING.len() + pieces_len(pasts);
     }
     0
 }
@@ -62,7 +68,7 @@ fn put_pasts(part: &mut [u8], c: Criterion, pasts: &PastLines) -> usize
     ensures { (result ≡ length (past_bytes c pasts.now.pasts.now)) × (part.new ≡ fill (past_bytes c pasts.now.pasts.now) part.old) }
 {
     if has_pasts(c) {
-        return put_headed(part, b"event past\n", pasts);
+        return put_headed(part, PAST_HEADING, pasts);
     }
     0
 }
@@ -73,7 +79,7 @@ fn put_parts(part: &mut [u8], lines: &Lines) -> usize
     ensures { (result ≡ length (parts_bytes lines.now)) × (part.new ≡ fill (parts_bytes lines.now) part.old) }
 {
     let k = put_pasts(part, lines.criterion, &lines.pasts);
-    k + put_headed(&mut part[k..], b"view order\n", &lines.views)
+    k + put_headed(&mut part[k..], VIEW_HEADING, &lines.views)
 }
 
 // How many bytes the whole text has.
@@ -82,7 +88,7 @@ fn certificate_len(lines: &Lines) -> usize
 {
     criterion_len(lines.criterion)
         + pasts_len(lines.criterion, &lines.pasts)
-        + b"view order\n".len()
+        + VIEW_HEADING.len()
         + pieces_len(&lines.views)
 }
 
@@ -99,7 +105,7 @@ fn put_certificate(part: &mut [u8], lines: &Lines) -> usize
 fn is_writable(h: &History, c: &Certificate, rows: &[[u8; 64]; 64]) -> bool
     ensures { result ≡ writable h.now c.now rows.now }
 {
-    is_within(*h) && fits_history(h, c, rows)
+    is_within(h) && fits_history(h, c, rows)
 }
 
 // Writes the text of a certificate of a history into the first bytes of a buffer, and gives its length. A record that is not within its

@@ -15,12 +15,7 @@ fn say_verdict<W: Write>(out: &mut W, history: &[u8], certificate: &[u8]) -> io:
     out.write_all(&lines.bytes[..lines.length])
 }
 
-fn case<'a, W: Write>(
-    out: &mut W,
-    name: &str,
-    history: &'a [u8],
-    certificate: &'a [u8],
-) -> io::Result<()> {
+fn case<W: Write>(out: &mut W, name: &str, history: &[u8], certificate: &[u8]) -> io::Result<()> {
     writeln!(out, "{name}")?;
     say_verdict(out, history, certificate)?;
     write!(out, "[")?;

@@ -1,7 +1,7 @@
 -- A certificate text made of an accepted one: it is a text of bytes, is accepted and names its criterion; and what is answered and what
 -- becomes of the buffer, where it is written, where there is no room for it, and where two updates cross. Assumes nothing.
 use Prim.Native.Nat.{ℕ, ◌≤◌, ◌<◌}
-use mathlib.Core.Path.{◌≡◌, refl, ap, ap₂, ◌∙◌, subst}
+use mathlib.Core.Path.{◌≡◌, refl, sym, ap, ap₂, ◌∙◌, subst}
 use mathlib.Core.Bool.{Bool, true, false, false≢true}
 use mathlib.Core.List.{List}
 use mathlib.Core.Option.{Option, none, some}
@@ -41,6 +41,15 @@ has_text (some t) = true
 pub made_of : (es : List Event) (o : Option Certificate) (t : List ℕ) → text_if_some es o ≡ some t → TextOf o t es
 made_of es (some d) t e = record { lists = d; found = refl; says = unwrap e }
 made_of es none t e = absurd (false≢true (ap has_text e))
+
+-- there is a text exactly where there are lists
+pub some-text : (es : List Event) (o : Option Certificate) → OnLists.is_some o ≡ true → (t : List ℕ) × (text_if_some es o ≡ some t)
+some-text es none e = absurd (false≢true e)
+some-text es (some d) e = (text_of_lists es d, refl)
+
+pub no_text : (es : List Event) (o : Option Certificate) → OnLists.is_some o ≡ false → text_if_some es o ≡ none
+no_text es none e = refl
+no_text es (some d) e = absurd (false≢true (sym e))
 
 pub lists-bytes : (es : List Event) (d : Certificate) → Bytes (text_of_lists es d)
 lists-bytes es d = text-bytes d.criterion (text.view_numbers d.criterion es) d.pasts d.views

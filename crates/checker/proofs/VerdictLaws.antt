@@ -1,5 +1,4 @@
 -- What the check answers of two texts is the verdict of the definitions. Assumes nothing.
-use Rattle.std.specs.Prelude as code
 use Rattle.std.specs.Prelude.{Result, Ok, Err}
 use Rattle.std.specs.Result.{result_err}
 use Prim.Native.Nat.{ℕ, ◌≤◌}
@@ -12,19 +11,17 @@ use lib.ListN.{length, take, replicate}
 use lib.Seq.{take-nil, drop-nil}
 use Rattle.layout.proofs.Cases.{by-eq}
 use Rattle.history.specs.declared.record.History.{History}
-use Rattle.history.specs.declared.fault.Fault as Faulty
-use Rattle.history.specs.declared.fault.Fault.TheVariants.{TooLong, Layout, Limits, Misfit, BadAnswer, NotRising}
 use Rattle.history.specs.Record.{events_in}
 use Rattle.history.specs.Readable.{within}
 use Rattle.history.specs.Faults.{fault_number}
 use Rattle.history.proofs.WithinLaws.{within-limits}
 use Rattle.history_reader.specs.declared.place.Text as code-text
 use Rattle.history_reader.specs.declared.place.Place as code-place
-use Rattle.history_reader.specs.Place.{Place, nowhere, text_in, line_place, place_in, bytes_at, text_named, part_at}
+use Rattle.history_reader.specs.Place.{Place, nowhere, text_in, line_place, bytes_at, text_named, part_at}
 use Rattle.history_reader.specs.ReadHistory.{read_history}
 use Rattle.history_reader.proofs.EventPlaceLaws.{few-declared, few-counted, event-within}
+use Rattle.history_reader.proofs.ReadLaws.{fault-some}
 use Rattle.history_theorems.proofs.Theorems.{no-fault-readable, read-within}
-use Rattle.certificate.specs.declared.record.Criterion.{Criterion}
 use Rattle.certificate.specs.declared.record.Certificate.{Certificate}
 use Rattle.certificate.specs.Record.{no_row}
 use Rattle.certificate.specs.Readable.{fits}
@@ -40,31 +37,16 @@ use Rattle.criteria.specs.Records.{history_of, certificate_of}
 use Rattle.criteria.proofs.RecordLaws.{size_is}
 use Rattle.faults.specs.declared.finding.Finding.{Finding}
 use Rattle.faults.specs.Finding.{finding_of, found_of}
-use Rattle.checker.specs.CheckText.{Verdict, refused, checked, place_of, found_in, history_read, rows_of, certificate_read, check_text, carried_line}
-use Rattle.checker.specs.Verdict.{checked_as, verdict_of}
+use Rattle.checker.specs.CheckText.{Verdict, refused, place_of, found_in, history_read, rows_of, certificate_read, check_text, carried_line}
+use Rattle.checker.specs.Verdict.{verdict_of}
 use Rattle.checker.proofs.TextTheorems.{checked-as, refused_as, lists-readable}
 use Rattle.checker.proofs.EventLaws.{Below, event-below}
 
 -- ---- the answers of the code
--- what was found of texts that were read, with the line of its event
-pub found-is : (history : List ℕ) (declared : ℕ) (c : Criterion) (p : code.Option code-place.Place) (f : code.Option Finding)
-    → place_in p ≡ place_of history declared (answer_of (found_of f)).event
-    → checked_as record { criterion = c; finding = f; place = p } ≡ found_in history declared c (found_of f)
-found-is history declared c p f q = ap (λ (x : Place). checked x c (answer_of (found_of f))) q
-
 -- what the check of two records finds, if anything
 pub found-err : (r : Result (Unit {0}) Finding) → found_of (result_err r) ≡ finding_of r
 found-err (Ok u) = refl
 found-err (Err f) = refl
-
--- no fault has the number 0
-pub fault-some : (f : Faulty.Fault) → fault_number f ≡ 0 → ⊥
-fault-some TooLong z = omega (arith, z)
-fault-some Layout z = omega (arith, z)
-fault-some Limits z = omega (arith, z)
-fault-some Misfit z = omega (arith, z)
-fault-some BadAnswer z = omega (arith, z)
-fault-some NotRising z = omega (arith, z)
 
 -- a reading refusal
 unread-refused : (u : Unread) → refused (texts_read (Err u)) ≡ verdict_of (Err (refusal_in u))

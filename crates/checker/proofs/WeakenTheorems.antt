@@ -1,17 +1,16 @@
 -- The weakened text of an accepted certificate text is accepted and names the criterion wanted; to itself it is the text unchanged.
 -- Assumes nothing.
 use Prim.Native.Nat.{ℕ}
-use mathlib.Core.Path.{◌≡◌, refl, sym, ap, ◌∙◌, subst}
-use mathlib.Core.Bool.{true, false, false≢true}
+use mathlib.Core.Path.{◌≡◌, sym, ap, ◌∙◌, subst}
+use mathlib.Core.Bool.{true, false}
 use mathlib.Core.List.{List}
-use mathlib.Core.Option.{Option, none, some}
+use mathlib.Core.Option.{none, some}
 use lib.ListN.{replicate}
 use Rattle.history_reader.specs.ReadHistory.{read_history}
 use Rattle.certificate.specs.declared.record.Criterion.{Criterion}
 use Rattle.certificate.specs.Record.{no_row}
 use Rattle.certificate.specs.CertificateText.{certificate_text}
 use Rattle.certificate_theorems.proofs.Theorems.{events_of, no-fault-history, read-written}
-use Rattle.criteria.specs.Certificate.{Certificate}
 use Rattle.criteria.specs.Weaken.{is_pair, weakened}
 use Rattle.criteria.specs.Records.{certificate_of}
 use Rattle.criteria.proofs.Weaken as OnLists
@@ -20,7 +19,7 @@ use Rattle.checker.specs.MadeText.{text_of_lists, text_if_some}
 use Rattle.checker.specs.WeakenText.{weakened_text}
 use Rattle.checker.proofs.TextTheorems.{accepted-read, accepted-passes, few-processes-of, lists-readable}
 use Rattle.checker.specs.Demand3.{Bytes}
-use Rattle.checker.proofs.MadeLaws.{made_of, lists-bytes, made-accepted, made-names}
+use Rattle.checker.proofs.MadeLaws.{made_of, some-text, no_text, lists-bytes, made-accepted, made-names}
 
 -- a weakened text is a text of bytes
 pub weakened-bytes : (history given : List ℕ) (w : Criterion) (t : List ℕ) → weakened_text history given w ≡ some t → Bytes t
@@ -47,22 +46,14 @@ module _ (history text : List ℕ) (a : Accepted history text) where
   pub weakened-pair : (w : Criterion) → is_pair (certificate_read history text).criterion w ≡ true → (t : List ℕ) × (weakened_text history text w ≡ some t)
   unfolding weakened_text
   weakened-pair w p =
-      some-text (weakened w (history_read history) (certificate_read history text))
+      some-text (events_of history) (weakened w (history_read history) (certificate_read history text))
       (OnLists.pair-weakened w (history_read history) (certificate_read history text) ∙ p)
-    where
-      some-text : (o : Option Certificate) → OnLists.is_some o ≡ true → (t : List ℕ) × (text_if_some (events_of history) o ≡ some t)
-      some-text (some d) q = (text_of_lists (events_of history) d, refl)
-      some-text none q = absurd (false≢true q)
 
   pub weakened-none : (w : Criterion) → is_pair (certificate_read history text).criterion w ≡ false → weakened_text history text w ≡ none
   unfolding weakened_text
   weakened-none w p =
-      no_text (weakened w (history_read history) (certificate_read history text))
+      no_text (events_of history) (weakened w (history_read history) (certificate_read history text))
       (OnLists.pair-weakened w (history_read history) (certificate_read history text) ∙ p)
-    where
-      no_text : (o : Option Certificate) → OnLists.is_some o ≡ false → text_if_some (events_of history) o ≡ none
-      no_text (some d) q = absurd (false≢true (sym q))
-      no_text none q = refl
 
   lists-text : text_of_lists (events_of history) (certificate_read history text) ≡ text
   unfolding certificate_read certificate_of certificate_text

@@ -26,7 +26,7 @@ pub fn number_in(answer: Result<Checked, Refusal>) -> u32
 pub fn criterion_in(answer: Result<Checked, Refusal>) -> Option<Criterion>
     ensures { option_in result ≡ (verdict_of answer).criterion }
 {
-    Some(answer.ok()?.criterion)
+    answer.ok().map(|checked| checked.criterion)
 }
 
 // The line of the refusal, or of the event that was found.

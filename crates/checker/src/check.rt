@@ -76,9 +76,12 @@ pub fn carried_line<'a>(history: &'a [u8], text: &'a [u8]) -> &'a [u8]
 {
     match place_in(check(history, text)) {
         None => &history[..0],
-        Some(place) => match place.text {
-            Text::History => &history[place.start..place.end],
-            Text::Certificate => &text[place.start..place.end],
-        },
+        Some(place) => {
+            let of = match place.text {
+                Text::History => history,
+                Text::Certificate => text,
+            };
+            &of[place.start..place.end]
+        }
     }
 }

@@ -14,13 +14,12 @@ pub(crate) fn place_of(history: &[u8], declared: usize, finding: Option<Finding>
     requires { declared ≤ 16 }
     ensures { place_in result ≡ place_of history.now declared (answer_of (found_of finding)).event }
 {
-    let event = event_of(finding)?;
-    Some(event_place(history, declared, usize::from(event.0)))
+    event_of(finding).map(|event| event_place(history, declared, usize::from(event.0)))
 }
 
 // The number of a place's line.
 pub fn line_of(place: Option<Place>) -> Option<usize>
     ensures { option_in result ≡ line_of (place_in place) }
 {
-    Some(place?.line)
+    place.map(|p| p.line)
 }

@@ -245,7 +245,7 @@ pub mem-of-count : (e : ℕ) (l : List ℕ) (b : Bool) → count e l ≡ one b �
 mem-of-count e l true c = counted-mem e l (omega arith)
 mem-of-count e l false c = by-test (mem e l) (λ t. let m = mem-counted e l t in absurd (omega arith)) (λ f. f)
 
-one-le : (b : Bool) → one b ≤ 1
+pub one-le : (b : Bool) → one b ≤ 1
 one-le true = omega arith
 one-le false = omega arith
 

@@ -65,7 +65,7 @@ tally-lt (suc n) P Q x l p q f =
     here : tally n P ≤ tally n Q → tally n P + 0 < tally n Q + 1
     here r = omega arith
 
-tally-most : (n : ℕ) (P : ℕ → Bool) → tally n P ≤ n
+pub tally-most : (n : ℕ) (P : ℕ → Bool) → tally n P ≤ n
 tally-most zero P = omega arith
 tally-most (suc n) P = let r = tally-most n P in go r (P n)
   where

@@ -24,7 +24,7 @@ use Rattle.certificate.specs.Record.{pasts_in, views_in}
 use Rattle.certificate.specs.Criteria.{has_pasts, count_from, has_events, processes_from, view_numbers}
 use Rattle.certificate.specs.Criteria as text
 use Rattle.certificate.specs.Faults.{rising}
-use Rattle.certificate.proofs.NumberingLaws.{count_long}
+use Rattle.certificate.proofs.NumberingLaws.{count_long, count_at}
 use Rattle.certificate.proofs.Guarantees as CertificateGuarantees
 use Rattle.criteria.specs.Tests.{keep_if, keep, up_to, mem, RisingFrom, Rising}
 use Rattle.criteria.specs.Object.{last_values}
@@ -133,12 +133,6 @@ unfolding processes
 processes-are h = ap (keep (active (history_of h))) eight ∙ kept-processes (events_in h) (active (history_of h)) (active-is h) 0 8
 
 -- ---- how many pasts and views there are, and their numbers
-count_at : (k n i : ℕ) → i < n → get_or (count_from k n) i 0 ≡ k + i
-unfolding count_from
-count_at k zero i h = absurd (not-suc-le-zero h)
-count_at k (suc n) zero h = omega arith
-count_at k (suc n) (suc i) h = count_at (k + 1) n i (omega arith) ∙ omega arith
-
 pub past-count : (w : Criterion) (h : WrittenHistory.History) → past_count w (history_of h) ≡ text.past_count w (events_in h)
 past-count w h = ap (λ (n : ℕ). cond (has_pasts w) n 0) (size_is h)
 
@@ -155,8 +149,8 @@ pub view-number : (w : Criterion) (h : WrittenHistory.History) (k : ℕ) → k <
     → view_number w (history_of h) k ≡ get_or (view_numbers w (events_in h)) k 0
 unfolding view_numbers
 view-number Pram h k l = ap (λ (ps : List ℕ). get_or ps k 0) (processes-are h)
-view-number Weak h k l = sym (count_at 0 (length (events_in h)) k (omega (arith, size_is h)) ∙ omega arith)
-view-number Causal h k l = sym (count_at 0 (length (events_in h)) k (omega (arith, size_is h)) ∙ omega arith)
+view-number Weak h k l = sym (count_at 0 (length (events_in h)) k 0 (omega (arith, size_is h)) ∙ omega arith)
+view-number Causal h k l = sym (count_at 0 (length (events_in h)) k 0 (omega (arith, size_is h)) ∙ omega arith)
 view-number Converge h zero l = refl
 view-number Converge h (suc k) l = absurd (omega arith)
 view-number Sequential h zero l = refl

@@ -14,10 +14,11 @@ use Rattle.layout.specs.Word.{same, dash, question, write_word, read_word, push_
 use Rattle.layout.specs.Number.{is_digit, value, spell}
 use Rattle.layout.specs.List.{items_of, all_numbers, all_below, judged, list_of, numbers_of, list_text}
 use Rattle.layout.proofs.Cases.{by_bool, by-eq, and_left, and_right}
-use Rattle.layout.proofs.SplitLaws.{without, all_without, split-join, join-split}
+use Rattle.layout.proofs.SplitLaws.{without, all_without, split-join, join-split, join-without}
 use Rattle.layout.proofs.WordLaws.{same_true, same_refl}
 use Rattle.layout.proofs.NumberLaws.{digit_low}
-use Rattle.layout.proofs.SpellLaws.{number-spell, value-spell, spell-value}
+use Rattle.layout.proofs.SpellLaws.{number-spell, value-spell, spell-value, spell-without}
+use Rattle.layout.proofs.ListTextLaws.{list-without}
 use Rattle.layout.proofs.RoundTrips.{items-text, spells-numbers, numbers-written, written_read}
 use Rattle.history.proofs.WithinLaws.{zero_is, zeros, drop-pad}
 use Rattle.history.specs.declared.record.Op.{Op}
@@ -33,7 +34,7 @@ use Rattle.history.specs.Readable.{all_less, all_zero, good_answer, good_value, 
 use Rattle.history.proofs.PadLaws.{pad-length, take-pad}
 use Rattle.history.proofs.FaultLaws.{InOrder, fault-none, fault-zero}
 use Rattle.history.proofs.EventLaws.{with-faulty, with-event, Laid, laid, Limited, limited, event-count, event-six}
-use Rattle.event_reader.proofs.LineRound.{spell-without, join-without, list-without, spell-not-dash, option-without, option-layout, option-fits, option-value, option-says}
+use Rattle.event_reader.proofs.LineRound.{spell-not-dash, option-without, option-layout, option-fits, option-value, option-says}
 
 -- ---- the words of the ops
 op-word : (x : Op) → op_of (op_word x) ≡ x

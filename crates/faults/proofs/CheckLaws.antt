@@ -40,6 +40,7 @@ use Rattle.criteria.proofs.RecordLaws.{size_is, event-is, view-count, view-numbe
 use Rattle.orders.specs.Rows.{in_rows, IsOrder, ShortList, EventViews, view_at, program_in}
 use Rattle.orders.proofs.ViewLaws.{view-first}
 use Rattle.orders.proofs.ProgramLaws.{program-is}
+use Rattle.replayed_views.proofs.DecidingLaws.{or_assoc}
 use Rattle.faults.specs.declared.finding.Finding.{Finding}
 use Rattle.faults.specs.Finding.{is_found, finding_of}
 use Rattle.faults.specs.Steps.{order_fault, view_fault}
@@ -63,16 +64,12 @@ or-next (some f) y e = absurd-of e
     absurd-of : true ≡ false → some f ≡ y
     absurd-of p = cc
 
-or_assoc : (x y z : Option Fault) → or (or x y) z ≡ or x (or y z)
-or_assoc none y z = refl
-or_assoc (some f) y z = refl
-
 seven : (a b d e f s g : Option Fault) → or (or a (or b d)) (or (or e (or f s)) g) ≡ or a (or b (or d (or e (or f (or s g)))))
 seven a b d e f s g =
-    or_assoc a (or b d) (or (or e (or f s)) g)
+    sym (or_assoc a (or b d) (or (or e (or f s)) g))
     ∙ ap (or a)
-    (or_assoc b d (or (or e (or f s)) g)
-    ∙ ap (λ (x : Option Fault). or b (or d x)) (or_assoc e (or f s) g ∙ ap (or e) (or_assoc f s g)))
+    (sym (or_assoc b d (or (or e (or f s)) g))
+    ∙ ap (λ (x : Option Fault). or b (or d x)) (sym (or_assoc e (or f s) g) ∙ ap (or e) (sym (or_assoc f s g))))
 
 seven-by : (x y z a b d e f s g : Option Fault) → x ≡ or a (or b d) → y ≡ or e (or f s) → z ≡ g
     → or x (or y z) ≡ or a (or b (or d (or e (or f (or s g)))))

@@ -12,14 +12,12 @@ use Rattle.criteria.specs.Check.{Fault, fault11, fault12, fault13, lacks_own, la
 use Rattle.criteria.proofs.Check.{program-parts}
 use Rattle.orders.specs.Rows.{in_rows, IsOrder}
 use Rattle.orders.proofs.BitLaws.{any_same}
-use Rattle.orders.proofs.SizeLaws.{and_no, any-fewer, past-size}
+use Rattle.orders.proofs.RowLaws.{lacks}
+use Rattle.orders.proofs.SizeLaws.{any-fewer, past-size}
 use Rattle.faults.specs.Steps.{order_fault}
 use Rattle.faults.proofs.FoundLaws.{found-same, found_some, found_none}
 
--- the tests of 11 to 13 on rows
-abbrev pub lacks : List ℕ → List ℕ → ℕ → Bool
-lacks rows must e = any 64 (λ f. in_rows must f e && not (in_rows rows f e))
-
+-- the tests of 12 and 13 on rows; that of 11 is `lacks`
 abbrev pub own : List ℕ → ℕ → Bool
 own rows e = in_rows rows e e
 
@@ -61,7 +59,7 @@ module _ (h : History) (R : ℕ → ℕ → Bool) (rows must : List ℕ) (few : 
   same-11 e =
       any_same 64 (λ f. in_rows must f e && not (in_rows rows f e)) (λ f. program_order h f e && not (R f e))
       (λ f l. ap₂ (λ (x y : Bool). x && not y) (is-program f e) (is-order f e))
-      ∙ any-fewer 64 (size h) (λ f. program_order h f e && not (R f e)) few (λ f l. and_no (program_order h f e) (not (R f e)) (outside f e l))
+      ∙ any-fewer 64 (size h) (λ f. program_order h f e && not (R f e)) few (λ f l. rw (outside f e l) refl)
 
   same-13 : (e : ℕ) → unclosed rows e ≡ lacks_past 64 R e
   unfolding lacks_past

@@ -73,13 +73,10 @@ module _ (h : WrittenHistory.History) (w : within h ≡ true) where
       (λ l. keeps-few (get_or (objects_in h) o no_object) ((within-sound h w).object o (omega (arith, l, (within-limits h w).few))))
       (λ l. rw (get_or-eq_default (objects_in h) no_object {n = o} l) (omega arith)))
 
-  -- an event's object is one of the sixteen, and its answer has at most eight values
+  -- an event's object is one of the sixteen
   pub objects-small : (e : ℕ) → e < h.count → (get_or h.events e no_event).object < 16
   objects-small e l =
       rw (events-agree e) (omega (arith, ((within-sound h w).event e l).declared, (within-limits h w).few, (within-limits h w).declared))
-
-  pub answers-small : (e : ℕ) → e < h.count → (get_or h.events e no_event).answer.count ≤ 8
-  answers-small e l = rw (events-agree e) ((within-sound h w).event e l).few
 
   -- an event's process is below 8, and its object is declared
   pub process-small : (e : ℕ) → e < h.count → (get_or h.events e no_event).process.0 < 8

@@ -31,7 +31,7 @@ pub fn check_records(h: &History, c: &Certificate, views: &[[u8; 64]; 64]) -> Re
     let views = Views {
         rows: &views[..named.count],
         lengths: &c.lengths[..named.count],
-        numbers: &named.numbers[..named.count],
+        numbers: named.all(),
     };
     order_fault(&rows, &program, past_count(c.criterion, n))?;
     view_fault(c.criterion, &views, &rows, &processes, n)?;

@@ -1,5 +1,5 @@
 // Faults 11 to 16 and 20 of a history and a certificate that were read.
-// Kept: n ≤ 64 is a bound of one number, asked where an array is cut by it; a struct for it would be opened in each function.
+// Kept: n ≤ 64 is a bound of one number, how many rows are asked; a struct for it would be opened in each function.
 
 #![tactic(auto)]
 

@@ -8,7 +8,6 @@ ghost use Rattle.criteria.specs.Check.{find16};
 ghost use Rattle.criteria.specs.Records.{history_of};
 ghost use Rattle.orders.specs.Rows.{in_rows, EventViews};
 ghost use Rattle.faults.specs.Finding.{finding_of};
-ghost use Rattle.faults.specs.Steps.{is_converge};
 
 use crate::finding::Finding;
 use certificate::record::Criterion;
@@ -19,13 +18,6 @@ use replayed_views::cut::first_wrong_cut;
 use replayed_views::search::first_wrong;
 use replays::light::light_history;
 use replays::visible::visible_views;
-
-// Whether the criterion is converge.
-fn is_converge(c: Criterion) -> bool
-    ensures { result ≡ is_converge c }
-{
-    c == Criterion::Converge
-}
 
 // 16 of the views of a certificate; `rows` are the order, which converge cuts its view by.
 pub(crate) fn replay_fault(
@@ -39,7 +31,7 @@ pub(crate) fn replay_fault(
 {
     let history = light_history(h);
     let begin = starts(h.objects);
-    if is_converge(criterion) {
+    if criterion == Criterion::Converge {
         return match first_wrong_cut(&history, begin, rows, views.get(0).events) {
             Some(e) => Err(Finding::Wrong(views.numbers[0], e)),
             None => Ok(()),

@@ -7,6 +7,7 @@ use mathlib.Core.List.{List, []}
 use lib.ListN.{length, get_or}
 use lib.Dec.{eqb}
 use Rattle.layout.specs.Split.{split}
+use Rattle.layout.proofs.Cases.{in-either}
 use Rattle.history.specs.declared.fault.Fault as faulty
 use Rattle.history.specs.declared.fault.Fault.TheVariants.{TooLong, Layout, Limits, Misfit, BadAnswer, NotRising}
 use Rattle.history.specs.declared.record.Object.{Object}
@@ -53,11 +54,6 @@ IsFault n = (n ≡ 0 → ⊥) → fault_number (fault_of n) ≡ n
 pub fault_no : IsFault 0
 fault_no n = absurd (n refl)
 
--- in either case
-pub fault-either : {A : Type 0} (g : A → ℕ) (t : Bool) (r q : A) → IsFault (g r) → IsFault (g q) → IsFault (g (cond t r q))
-fault-either g true r q h k = h
-fault-either g false r q h k = k
-
 fault-first : (l m f g : Bool) → IsFault (first_fault l m f g)
 unfolding first_fault
 fault-first true true true true = fault_no
@@ -67,25 +63,25 @@ fault-first true false f g = λ n. refl
 fault-first false m f g = λ n. refl
 
 -- ---- the fault of a line
-abbrev object_number : ObjectRead → ℕ
-object_number r = r.fault
+abbrev ObjectFault : ObjectRead → Type 0
+ObjectFault r = IsFault r.fault
 
 object-said : (n : ℕ) (o : Object) → IsFault n → IsFault (object_with n o).fault
-object-said n o h = fault-either object_number (eqb n 0) (record { fault = 0; object = o }) (faulty_object n) fault_no h
+object-said n o h = in-either ObjectFault (eqb n 0) (record { fault = 0; object = o }) (faulty_object n) fault_no h
 
 pub fault-object : (own : ℕ) (line : List ℕ) → IsFault (object_line own line).fault
 unfolding object_line object_fields object_three object_fault
 fault-object own line =
     let fs = split 32 line in
-    fault-either object_number (eqb (length fs) 3) (object_three own (get_or fs 0 []) (get_or fs 1 []) (get_or fs 2 [])) (faulty_object 2)
+    in-either ObjectFault (eqb (length fs) 3) (object_three own (get_or fs 0 []) (get_or fs 1 []) (get_or fs 2 [])) (faulty_object 2)
     (object-said (object_fault own (get_or fs 0 []) (get_or fs 1 []) (get_or fs 2 [])) _ (fault-first _ _ _ _))
     (λ n. refl)
 
-abbrev event_number : EventRead → ℕ
-event_number r = r.fault
+abbrev EventFault : EventRead → Type 0
+EventFault r = IsFault r.fault
 
 event-said : (n : ℕ) (e : Event) → IsFault n → IsFault (event_with n e).fault
-event-said n e h = fault-either event_number (eqb n 0) (record { fault = 0; event = e }) (faulty_event n) fault_no h
+event-said n e h = in-either EventFault (eqb n 0) (record { fault = 0; event = e }) (faulty_event n) fault_no h
 
 event-six : (own : ℕ) (os : List Object) (a p o w v s : List ℕ) → IsFault (event_six own os a p o w v s).fault
 unfolding event_six event_fault
@@ -95,7 +91,7 @@ pub fault-event : (own : ℕ) (os : List Object) (line : List ℕ) → IsFault (
 unfolding event_line event_fields
 fault-event own os line =
     let fs = split 32 line in
-    fault-either event_number (eqb (length fs) 6)
+    in-either EventFault (eqb (length fs) 6)
     (event_six own os (get_or fs 0 []) (get_or fs 1 []) (get_or fs 2 []) (get_or fs 3 []) (get_or fs 4 []) (get_or fs 5 []))
     (faulty_event 2)
     (event-six own os (get_or fs 0 []) (get_or fs 1 []) (get_or fs 2 []) (get_or fs 3 []) (get_or fs 4 []) (get_or fs 5 []))

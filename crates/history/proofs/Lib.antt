@@ -3,6 +3,7 @@ pub mod PadLaws
 pub mod ListedLaws
 pub mod ZeroLaws
 pub mod LinesLaws
+pub mod NextLaws
 pub mod FaultLaws
 pub mod ObjectLaws
 pub mod AnswerLaws

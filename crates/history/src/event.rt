@@ -68,9 +68,7 @@ fn fields_said(fields: Fields, own: u32, declared: usize) -> Result<Said, Fault>
     }
     let process = number_field(fields.process, 8)?;
     let object = number_field(fields.object, declared as u64)?;
-    let Some(op) = read_op(fields.op) else {
-        return Err(Fault::Layout);
-    };
+    let op = read_op(fields.op).ok_or(Fault::Layout)?;
     let value = optional_field(fields.value, VALUES)?;
     let answer = answer_field(fields.answer)?;
     if own >= 64 {
@@ -118,9 +116,7 @@ pub fn read_event(line: &[u8], own: u32, objects: &[Object]) -> Result<Event, Fa
     requires { length objects.now ≤ 16 }
     ensures { event_read result ≡ event_line own objects.now line.now }
 {
-    let Some(fields) = cut(line) else {
-        return Err(Fault::Layout);
-    };
+    let fields = cut(line).ok_or(Fault::Layout)?;
     let said = fields_said(fields, own, objects.len())?;
     said_event(said, objects)
 }

@@ -17,9 +17,7 @@ fn read_three(number: &[u8], word: &[u8], width: &[u8], own: u32) -> Result<Obje
     if !is_spelling(number, own) {
         return Err(Fault::Layout);
     }
-    let Some(kind) = read_kind(word) else {
-        return Err(Fault::Layout);
-    };
+    let kind = read_kind(word).ok_or(Fault::Layout)?;
     let width = optional_field(width, width_bound(kind))?;
     // The line is laid out as it should be.
     if own >= 16 {
@@ -43,12 +41,8 @@ fn read_three(number: &[u8], word: &[u8], width: &[u8], own: u32) -> Result<Obje
 pub fn read_object(line: &[u8], own: u32) -> Result<Object, Fault>
     ensures { object_read result ≡ object_line own line.now }
 {
-    let Some((number, rest)) = split_once(line, b' ') else {
-        return Err(Fault::Layout);
-    };
-    let Some((kind, width)) = split_once(rest, b' ') else {
-        return Err(Fault::Layout);
-    };
+    let (number, rest) = split_once(line, b' ').ok_or(Fault::Layout)?;
+    let (kind, width) = split_once(rest, b' ').ok_or(Fault::Layout)?;
     if split_once(width, b' ').is_some() {
         return Err(Fault::Layout);
     }

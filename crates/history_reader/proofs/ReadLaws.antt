@@ -30,7 +30,7 @@ use Rattle.history.proofs.ObjectLaws.{three-order, object-three, object-count}
 use Rattle.history.proofs.EventLaws.{limited, event-six, event-count}
 use Rattle.history.specs.declared.next.Next.{Next}
 use Rattle.event_reader.specs.Steps.Next.{next_read}
-use Rattle.event_reader.proofs.NextLaws.{next-cut, next-line}
+use Rattle.history.proofs.NextLaws.{next-cut, next-line}
 use Rattle.history_reader.specs.ReadHistory.{refusal, read_as, events_from, objects_from, lines_from, read_history}
 
 -- ---- the result of a reader, with its error mapped
@@ -84,12 +84,12 @@ lines_step p (q ∷ l) h = refl
 -- ---- what the line of an event is that goes from a to e
 module _ (s : List ℕ) (a e : ℕ) (found : e ≡ a + find 10 (drop a s)) (from : a ≤ length s) (own : ℕ) (os : List Object) where
   pub cut-at : length s ≤ e → next_read own os (drop a s) ≡ faulty_event 2
-  cut-at h = next-cut own os (drop a s) (omega (arith, length-drop a s))
+  cut-at h = next-cut (event_line own os) (faulty_event 2) (drop a s) (omega (arith, length-drop a s))
 
   pub line-at : e < length s → next_read own os (drop a s) ≡ event_line own os (take (e - a) (drop a s))
   line-at h =
       let k : find 10 (drop a s) ≡ e - a = omega arith in
-      next-line own os (drop a s) (omega (arith, length-drop a s)) ∙ ap (λ (n : ℕ). event_line own os (take n (drop a s))) k
+      next-line (event_line own os) (faulty_event 2) (drop a s) (omega (arith, length-drop a s)) ∙ ap (λ (n : ℕ). event_line own os (take n (drop a s))) k
 
 -- the same, as `next_event` tells it of `&s[a..]`
 pub next-told : (s : List ℕ) (a own : ℕ) (os : List Object) → a ≤ length s → (n : Next Event)

@@ -1,12 +1,13 @@
 -- A refused reading has the number of a fault and a place in the text that was read. Assumes nothing.
 use Prim.Native.Nat.{ℕ, ◌+◌}
 use mathlib.Core.Path.{◌≡◌, refl}
-use mathlib.Core.Bool.{Bool, true, false, cond}
+use mathlib.Core.Bool.{cond}
 use mathlib.Core.List.{List, [], ◌∷◌, ◌++◌}
 use lib.ListN.{length}
 use lib.Dec.{eqb, leb}
 use Rattle.layout.specs.Split.{split}
 use Rattle.layout.specs.Word.{same, object_heading, event_heading}
+use Rattle.layout.proofs.Cases.{in-either}
 use Rattle.history.specs.declared.record.Object.{Object}
 use Rattle.history.specs.declared.record.Event.{Event}
 use Rattle.history.specs.Faults.{object_line, event_line}
@@ -23,60 +24,54 @@ module _ (P : Text → Type 0) where
   pub refuses-nowhere : Refuses P 0 nowhere
   refuses-nowhere = record { number = fault_no; text = λ n. absurd (n refl) }
 
-  pub refuses-faulty : (t : Text) → P t → (n line at size : ℕ) → IsFault n → Refuses P n (faulty_place t line at size)
-  refuses-faulty t h n line at size f = record { number = f; text = λ z. h }
+module _ {P : Text → Type 0} {t : Text} (h : P t) where
+  pub refuses-faulty : (n line at size : ℕ) → IsFault n → Refuses P n (faulty_place t line at size)
+  refuses-faulty n line at size f = record { number = f; text = λ z. h }
+
+  -- the layout is wrong
+  pub refuses-layout : (line at size : ℕ) → Refuses P 2 (faulty_place t line at size)
+  refuses-layout line at size = refuses-faulty 2 line at size (λ n. refl)
 
 -- ---- of a history text that was read
 module _ (P : Text → Type 0) (h : P HistoryText) where
   abbrev Refused : HistoryRead → Type 0
   Refused r = Refuses P r.fault r.place
 
-  faulty : (n line at size : ℕ) → IsFault n → Refused (refusal n line at size)
-  faulty n line at size f = refuses-faulty P HistoryText h n line at size f
-
-  -- the layout is wrong
-  layout : (line at size : ℕ) → Refused (refusal 2 line at size)
-  layout line at size = faulty 2 line at size (λ n. refl)
-
-  either : (t : Bool) (r q : HistoryRead) → Refused r → Refused q → Refused (cond t r q)
-  either true r q a b = a
-  either false r q a b = b
-
   events : (os : List Object) (es : List Event) (line at : ℕ) (ps : List (List ℕ)) → Refused (events_from os es line at ps)
   unfolding events_from
-  events os es line at [] = layout line at 0
+  events os es line at [] = refuses-layout h line at 0
   events os es line at (p ∷ []) =
-      either (eqb (length p) 0) (read_as os es) (refusal 2 line at (length p)) (refuses-nowhere P) (layout line at (length p))
+      in-either Refused (eqb (length p) 0) (read_as os es) (refusal 2 line at (length p)) (refuses-nowhere P) (refuses-layout h line at (length p))
   events os es line at (p ∷ q ∷ ps) =
       let x = event_line (length es) os p in
-      either (eqb x.fault 0) (events_from os (es ++ x.event ∷ []) (line + 1) (at + length p + 1) (q ∷ ps)) (refusal x.fault line at (length p))
+      in-either Refused (eqb x.fault 0) (events_from os (es ++ x.event ∷ []) (line + 1) (at + length p + 1) (q ∷ ps)) (refusal x.fault line at (length p))
       (events os (es ++ (event_line (length es) os p).event ∷ []) (line + 1) (at + length p + 1) (q ∷ ps))
-      (faulty x.fault line at (length p) (fault-event (length es) os p))
+      (refuses-faulty h x.fault line at (length p) (fault-event (length es) os p))
 
   objects : (os : List Object) (line at : ℕ) (ps : List (List ℕ)) → Refused (objects_from os line at ps)
   unfolding objects_from
-  objects os line at [] = layout line at 0
-  objects os line at (p ∷ []) = layout line at (length p)
+  objects os line at [] = refuses-layout h line at 0
+  objects os line at (p ∷ []) = refuses-layout h line at (length p)
   objects os line at (p ∷ q ∷ ps) =
       let x = object_line (length os) p in
       let more = objects_from (os ++ x.object ∷ []) (line + 1) (at + length p + 1) (q ∷ ps) in
       let bad = refusal x.fault line at (length p) in
-      either (same p event_heading) (events_from os [] (line + 1) (at + length p + 1) (q ∷ ps)) (cond (eqb x.fault 0) more bad)
+      in-either Refused (same p event_heading) (events_from os [] (line + 1) (at + length p + 1) (q ∷ ps)) (cond (eqb x.fault 0) more bad)
       (events os [] (line + 1) (at + length p + 1) (q ∷ ps))
-      (either (eqb x.fault 0) more bad
+      (in-either Refused (eqb x.fault 0) more bad
       (objects (os ++ (object_line (length os) p).object ∷ []) (line + 1) (at + length p + 1) (q ∷ ps))
-      (faulty x.fault line at (length p) (fault-object (length os) p)))
+      (refuses-faulty h x.fault line at (length p) (fault-object (length os) p)))
 
   lines : (ps : List (List ℕ)) → Refused (lines_from ps)
   unfolding lines_from
-  lines [] = layout 1 0 0
-  lines (p ∷ []) = layout 1 0 (length p)
+  lines [] = refuses-layout h 1 0 0
+  lines (p ∷ []) = refuses-layout h 1 0 (length p)
   lines (p ∷ q ∷ ps) =
-      either (same p object_heading) (objects_from [] 2 (length p + 1) (q ∷ ps)) (refusal 2 1 0 (length p))
+      in-either Refused (same p object_heading) (objects_from [] 2 (length p + 1) (q ∷ ps)) (refusal 2 1 0 (length p))
       (objects [] 2 (length p + 1) (q ∷ ps))
-      (layout 1 0 (length p))
+      (refuses-layout h 1 0 (length p))
 
   pub refuses-history : (text : List ℕ) → Refuses P (read_history text).fault (read_history text).place
   unfolding read_history
   refuses-history text =
-      either (leb (length text) 16384) (lines_from (split 10 text)) (refusal 1 0 0 0) (lines (split 10 text)) (faulty 1 0 0 0 (λ n. refl))
+      in-either Refused (leb (length text) 16384) (lines_from (split 10 text)) (refusal 1 0 0 0) (lines (split 10 text)) (refuses-faulty h 1 0 0 0 (λ n. refl))

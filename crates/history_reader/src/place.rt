@@ -12,7 +12,7 @@ pub enum Text {
 }
 
 // A line of a text: its number from 1 (0 for a text that is too long), and its bytes from `start` to `end`, without its line feed.
-// Kept: the number 0 for a text that is too long, since `faulty_place` of specs/Place and the printed line have it.
+// Kept: the number 0, since `read_history` of specs/ReadHistory has it (`refusal 1 0 0 0`), and so has the printed line.
 #[derive(Clone, Copy)]
 pub struct Place {
     pub text: Text,

@@ -33,7 +33,9 @@ struct Declared {
     end: usize,
 }
 
-// Kept: no plainer: this reader and the certificate's each name their text once.
+// Kept: no twin of the certificate reader's `refuse`, which is a method of its lines left and knows the layout's fault alone.
+// Kept: no struct of the lines left, as that reader has: a line's number follows from the count of what was read, so the place where
+// the next line begins is all that travels, and such a struct would hold the number a second time.
 fn refuse(fault: Fault, line: usize, start: usize, end: usize) -> Refusal
     requires { start ≤ end }
     ensures { history_read (Err result) ≡ refusal (fault_number fault) line start (end - start) }

@@ -11,10 +11,10 @@ use Rattle.layout.specs.Split.{split, join, on_first}
 use Rattle.layout.specs.Word.{same, dash, register_word, queue_word, stack_word, window_word, channel_word, event_heading}
 use Rattle.layout.specs.Number.{is_digit, value, spell}
 use Rattle.layout.proofs.Cases.{by_bool, by-eq, and_left, and_right}
-use Rattle.layout.proofs.SplitLaws.{without, all_without, split-join, join-split}
+use Rattle.layout.proofs.SplitLaws.{without, all_without, split-join, join-split, join-without}
 use Rattle.layout.proofs.WordLaws.{same_true, same_false, same_refl}
 use Rattle.layout.proofs.NumberLaws.{digit_low}
-use Rattle.layout.proofs.SpellLaws.{value-spell}
+use Rattle.layout.proofs.SpellLaws.{value-spell, spell-without}
 use Rattle.history.specs.declared.record.Kind.{Kind}
 use Rattle.history.specs.declared.record.Kind.TheVariants.{Register, Queue, Stack, Window, Channel}
 use Rattle.history.specs.declared.record.Object.{Object}
@@ -24,7 +24,7 @@ use Rattle.history.specs.HistoryText.{object_text}
 use Rattle.history.specs.Readable.{good_object}
 use Rattle.history.proofs.FaultLaws.{InOrder, fault-zero}
 use Rattle.history.proofs.ObjectLaws.{three-order, three-faulty, object-count, object-three}
-use Rattle.event_reader.proofs.LineRound.{spell-without, join-without, spell-not-dash, option-without, option-layout, option-fits, option-value, option-says}
+use Rattle.event_reader.proofs.LineRound.{spell-not-dash, option-without, option-layout, option-fits, option-value, option-says}
 
 -- ---- the words of the kinds
 kind-word : (k : Kind) → kind_of (kind_word k) ≡ k

@@ -12,6 +12,7 @@ use Rattle.layout.specs.Word.{dash, object_heading, event_heading}
 use Rattle.layout.specs.Number.{spell}
 use Rattle.layout.specs.List.{list_text}
 use Rattle.layout.proofs.Cases.{by_bool, and_left, and_right}
+use Rattle.layout.proofs.SplitLaws.{join_one, join_more}
 use Rattle.layout.proofs.SpellLaws.{spell-short}
 use Rattle.history.specs.declared.record.Kind.{Kind}
 use Rattle.history.specs.declared.record.Kind.TheVariants.{Register, Queue, Stack, Window, Channel}
@@ -24,15 +25,6 @@ use Rattle.history.specs.Record.{value_bound, no_object, values_in}
 use Rattle.history.specs.Kinds.{kind_word, op_word, is_channel, has_width, width_limit, has_op, takes_value, may_answer}
 use Rattle.history.specs.HistoryText.{lines_text, answer_text, object_text, event_text, object_lines, event_lines, text_of}
 use Rattle.history.specs.Readable.{good_object, good_objects, all_less, all_zero, good_answer, good_value, good_event, good_events}
-
--- ---- fields with one byte between each two
-join_one : (b : ℕ) (p : List ℕ) → length (join b (p ∷ [])) ≡ length p
-unfolding join
-join_one b p = refl
-
-join_more : (b : ℕ) (p q : List ℕ) (ps : List (List ℕ)) → length (join b (p ∷ q ∷ ps)) ≡ length p + suc (length (join b (q ∷ ps)))
-unfolding join
-join_more b p q ps = length-append p (b ∷ join b (q ∷ ps))
 
 -- ---- the line of an object
 kind-short : (k : Kind) → length (kind_word k) ≤ 8

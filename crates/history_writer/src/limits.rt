@@ -40,7 +40,7 @@ fn blank_objects(objects: &[Object]) -> bool
 }
 
 // Whether each value is 0.
-// Kept: one call of the library's `all`; a generic one, for the events of a row too, would put `map T.number` into each caller's clauses.
+// Kept: one call of the library's `all`; one for u8 and u16 would take layout's `Item`, and each caller's answer a `map-id`.
 fn all_zero(values: &[Value]) -> bool
     ensures { result ≡ all_zero values.now }
 {
@@ -105,8 +105,8 @@ fn blank_events(events: &[Event]) -> bool
 
 // Whether a record is within its limits, so that it has a text.
 #[tactic(auto, unfolding(history::specs::Readable::within))]
-pub fn is_within(h: History) -> bool
-    ensures { result ≡ within h }
+pub fn is_within(h: &History) -> bool
+    ensures { result ≡ within h.now }
 {
     if h.declared > 16 || h.count > 64 {
         return false;

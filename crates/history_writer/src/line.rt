@@ -23,6 +23,7 @@ pub(crate) enum Field {
 }
 
 // The word of a kind.
+// Kept: a match gives each kind and op its word; a look-up in the tables of history::word, which read them, could find none.
 #[tactic(auto, unfolding(history::specs::Kinds::kind_word))]
 fn kind_word(kind: Kind) -> &'static [u8]
     ensures { (result.now ≡ kind_word kind) × (length result.now ≤ 8) }

@@ -1,7 +1,11 @@
 // Writing a history: the text of a record in the first bytes of a lent buffer.
-ghost use Rattle.std.specs.Prelude.{◌≡◌, ◌≤◌, ◌<◌, cond, length};
+ghost use Rattle.std.proofs.Common.{lit<};
+ghost use Rattle.std.specs.Prelude.{◌≡◌, ◌≤◌, ◌<◌, ℕ, List, [], ◌∷◌, ◌++◌, map, cond, length, get_or};
 ghost use Rattle.layout.specs.Fill.{fill};
-ghost use Rattle.history_writer.specs.Steps.Lines.{object_fields_of, event_fields_of, object_piece, event_piece, text_bytes};
+ghost use Rattle.layout.specs.Fields.{pieces_text};
+ghost use Rattle.history.specs.Record.{no_object, no_event};
+ghost use Rattle.history.specs.HistoryText.{object_text, event_text};
+ghost use Rattle.history_writer.specs.Steps.Lines.{field_text, text_bytes};
 ghost use Rattle.history_writer.specs.WriteHistory.{write_fault_number, written_of, history_written, history_after};
 
 use crate::limits::is_within;
@@ -49,103 +53,95 @@ fn number_or_dash(wanted: bool, n: u32) -> Field
     }
 }
 
-// The three fields of an object's line.
-#[tactic(auto, unfolding(crate::specs::Steps::Lines::object_fields_of))]
-fn object_fields(own: u32, o: Object) -> [Field; 3]
-    ensures { result ≡ object_fields_of own o }
-{
-    [
-        Field::Number(own),
-        Field::Kind(o.kind),
-        number_or_dash(has_width(o.kind), u32::from(o.width)),
-    ]
+// A row of a record, which has a line of N fields: an object, an event.
+trait Row<const N: usize> {
+    // The text of its line, and the row that stands in no place.
+    ghost text: { ℕ → Self → List ℕ };
+
+    ghost blank: { Self };
+
+    // The fields of its line.
+    fn fields(&self, own: u32) -> [Field; N]
+        ensures { pieces_text (map field_text result) ≡ text own self.now ++ 10 ∷ [] };
+
+    // It has at most 6 fields.
+    ghost few: { N < 7 };
 }
 
-// The six fields of an event's line.
-#[tactic(auto, unfolding(crate::specs::Steps::Lines::event_fields_of))]
-fn event_fields(own: u32, e: Event) -> [Field; 6]
-    ensures { result ≡ event_fields_of own e }
-{
-    [
-        Field::Number(own),
-        Field::Number(u32::from(e.process.0)),
-        Field::Number(u32::from(e.object)),
-        Field::Op(e.op),
-        number_or_dash(takes_value(e.op), u32::from(e.value)),
-        Field::Answer(e.answer),
-    ]
+impl Row<3> for Object {
+    ghost text = { object_text };
+
+    ghost blank = { no_object };
+
+    fn fields(&self, own: u32) -> [Field; 3] {
+        [
+            Field::Number(own),
+            Field::Kind(self.kind),
+            number_or_dash(has_width(self.kind), u32::from(self.width)),
+        ]
+    }
+
+    ghost few = { lit< tt };
 }
 
-// The lines of objects, each with its line feed.
-// Kept: no plainer as one generic type with `EventLines`: a trait of what has a line would have the two functions that differ, and the
-// type's own three would stand beside both impls of it.
-#[derive(Clone, Copy)]
-struct ObjectLines<'a> {
-    objects: &'a [Object],
-    ghost few: { length objects.now ≤ 64 },
+impl Row<6> for Event {
+    ghost text = { event_text };
+
+    ghost blank = { no_event };
+
+    fn fields(&self, own: u32) -> [Field; 6] {
+        [
+            Field::Number(own),
+            Field::Number(u32::from(self.process.0)),
+            Field::Number(u32::from(self.object)),
+            Field::Op(self.op),
+            number_or_dash(takes_value(self.op), u32::from(self.value)),
+            Field::Answer(self.answer),
+        ]
+    }
+
+    ghost few = { lit< tt };
 }
 
-impl Pieces for ObjectLines<'_> {
-    ghost count = { λ s. length s.objects.now };
+// The lines of rows, each with its line feed.
+#[derive(Drop)]
+struct RowLines<'a, T, const N: usize> {
+    rows: &'a [T],
+    ghost few: { length rows.now ≤ 64 },
+}
 
-    ghost piece = { λ s i. object_piece s.objects.now i };
+impl<T: Row<N>, const N: usize> Pieces for RowLines<'_, T, N> {
+    ghost count = { λ s. length s.rows.now };
+
+    ghost piece = { λ s i. T.text i (get_or s.rows.now i T.blank) ++ 10 ∷ [] };
 
     fn count(&self) -> usize {
-        self.objects.len()
+        self.rows.len()
     }
 
     fn put_piece(&self, part: &mut [u8], i: usize) -> usize {
-        put_fields(part, &object_fields(i as u32, self.objects[i]))
+        put_fields(part, &self.rows[i].fields(i as u32))
     }
 }
 
-impl CountedPieces for ObjectLines<'_> {
+impl<T: Row<N>, const N: usize> CountedPieces for RowLines<'_, T, N> {
     ghost most = { 4230 };
 
     fn piece_len(&self, i: usize) -> usize {
-        fields_len(&object_fields(i as u32, self.objects[i]))
-    }
-}
-
-// The lines of events, each with its line feed.
-#[derive(Clone, Copy)]
-struct EventLines<'a> {
-    events: &'a [Event],
-    ghost few: { length events.now ≤ 64 },
-}
-
-impl Pieces for EventLines<'_> {
-    ghost count = { λ s. length s.events.now };
-
-    ghost piece = { λ s i. event_piece s.events.now i };
-
-    fn count(&self) -> usize {
-        self.events.len()
-    }
-
-    fn put_piece(&self, part: &mut [u8], i: usize) -> usize {
-        put_fields(part, &event_fields(i as u32, self.events[i]))
-    }
-}
-
-impl CountedPieces for EventLines<'_> {
-    ghost most = { 4230 };
-
-    fn piece_len(&self, i: usize) -> usize {
-        fields_len(&event_fields(i as u32, self.events[i]))
+        fields_len(&self.rows[i].fields(i as u32))
     }
 }
 
 // What is written of a record: its objects and its events.
-#[derive(Clone, Copy)]
+#[derive(Drop)]
 struct Lines<'a> {
-    objects: ObjectLines<'a>,
-    events: EventLines<'a>,
+    objects: RowLines<'a, Object, 3>,
+    events: RowLines<'a, Event, 6>,
 }
 
 // How many bytes the whole text has.
 fn history_len(lines: &Lines) -> usize
-    ensures { result ≡ length (text_bytes lines.now.objects.objects.now lines.now.events.events.now) }
+    ensures { result ≡ length (text_bytes lines.now.objects.rows.now lines.now.events.rows.now) }
 {
     OBJECT_HEADING.len()
         + pieces_len(&lines.objects)
@@ -155,8 +151,8 @@ fn history_len(lines: &Lines) -> usize
 
 // Writes the whole text into a part that has room.
 fn put_history(part: &mut [u8], lines: &Lines) -> usize
-    requires { length (text_bytes lines.now.objects.objects.now lines.now.events.events.now) ≤ length part.old }
-    ensures { (result ≡ length (text_bytes lines.now.objects.objects.now lines.now.events.events.now)) × (part.new ≡ fill (text_bytes lines.now.objects.objects.now lines.now.events.events.now) part.old) }
+    requires { length (text_bytes lines.now.objects.rows.now lines.now.events.rows.now) ≤ length part.old }
+    ensures { (result ≡ length (text_bytes lines.now.objects.rows.now lines.now.events.rows.now)) × (part.new ≡ fill (text_bytes lines.now.objects.rows.now lines.now.events.rows.now) part.old) }
 {
     let k = put_headed(part, OBJECT_HEADING, &lines.objects);
     k + put_headed(&mut part[k..], EVENT_HEADING, &lines.events)
@@ -167,14 +163,14 @@ fn put_history(part: &mut [u8], lines: &Lines) -> usize
 pub fn write_history(buf: &mut [u8], h: History) -> Result<usize, WriteFault>
     ensures { (written_of result ≡ history_written h buf.old) × (buf.new ≡ history_after h buf.old) }
 {
-    if !is_within(h) {
+    if !is_within(&h) {
         return Err(WriteFault::OutsideLimits);
     }
-    let objects = ObjectLines {
-        objects: &h.objects[..h.declared],
+    let objects = RowLines {
+        rows: &h.objects[..h.declared],
     };
-    let events = EventLines {
-        events: &h.events[..h.count],
+    let events = RowLines {
+        rows: &h.events[..h.count],
     };
     let lines = Lines { objects, events };
     let n = history_len(&lines);

@@ -1,5 +1,5 @@
 // Checking a certificate text for a history text.
-ghost use Rattle.std.specs.Prelude.{◌≡◌, ◌≤◌, length};
+ghost use Rattle.std.specs.Prelude.{◌≡◌, ◌≤◌};
 ghost use Rattle.layout.specs.Options.{option_in};
 ghost use Rattle.history_reader.specs.Place.{text_in};
 ghost use Rattle.replays.specs.Replay.{found_event};
@@ -74,10 +74,9 @@ fn places_of(answer: Result<Checked, Refusal>) -> [u32; 7]
 
 // Puts the places into a lent slice as far as it goes, and leaves alone what is past them.
 fn put_places(places: &mut [u32], all: [u32; 7])
-    requires { length all ≡ 7 }
     ensures { places.new ≡ placed all places.old }
 {
-    let n = places.len().min(7);
+    let n = places.len().min(all.len());
     places[..n].copy_from_slice(&all[..n]);
 }
 

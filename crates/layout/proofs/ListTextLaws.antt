@@ -3,18 +3,38 @@ use Prim.Native.Nat.{ℕ, suc, ◌+◌, ◌-◌, ◌≤◌, ◌<◌}
 use native.Mathlib.Numerals.{add-one}
 use native.Mathlib.Omega.{arith}
 use mathlib.Core.Path.{◌≡◌, refl, sym, ap, ◌∙◌}
+use mathlib.Core.Bool.{true, false}
 use mathlib.Core.List.{List, [], ◌∷◌, ◌++◌, map, append_assoc, append-nil}
 use lib.ListN.{length, get_or, take, drop, length-append, length-map, drop_of_length-le}
 use Rattle.std.proofs.lemmas.List.{get_or-map, drop-map}
 use lib.Seq.{drop-cons}
+use borrow.Author.Tests.{ne_eqb}
 use Rattle.layout.specs.Split.{join}
 use Rattle.layout.specs.Word.{dash}
-use Rattle.layout.specs.Number.{spell}
+use Rattle.layout.specs.Number.{is_digit, spell}
 use Rattle.layout.specs.List.{list_text}
 use Rattle.layout.specs.Fill.{fill}
 use Rattle.layout.specs.Steps.List.{tail_text}
 use Rattle.layout.proofs.FillLaws.{Writing, writing-first, tail-part}
+use Rattle.layout.proofs.SplitLaws.{without, all_without, join-without}
+use Rattle.layout.proofs.SpellLaws.{spell-without}
 
+-- ---- bytes that a list's text does not hold
+pub dash-without : (b : ℕ) → (b ≡ 45 → ⊥) → without b dash ≡ true
+unfolding without
+dash-without b h = rw (ne_eqb 45 b (λ q. h (sym q)))
+
+pub spells-without : (b : ℕ) → is_digit b ≡ false → (xs : List ℕ) → all_without b (map spell xs) ≡ true
+unfolding all_without
+spells-without b h [] = refl
+spells-without b h (x ∷ xs) = rw (spell-without b x h) (spells-without b h xs)
+
+pub list-without : (b : ℕ) → is_digit b ≡ false → (b ≡ 44 → ⊥) → (b ≡ 45 → ⊥) → (xs : List ℕ) → without b (list_text xs) ≡ true
+unfolding list_text
+list-without b d c m [] = dash-without b m
+list-without b d c m (x ∷ xs) = join-without b 44 c (map spell (x ∷ xs)) (spells-without b d (x ∷ xs))
+
+-- ---- a list's text, number by number
 pub list-none : list_text [] ≡ dash
 unfolding list_text
 list-none = refl

@@ -15,22 +15,17 @@ use Rattle.layout.specs.Word.{same, dash}
 use Rattle.layout.specs.Number.{is_number, starts_well, all_digits, is_digit, value, spell}
 use Rattle.layout.specs.List.{items_of, all_numbers, all_below, judged, list_of, numbers_of, list_text}
 use Rattle.layout.proofs.Cases.{by_bool, and_left, and_right}
-use Rattle.layout.proofs.SplitLaws.{all_without, split-join, join-split, split-some, split-clean, without}
+use Rattle.layout.proofs.SplitLaws.{split-join, join-split, split-some, split-clean, without}
 use Rattle.layout.proofs.WordLaws.{same_true, same_false, same_refl}
 use Rattle.layout.proofs.NumberLaws.{digit_low}
-use Rattle.layout.proofs.SpellLaws.{number-spell, value-spell, spell-value, number-without}
+use Rattle.layout.proofs.SpellLaws.{number-spell, value-spell, spell-value}
 use Rattle.layout.proofs.ListLaws.{is-list}
+use Rattle.layout.proofs.ListTextLaws.{spells-without}
 
 -- ---- the items of a list's text are the spellings of its numbers
-spells-without : (xs : List ℕ) → all_without 44 (map spell xs) ≡ true
-unfolding all_without
-spells-without [] = refl
-spells-without (x ∷ xs) =
-    rw (number-without 44 (spell x) (digit_low 44 (omega arith)) (number-spell x)) (spells-without xs)
-
 spells-split : (x : ℕ) (xs : List ℕ) → split 44 (list_text (x ∷ xs)) ≡ map spell (x ∷ xs)
 unfolding list_text
-spells-split x xs = split-join 44 (spell x) (map spell xs) (spells-without (x ∷ xs))
+spells-split x xs = split-join 44 (spell x) (map spell xs) (spells-without 44 (digit_low 44 (omega arith)) (x ∷ xs))
 
 dash-no-number : is_number dash ≡ false
 unfolding is_number starts_well all_digits is_digit

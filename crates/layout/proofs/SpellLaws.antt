@@ -204,6 +204,9 @@ digits-without b (x ∷ p) h e =
 pub number-without : (b : ℕ) (p : List ℕ) → is_digit b ≡ false → is_number p ≡ true → without b p ≡ true
 number-without b p h e = digits-without b p h (number_digits p e)
 
+pub spell-without : (b n : ℕ) → is_digit b ≡ false → without b (spell n) ≡ true
+spell-without b n h = number-without b (spell n) h (number-spell n)
+
 -- ---- a field is the spelling of n, as it is read below n + 1
 module _ (n : ℕ) (f : List ℕ) where
   not-spelling : (value f ≡ n → ⊥) → same f (spell n) ≡ false

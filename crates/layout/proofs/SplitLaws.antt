@@ -7,7 +7,7 @@ use native.Mathlib.Omega.{arith}
 use mathlib.Core.Path.{◌≡◌, refl, sym, ap, ◌∙◌}
 use mathlib.Core.Bool.{Bool, true, false, cond, not, ◌&&◌}
 use mathlib.Core.List.{List, [], ◌∷◌, ◌++◌}
-use lib.ListN.{length, get_or, take, drop, length-drop, drop_of_length-le}
+use lib.ListN.{length, get_or, take, drop, length-append, length-drop, drop_of_length-le}
 use lib.Seq.{drop-drop, take_all, length-take-le}
 use lib.Dec.{eqb}
 use borrow.Author.Tests.{eq-eqb, ne_eqb, not-true, lt-ltb, le-ltb}
@@ -246,6 +246,24 @@ split-join b p [] e = split-clean b p (and_left (without b p) true e)
 split-join b p (q ∷ ps) e =
     split-append b p (join b (q ∷ ps)) (and_left (without b p) (all_without b (q ∷ ps)) e)
     ∙ ap (λ (l : List (List ℕ)). p ∷ l) (split-join b q ps (and_right (without b p) (all_without b (q ∷ ps)) e))
+
+-- parts without b, joined by another byte
+pub join-without : (b c : ℕ) → (b ≡ c → ⊥) → (ps : List (List ℕ)) → all_without b ps ≡ true → without b (join c ps) ≡ true
+unfolding join all_without without
+join-without b c h [] e = refl
+join-without b c h (p ∷ []) e = and_left (without b p) true e
+join-without b c h (p ∷ q ∷ ps) e =
+    without-append b p (c ∷ join c (q ∷ ps)) (and_left (without b p) (all_without b (q ∷ ps)) e)
+    (rw (ne_eqb c b (λ k. h (sym k))) (join-without b c h (q ∷ ps) (and_right (without b p) (all_without b (q ∷ ps)) e)))
+
+-- how long parts are that are joined
+pub join_one : (b : ℕ) (p : List ℕ) → length (join b (p ∷ [])) ≡ length p
+unfolding join
+join_one b p = refl
+
+pub join_more : (b : ℕ) (p q : List ℕ) (ps : List (List ℕ)) → length (join b (p ∷ q ∷ ps)) ≡ length p + 1 + length (join b (q ∷ ps))
+unfolding join
+join_more b p q ps = omega (arith, length-append p (b ∷ join b (q ∷ ps)))
 
 split-some-by : (x : ℕ) (l : List (List ℕ)) (t : Bool) → 0 < length l → 0 < length (cond t ([] ∷ l) (on_first x l))
 unfolding on_first

@@ -72,6 +72,7 @@ pub fn read_list(field: &[u8], bound: u64, items: &mut [u32]) -> Result<usize, L
 }
 
 // An item of a list, of any width.
+// Kept: no `Into<u32>`: its `converts` is a relation, and the clauses need the number itself (`map T.number`).
 pub trait Item {
     // The number that is written for it.
     ghost number: { Self → ℕ };

@@ -15,10 +15,8 @@ pub fn is_word(field: &[u8], word: &[u8]) -> bool
 pub fn named<T: Copy>(field: &[u8], table: &[(&[u8], T)]) -> Option<T>
     ensures { result ≡ named field.now table.now }
 {
-    for (word, meaning) in table {
-        if is_word(field, word) {
-            return Some(*meaning);
-        }
-    }
-    None
+    table
+        .iter()
+        .find(|(word, _)| is_word(field, word))
+        .map(|(_, meaning)| *meaning)
 }

@@ -37,6 +37,7 @@ fn say_written<W: Write>(out: &mut W, items: &[u32]) -> io::Result<()> {
 fn say_list<W: Write>(out: &mut W, field: &[u8]) -> io::Result<()> {
     let mut items = [0u32; 4];
     match read_list(field, 4, &mut items) {
+        // Four at most, so no item is left out; the `min` only lets that be known here.
         Ok(n) => {
             write!(out, "list of {n}")?;
             say_written(out, &items[..n.min(4)])
@@ -92,7 +93,7 @@ fn parts<W: Write>(out: &mut W, items: &[u32], from: usize, to: usize) -> io::Re
 fn thousand() -> [u32; 1000] {
     let mut items = [0u32; 1000];
     let mut v = u32::MAX;
-    for item in items.iter_mut() {
+    for item in &mut items {
         *item = v;
         v = if v == 0 { u32::MAX } else { v / 2 };
     }

@@ -251,15 +251,15 @@ module _ (s : State) where
         changed-law s _ Pop number refl refl (omega arith) (omega arith)
         (λ o k. slice-tail s.numbers s.head s.tail ∙ sym (untop-is o.kind (held s) ∙ rw (k.newest ∙ n)))
 
-    module _ (room : s.tail ≤ length s.numbers) where
+    module _ (len : length s.numbers ≡ 65) where
       newest-last : held s ≡ slice s.head (s.tail - 1) s.numbers ++ (get_or s.numbers (s.tail - 1) 0 ∷ [])
       newest-last =
           let e : s.tail ≡ s.tail - 1 + 1 = omega arith in
           ap (λ (t : ℕ). slice s.head t s.numbers) e
-          ∙ slice_snoc s.numbers s.head (s.tail - 1) (omega arith) (omega arith)
+          ∙ slice_snoc s.numbers s.head (s.tail - 1) (omega arith) (omega (arith, s.room))
 
       oldest-first : held s ≡ get_or s.numbers s.head 0 ∷ slice (suc s.head) s.tail s.numbers
-      oldest-first = slice-cons s.head s.tail s.numbers 0 lt room
+      oldest-first = slice-cons s.head s.tail s.numbers 0 lt (omega (arith, s.room))
 
       pub pop-newest : s.newest ≡ true → {h : s.head ≤ s.tail - 1} {t : s.tail - 1 ≤ 65} → (number : ℕ)
           → Changed s Pop number (between s s.numbers s.head (s.tail - 1) h t)
@@ -273,39 +273,37 @@ module _ (s : State) (a : Given) where
   unfolding contents_of given_of
   shows-law l g e =
       record {
-        few = g.few;
         values = λ vs o k. ap (map (value_in vs)) (g.numbers ∙ e o k) ∙ map-top (value_in vs) o.kind (held s);
       }
 
   pub shows-none : s.head ≡ s.tail → Names [] a → Shows s a
   shows-none empty g = shows-law [] g (λ o k. sym (ap (top o.kind) (none-held s empty) ∙ top-none o.kind))
 
-  module _ (lt : s.head < s.tail) (room : s.tail ≤ length s.numbers) where
+  module _ (lt : s.head < s.tail) (len : length s.numbers ≡ 65) where
     pub shows-newest : s.newest ≡ true → Names (get_or s.numbers (s.tail - 1) 0 ∷ []) a → Shows s a
     shows-newest n g =
-        shows-law _ g (λ o k. sym (top-is o.kind (held s) ∙ rw (k ∙ n, newest-last s lt room, snoc-last)))
+        shows-law _ g (λ o k. sym (top-is o.kind (held s) ∙ rw (k ∙ n, newest-last s lt len, snoc-last)))
 
     pub shows-oldest : s.newest ≡ false → Names (get_or s.numbers s.head 0 ∷ []) a → Shows s a
     shows-oldest n g =
-        shows-law _ g (λ o k. sym (top-is o.kind (held s) ∙ rw (k ∙ n, oldest-first s lt room)))
+        shows-law _ g (λ o k. sym (top-is o.kind (held s) ∙ rw (k ∙ n, oldest-first s lt len)))
 
   pub end-answers : (op : Op) (number : ℕ) → ((o : Object) (v : ℕ) (l : List ℕ) → top o.kind l ≡ gives o op v l) → Shows s a
       → Answered s op number a
   end-answers op number e g =
-      record { few = g.few; values = λ vs o k h. g.values vs o k.newest ∙ e o (value_in vs number) (contents_of vs s) }
+      record { values = λ vs o k h. g.values vs o k.newest ∙ e o (value_in vs number) (contents_of vs s) }
 
   pub none_answers : (op : Op) (number : ℕ) → ((o : Object) (v : ℕ) (l : List ℕ) → [] ≡ gives o op v l) → Names [] a
       → Answered s op number a
   unfolding given_of
   none_answers op number e g =
-      record { few = g.few; values = λ vs o k h. ap (map (value_in vs)) g.numbers ∙ e o (value_in vs number) (contents_of vs s) }
+      record { values = λ vs o k h. ap (map (value_in vs)) g.numbers ∙ e o (value_in vs number) (contents_of vs s) }
 
   -- a push answers its value where the object holds as many as it can
   pub push-answers : (number : ℕ) (b : Bool) → length s.numbers ≡ 65 → leb s.limit (s.tail - s.head) ≡ b
       → Names (cond b (number ∷ []) []) a → Answered s Push number a
   unfolding given_of
   push-answers number b len e g = record {
-    few = g.few;
     values = λ vs o k h.
         ap (map (value_in vs)) g.numbers
         ∙ map_back (value_in vs) b number
@@ -314,19 +312,18 @@ module _ (s : State) (a : Given) where
 
 -- ---- the copy of a read
 -- the first n values that the object holds, from the place `first` to the place `end`; the places behind them hold what they held
-pub read-answers : (s : State) (first end n : ℕ) (copied rest : List ℕ) → s.tail ≤ length s.numbers → first ≡ s.head → end ≡ s.tail
-    → n ≡ min (length (take (end - first) (drop first s.numbers))) 8 → copied ≡ take n (take (end - first) (drop first s.numbers)) → (number : ℕ)
-    → Answered s Read number (record { numbers = copied ++ rest; count = n })
+pub read-answers : (s : State) (first end n : ℕ) (copied rest : List ℕ) → length s.numbers ≡ 65 → first ≡ s.head → end ≡ s.tail
+    → n ≡ min (length (take (end - first) (drop first s.numbers))) 8 → copied ≡ take n (take (end - first) (drop first s.numbers)) → {few : n ≤ 8}
+    → (number : ℕ) → Answered s Read number (record { numbers = copied ++ rest; count = n; few = few })
 unfolding contents_of given_of
-read-answers s first end n copied rest room h t few copy number =
+read-answers s first end n copied rest len h t least copy {few} number =
     let t_is : s.tail ≡ s.head + (s.tail - s.head) = omega arith in
     let are : take (end - first) (drop first s.numbers) ≡ held s =
     rw (h, t) (sym (drop-take s.head (s.tail - s.head) s.numbers) ∙ ap (λ (k : ℕ). slice s.head k s.numbers) (sym t_is)) in
-    let n_is : n ≡ min (length (held s)) 8 = few ∙ ap (λ (l : List ℕ). min (length l) 8) are in
+    let n_is : n ≡ min (length (held s)) 8 = least ∙ ap (λ (l : List ℕ). min (length l) 8) are in
     let first-n : take n (copied ++ rest) ≡ take n (held s) =
     take_at copied rest n (ap length copy ∙ ap (λ (l : List ℕ). length (take n l)) are ∙ length-take-le n (held s) (omega (arith, n_is))) ∙ copy ∙ ap (take n) are in
     record {
-      few = omega (arith, n_is);
       values = λ vs o k e.
           ap (map (value_in vs)) (first-n ∙ take_all n (held s) (omega (arith, n_is, e refl, length-map (held s) (value_in vs))));
     }

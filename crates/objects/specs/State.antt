@@ -72,6 +72,5 @@ pub record Changed (s : State) (op : Op) (no : ℕ) (r : State) : Type 0 where
 -- The answer of a state to an op of the event with this number, whatever the values of the events are. Only a read needs that there
 -- are at most eight.
 pub record Answered (s : State) (op : Op) (no : ℕ) (r : Given) : Type 0 where
-  pub few : r.count ≤ 8
   pub values : (vs : List ℕ) (o : Object) → Suits o op s → (op ≡ Read → length (contents_of vs s) ≤ 8)
       → given_of vs r ≡ gives o op (value_in vs no) (contents_of vs s)

@@ -1,5 +1,5 @@
-// The state of an object in a replay: methods by value take an event and hand back state and answer (`step`), or one of the two
-// (`changed`, `answer`).
+// The state of an object in a replay: a method takes an event and hands back state and answer (`step`), or one of the two (`changed`,
+// `answer`).
 ghost use Rattle.std.specs.Prelude.{◌≡◌, ℕ, ◌-◌, ◌≤◌, ◌<◌, [], ◌∷◌, leb};
 
 use history::record::{EventNo, Kind, Object, Op};
@@ -30,12 +30,13 @@ pub struct EventOp {
     pub op: Op,
 }
 
-// The first `count` of the numbers: the events whose values are the answer.
+// The first `count` of the numbers, at most eight: the events whose values are the answer.
 // Kept: no heap, fixed memory.
 #[derive(Clone, Copy)]
 pub struct Given {
     pub numbers: [u8; 8],
     pub count: usize,
+    pub ghost few: { count ≤ 8 },
 }
 
 // The state after an event, and the answer.
@@ -106,6 +107,7 @@ impl State {
     }
 
     // Puts the event behind the newest, unless the object holds as many as it can.
+    // Kept: tail < 65 is asked where one more is put (four contracts); behind the last it is 65, so the type cannot say it.
     fn pushed(mut self, no: EventNo) -> State
         requires { self.tail < 65 }
         ensures { Changed self Op.Push no.0 result }
@@ -149,6 +151,7 @@ impl State {
     }
 
     // The state after the event.
+    // Kept: by value, here and in `step`: `Changed` speaks of the state before and the one after; `&mut self` would name both as well.
     pub fn changed(self, e: EventOp) -> State
         requires { self.tail < 65 }
         ensures { Changed self e.op e.no.0 result }
@@ -162,8 +165,8 @@ impl State {
     }
 
     // The value that pop takes and peek shows, if there is one.
-    fn ended(self) -> Given
-        ensures { Shows self result }
+    fn ended(&self) -> Given
+        ensures { Shows self.now result }
     {
         if self.head == self.tail {
             return Given::none();
@@ -176,8 +179,8 @@ impl State {
     }
 
     // The first eight values.
-    fn read(self) -> Given
-        ensures { (no : ℕ) → Answered self Op.Read no result }
+    fn read(&self) -> Given
+        ensures { (no : ℕ) → Answered self.now Op.Read no result }
     {
         let held = &self.numbers[usize::from(self.head)..usize::from(self.tail)];
         let count = held.len().min(8);
@@ -187,8 +190,8 @@ impl State {
     }
 
     // What a push answers: its value where the object holds as many as it can, and else nothing.
-    fn push_answer(self, no: EventNo) -> Given
-        ensures { Answered self Op.Push no.0 result }
+    fn push_answer(&self, no: EventNo) -> Given
+        ensures { Answered self.now Op.Push no.0 result }
     {
         if self.is_full() {
             Given::one(no.0)
@@ -198,8 +201,8 @@ impl State {
     }
 
     // What the event answers: at most the first eight.
-    pub fn answer(self, e: EventOp) -> Given
-        ensures { Answered self e.op e.no.0 result }
+    pub fn answer(&self, e: EventOp) -> Given
+        ensures { Answered self.now e.op e.no.0 result }
     {
         match e.op {
             Op::Write => Given::none(),

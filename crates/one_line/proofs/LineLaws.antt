@@ -11,20 +11,16 @@ use lib.Count.{ones, ones_in, ones_step}
 use lib.ListN.{length, length-append}
 use Rattle.std.proofs.lemmas.Nat.Bits.{bit_at_lowest, bit_at-suc}
 use borrow.Author.Tests.{ltb-true, eq-eqb, ne_eqb}
-use Rattle.layout.proofs.Cases.{by_bool, by-eq}
+use Rattle.layout.proofs.Cases.{by-eq}
 use Rattle.certificate.specs.declared.record.EventList.{EventList}
 use Rattle.certificate.specs.Record.{event_list_of}
 use Rattle.criteria.specs.Tests.{up_to, keep_if, keep, one}
 use Rattle.criteria.specs.OneLine.{tally, by_place}
 use Rattle.criteria.proofs.Lists.{and-true, mem-of-count, once-of-count, length-once, keep_append}
-use Rattle.criteria.proofs.OneLine.{count-by_place}
+use Rattle.criteria.proofs.OneLine.{tally-most, count-by_place}
 use Rattle.orders.specs.Rows.{in_row}
 
 -- ---- how many pass
-tally-few : (n : ℕ) (f : ℕ → Bool) → tally n f ≤ n
-tally-few zero f = omega arith
-tally-few (suc n) f = let few = tally-few n f in by_bool (f n) (λ t. rw t (omega arith)) (λ t. rw t (omega arith))
-
 tally-first : (n : ℕ) (f : ℕ → Bool) → tally (suc n) f ≡ one (f 0) + tally n (λ i. f (suc i))
 tally-first zero f = omega arith
 tally-first (suc n) f = ap (λ (k : ℕ). k + one (f (suc n))) (tally-first n f) ∙ add_assoc (one (f 0)) (tally n (λ i. f (suc i))) (one (f (suc n)))
@@ -63,7 +59,7 @@ ones-tally (suc k) m h =
     ∙ sym (tally-first k (in_row m))
 
 pub few-events : (row : ℕ) → tally 64 (in_row row) ≤ 64
-few-events row = tally-few 64 (in_row row)
+few-events row = tally-most 64 (in_row row)
 
 -- ---- the line
 module _ (n : ℕ) (at : ℕ → ℕ) where
@@ -122,10 +118,6 @@ module _ (n : ℕ) (at : ℕ → ℕ) where
   same_line m e q =
       ap event_list_of (rw (add-one e)
       (sym (line-more m e ∙ ap (λ (b : Bool). line_to m e ++ keep_if b e []) (ne_eqb (at e) m q) ∙ append-nil (line_to m e))))
-
-  -- none is tested yet
-  pub place-begins : (m : ℕ) → event_list_of (by_place n at m) ≡ event_list_of (line_to m 0)
-  place-begins m = ap event_list_of (sym (append-nil (by_place n at m)))
 
   -- there is room for it
   pub line-room : (m : ℕ) (l : EventList) → l ≡ event_list_of (by_place n at m) → n ≤ 64 → l.count ≤ 64

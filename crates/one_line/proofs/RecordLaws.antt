@@ -32,8 +32,9 @@ use Rattle.weakened.specs.declared.views.ViewRows.{ViewRows}
 use Rattle.weakened.specs.Steps.{view_rows_of}
 use Rattle.weakened.proofs.CausalLaws.{keep-below}
 use Rattle.orders.proofs.CutLaws.{entries-listed}
+use Rattle.weakened_records.specs.declared.records.ViewedRecord.{ViewedRecord}
 use Rattle.weakened_records.specs.Steps.{IsRecordOf}
-use Rattle.weakened_records.proofs.RecordLaws.{record-parts, is-record}
+use Rattle.weakened_records.proofs.RecordLaws.{record-made}
 use Rattle.one_line.specs.Steps.{update_in, unordered_to, crosses_at, place_in}
 use Rattle.one_line.proofs.UpdateLaws.{RowOf}
 use Rattle.one_line.proofs.LineLaws.{tally-same, tally-beyond}
@@ -109,9 +110,9 @@ module _ (h : WrittenHistory.History) (c : WrittenCertificate.Certificate) (view
 
   pub record_is : (l : EventList) → l ≡ event_list_of (one_line (history_of h) (order (history_of h) (certificate_of h c views)))
       → (pasts : List EventList) → pasts ≡ replicate 64 no_list → (made : ViewRows) → made ≡ view_rows_of (table 1 (λ _. entries_in l))
-      → IsRecordOf (in_one_line (history_of h) (certificate_of h c views)) (record { criterion = Sequential; pasts = pasts; lengths = made.lengths }) made.rows
-  record_is l q pasts p made a =
-      is-record _ Sequential [] (entries_in l ∷ []) _ made.rows
+      → (r : ViewedRecord) → (r.certificate ≡ record { criterion = Sequential; pasts = pasts; lengths = made.lengths }) × (r.views ≡ made.rows)
+      → IsRecordOf (in_one_line (history_of h) (certificate_of h c views)) r.certificate r.views
+  record_is l q pasts p made a r built =
+      record-made _ Sequential [] (entries_in l ∷ []) r pasts made built
       (lists-are (entries_in l) (entries-listed l _ q))
-      (record-parts Sequential pasts made.lengths [] (entries_in l ∷ []) (p ∙ sym (pad-none 64 no_list)) (ap (λ (x : ViewRows). x.lengths) a))
-      (ap (λ (x : ViewRows). x.rows) a)
+      (p ∙ sym (pad-none 64 no_list)) (ap (λ (x : ViewRows). x.rows) a) (ap (λ (x : ViewRows). x.lengths) a)

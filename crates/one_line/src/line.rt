@@ -40,17 +40,16 @@ pub(crate) fn places_of(order: &Order) -> [u8; 64]
     places
 }
 
-// The line of the events with places below m, and behind it those at m, rising.
-fn with_place(mut line: EventList, places: &[u8], m: u8) -> EventList
-    requires { (length places.now ≤ 64) × (line ≡ event_list_of (by_place (length places.now) (λ e. get_or places.now e 0) m)) }
-    ensures { result ≡ event_list_of (by_place (length places.now) (λ e. get_or places.now e 0) (suc m)) }
+// Puts the events at place m, rising, behind the line of those with places below m.
+fn with_place(line: &mut EventList, places: &[u8], m: u8)
+    requires { (length places.now ≤ 64) × (line.old ≡ event_list_of (by_place (length places.now) (λ e. get_or places.now e 0) m)) }
+    ensures { line.new ≡ event_list_of (by_place (length places.now) (λ e. get_or places.now e 0) (suc m)) }
 {
     for (e, place) in places.iter().enumerate() {
         if *place == m {
             line.push(e as u8);
         }
     }
-    line
 }
 
 // The events by their places.
@@ -60,7 +59,7 @@ pub(crate) fn by_place(places: &[u8]) -> EventList
 {
     let mut line = no_list();
     for m in 0..2 * places.len() + 2 {
-        line = with_place(line, places, m as u8);
+        with_place(&mut line, places, m as u8);
     }
     line
 }

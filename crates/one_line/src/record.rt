@@ -12,8 +12,7 @@ use crate::updates::crossing;
 use certificate::record::{Certificate, Criterion};
 use history::record::History;
 use weakened::sequential::whole_views;
-use weakened::views::ViewRows;
-use weakened_records::records::{ViewedRecord, no_pasts};
+use weakened_records::records::{ViewedRecord, no_pasts, record_of};
 
 // 26: whether the causal order leaves two updates unordered.
 pub fn crosses(h: &History, c: &Certificate) -> bool
@@ -30,13 +29,6 @@ pub fn line_record(h: &History, c: &Certificate) -> ViewedRecord
 {
     let places = places_of(&order_of(h, c));
     let line = by_place(&places[..h.count]);
-    let ViewRows { rows, lengths } = whole_views(&line.events[..line.count], 1);
-    ViewedRecord {
-        certificate: Certificate {
-            criterion: Criterion::Sequential,
-            pasts: no_pasts(),
-            lengths,
-        },
-        views: rows,
-    }
+    let views = whole_views(&line.events[..line.count], 1);
+    record_of(Criterion::Sequential, no_pasts(), views)
 }

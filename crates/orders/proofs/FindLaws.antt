@@ -31,6 +31,8 @@ lowest_first t n None h =
 lowest_first t n (Some k) h =
     sym (lowest-found n (λ i. found_if (t i) i) k k h.1 (λ i m. ap (λ (b : Bool). found_if b i) (h.3 i (omega arith) m)) (ap (λ (b : Bool). found_if b k) h.2))
 
+-- Kept: each search writes its test in an answer of its own, here and of `any-from_any`: tried with `using(..)` on `in_own_past` and
+-- `lacks_past`, and the search does not find the test.
 pub lowest-from_find : {F : Type 0} {g : Mut F (Bor ℕ × Unit {0}) Bool} (t : ℕ → Bool) (n : ℕ) (u : Range ℕ) (f : F) (r : Option ℕ)
     → (xs : List ℕ) × (j : F) × YieldsThen nat_range_steps record { start = 0; end = n } xs r u × FoldsTo (λ p x q. CalledAt g p x false q) f xs j
     × MatchOption r ⊤ (λ x. (h : F) × CalledAt g j x true h)

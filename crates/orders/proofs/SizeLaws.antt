@@ -11,13 +11,6 @@ use Rattle.criteria.specs.Check.{lacks_past, not_its_set}
 use Rattle.criteria.proofs.Lists.{count-out}
 use Rattle.orders.proofs.BitLaws.{any_same}
 
-pub and_no : (a b : Bool) → a ≡ false → (a && b) ≡ false
-and_no true b e = absurd-by e
-  where
-    absurd-by : true ≡ false → b ≡ false
-    absurd-by p = cc
-and_no false b e = refl
-
 -- a test that passes nowhere from n on
 pub any-fewer : (m n : ℕ) (f : ℕ → Bool) → n ≤ m → ((k : ℕ) → n ≤ k → f k ≡ false) → any m f ≡ any n f
 any-fewer zero n f h out = let z : n ≡ zero = omega arith in rw z
@@ -34,9 +27,9 @@ module _ (n : ℕ) (few : n ≤ 64) (R : ℕ → ℕ → Bool) (inside : (a b : 
   pub past-size : (e : ℕ) → lacks_past 64 R e ≡ lacks_past n R e
   unfolding lacks_past
   past-size e =
-      any-fewer 64 n (λ f. R f e && any 64 (λ g. R g f && not (R g e))) few (λ f h. and_no (R f e) _ (outside f e h))
+      any-fewer 64 n (λ f. R f e && any 64 (λ g. R g f && not (R g e))) few (λ f h. rw (outside f e h) refl)
       ∙ any_same n (λ f. R f e && any 64 (λ g. R g f && not (R g e))) (λ f. R f e && any n (λ g. R g f && not (R g e)))
-      (λ f l. ap (λ (t : Bool). R f e && t) (any-fewer 64 n (λ g. R g f && not (R g e)) few (λ g h. and_no (R g f) _ (outside g f h))))
+      (λ f l. ap (λ (t : Bool). R f e && t) (any-fewer 64 n (λ g. R g f && not (R g e)) few (λ g h. rw (outside g f h) refl)))
 
 -- a set and a view of events below n
 pub set-size : (n : ℕ) → n ≤ 64 → (P : ℕ → Bool) (v : List ℕ) → ((e : ℕ) → P e ≡ true → e < n) → ((e : ℕ) → mem e v ≡ true → e < n)

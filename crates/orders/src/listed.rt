@@ -16,7 +16,7 @@ pub fn past_rows(pasts: &[EventList]) -> [u64; 64]
     let mut rows = [0; 64];
     for (i, past) in pasts.iter().enumerate() {
         let listed = View {
-            events: &past.events[..past.count],
+            events: past.entries(),
         };
         rows[i] = listed.marks();
     }

@@ -18,6 +18,7 @@ pub struct View<'a> {
 }
 
 // The views of a certificate, each with its number: row k has the entries of view k first, lengths[k] of them.
+// Kept: rows and lengths apart, as a certificate's record and rows are (`certificate_of`, `fits`); one slice of both would be a copy.
 #[derive(Clone, Copy)]
 pub struct Views<'a> {
     pub rows: &'a [[u8; 64]],

@@ -1,14 +1,15 @@
 -- Laws of a view that goes on from another: only the answers that are visible in the rest can be wrong. Assumes nothing.
-use Prim.Native.Nat.{ℕ, zero, suc, ◌+◌, ◌<◌}
+use Prim.Native.Nat.{ℕ, ◌+◌, ◌<◌}
 use native.Mathlib.Omega.{arith}
 use mathlib.Core.Path.{◌≡◌, refl, ap, sym, ◌∙◌}
-use mathlib.Core.Bool.{Bool, true, not, ◌&&◌, false≢true}
+use mathlib.Core.Bool.{Bool, true, false, not, ◌&&◌, false≢true}
 use mathlib.Core.List.{List, [], ◌∷◌, ◌++◌}
 use mathlib.Core.Option.{Option, none, some}
-use lib.ListN.{length, get_or, drop, replicate}
+use lib.ListN.{length, get_or, drop}
 use lib.Seq.{get_or-drop}
-use Rattle.std.proofs.Common.{length-drop, None, MatchOption}
+use Rattle.std.proofs.Common.{length-drop, MatchOption}
 use Rattle.std.specs.Prelude as std
+use Rattle.std.specs.Bool.{then_some}
 use borrow.Author.Tests.{eq-eqb, eqb-true}
 use Rattle.history.specs.declared.record.EventNo.{EventNo}
 use Rattle.history.specs.declared.record.ProcessNo.{ProcessNo}
@@ -26,7 +27,8 @@ use Rattle.replayed_views.specs.Steps.{shows_of, GoesOn, Decides}
 use Rattle.replays.proofs.ReplayLaws.{event-at}
 use Rattle.replays.proofs.HistoryLaws.{wrong-same}
 
-or_assoc : (a b c : Option ℕ) → or a (or b c) ≡ or (or a b) c
+-- the first of three, either way
+pub or_assoc : {A : Type 0} (a b c : Option A) → or a (or b c) ≡ or (or a b) c
 or_assoc none b c = refl
 or_assoc (some x) b c = refl
 
@@ -52,6 +54,12 @@ module _ (h : History) where
       ∙ sym (wrong-append (only e) s v w)
 
 -- ---- the event that decides a view
+-- what holds of an event that passes its test holds of the one that is handed back
+pub match-then : (P : EventNo → Type 0) (b : Bool) (e : EventNo) {found : std.Option EventNo} → found ≡ then_some b e → (b ≡ true → P e)
+    → MatchOption found (Unit {0}) P
+match-then P true e is holds = rw is (holds refl)
+match-then P false e is holds = rw is tt
+
 pub decides-only : (h : LightHistory) (before : Visible) (v : List ℕ) (f : EventNo) (w : List ℕ) → Decides h before v (Only f) w f.0
 unfolding Decides
 decides-only h before v f w s _ = refl

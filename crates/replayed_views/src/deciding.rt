@@ -36,6 +36,8 @@ fn shows(who: Visible, p: ProcessNo) -> bool
 }
 
 // A view, and whose answers are visible in it.
+// Kept: a slice, as `Ready` and `Decides` speak of its entries; `alone` asks about the rest behind the earlier view, and a `View` of that
+// rest would be made and proved again.
 #[derive(Clone, Copy)]
 pub(crate) struct ShownView<'a> {
     pub view: &'a [u8],
@@ -52,23 +54,13 @@ pub(crate) fn deciding(
     requires { (history.now.size ≤ 64) × (k < 64) × ((i : ℕ) → i < length this.view.now → get_or this.view.now i 0 < history.now.size) }
     ensures { MatchOption result Unit (λ e. (e.0 < history.now.size) × Decides history.now before.entry.seen before.entry.view.now this.entry.seen this.entry.view.now e.0) }
 {
+    let own = EventNo(k as u8);
     match this.seen {
-        Visible::All => None,
-        Visible::Of(p) => {
-            let e = EventNo(k as u8);
+        Visible::Of(p)
             if k < history.size
                 && shows(before.seen, p)
-                && goes_on(&history.events, before.view, this.view, p, e)
-            {
-                return Some(e);
-            }
-            None
-        }
-        Visible::Only(e) => {
-            if usize::from(e.0) < history.size {
-                return Some(e);
-            }
-            None
-        }
+                && goes_on(&history.events, before.view, this.view, p, own) => { Some(own) }
+        Visible::Only(e) => (usize::from(e.0) < history.size).then_some(e),
+        _ => None,
     }
 }

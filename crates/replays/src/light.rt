@@ -47,7 +47,6 @@ impl LightHistory {
 
     // Whether the recorded answer is what the state gives; one that was lost fits whatever it gives.
     pub fn fits_given(&self, answer: &Answer, given: &Given) -> bool
-        requires { given.now.count ≤ 8 }
         ensures { result ≡ fits (recorded_in answer.now) (given_of self.now.values given.now) }
     {
         answer.lost
@@ -62,14 +61,14 @@ impl LightHistory {
 fn never_answers(kind: Kind, op: Op) -> bool
     ensures { result ≡ never_answers kind op }
 {
-    takes_value(op) & !is_channel(kind)
+    takes_value(op) && !is_channel(kind)
 }
 
 // Whether the answer was lost, or has no value and the op never answers.
 fn is_silent(kind: Kind, op: Op, answer: Answer) -> bool
     ensures { result ≡ is_silent kind op answer }
 {
-    answer.lost | (never_answers(kind, op) & (answer.count == 0))
+    answer.lost || (never_answers(kind, op) && answer.count == 0)
 }
 
 // The light record of an event whose object is of the kind.

@@ -52,6 +52,7 @@ fn asks(who: Visible, e: Light, no: EventNo) -> bool
 }
 
 // The first event of the view whose visible answer the replay does not give.
+// Kept: `Ready` in four contracts: a ghost field for its part on the history would ask `within` of `light_history`, which asks less.
 pub fn replay(
     history: &LightHistory,
     starts: [State; 16],

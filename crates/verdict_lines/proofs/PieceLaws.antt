@@ -34,11 +34,6 @@ criterion_short Converge = omega arith
 criterion_short Sequential = omega arith
 criterion_short Strict = omega arith
 
-pub text-short : (t : Text) → length (text_word t) ≤ 11
-text-short Neither = omega arith
-text-short HistoryText = omega arith
-text-short CertificateText = omega arith
-
 one-long : (f g : List ℕ) (fs : List (List ℕ)) → length f ≤ 11 → length (pieces_text (f ∷ g ∷ fs)) ≤ 12 + length (pieces_text (g ∷ fs))
 unfolding pieces_text
 one-long f g fs h = omega (arith, length-append f (32 ∷ pieces_text (g ∷ fs)))

@@ -59,7 +59,7 @@ impl fields::Field for Field {
 fn number_field(n: Option<u32>) -> Field
     ensures { (result ≡ number_field (option_in n)) × (length (field_text result) ≤ 11) }
 {
-    n.map_or(Field::Dash, |n| Field::Number(n))
+    n.map_or(Field::Dash, Field::Number)
 }
 
 // The number of a view, or a dash for none.
@@ -81,7 +81,7 @@ fn event_field(event: Option<EventNo>) -> Field
 fn criterion_field(c: Option<Criterion>) -> Field
     ensures { (result ≡ criterion_field (option_in c)) × (length (field_text result) ≤ 11) }
 {
-    c.map_or(Field::Dash, |c| Field::Criterion(c))
+    c.map_or(Field::Dash, Field::Criterion)
 }
 
 // The text of a place, or a dash for none.
@@ -92,7 +92,7 @@ fn text_field(place: Option<Place>) -> Field
 }
 
 // The line of a place, or a dash for none.
-// Kept: that the line is small, in three contracts: only the two numbers of the interface need it, this one and that in `places_of`.
+// Kept: `line ≤ 4294967294` of three contracts is a bound of one number, for the one cast here; a type for it would be opened at once.
 fn line_field(place: Option<Place>) -> Field
     requires { (place_in place).line ≤ 4294967294 }
     ensures { (result ≡ number_field (line_of (place_in place))) × (length (field_text result) ≤ 11) }

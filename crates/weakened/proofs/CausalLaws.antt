@@ -9,9 +9,9 @@ use Rattle.history.specs.Record.{pad}
 use Rattle.history.proofs.PadLaws.{take-pad}
 use Rattle.certificate.specs.declared.record.EventList.{EventList}
 use Rattle.certificate.specs.Record.{event_list_of}
-use Rattle.criteria.specs.Tests.{highest, up_to, keep, one, mem, place}
+use Rattle.criteria.specs.Tests.{highest, up_to, keep, mem, place}
 use Rattle.criteria.specs.Weaken.{completed}
-use Rattle.criteria.proofs.Lists.{by-test, or-true, count-append, count-keep, count-up_to, count-out, mem-append, mem-keep, mem-up_to, keep_append, place_in, Once, length-once}
+use Rattle.criteria.proofs.Lists.{by-test, or-true, count-append, count-keep, count-up_to, count-out, mem-append, mem-keep, mem-up_to, keep_append, place_in, Once, one-le, length-once}
 use Rattle.orders.specs.Rows.{in_row}
 use Rattle.layout.proofs.Cases.{by-eq}
 use Rattle.weakened.specs.Steps.{last_in}
@@ -113,11 +113,7 @@ module _ (n : ℕ) (v : List ℕ) (entries : (i : ℕ) → i < length v → get_
   unfolding completed
   completed-once e =
       rw (count-append e v (keep (λ f. not (mem f v)) (up_to n)), count-keep (λ f. not (mem f v)) e (up_to n), count-up_to e n)
-      (by-test (mem e v) (λ t. rw t (omega (arith, once e))) (λ t. rw (t, count-out e v t) (omega (arith, one-few (ltb e n)))))
-    where
-      one-few : (b : Bool) → one b ≤ 1
-      one-few true = omega arith
-      one-few false = omega arith
+      (by-test (mem e v) (λ t. rw t (omega (arith, once e))) (λ t. rw (t, count-out e v t) (omega (arith, one-le (ltb e n)))))
 
   completed-few : length (completed n v) ≤ n
   completed-few = length-once n (completed n v) completed-below completed-once

@@ -52,19 +52,19 @@ module _ (e : ℕ) (v : List ℕ) where
 
 -- ---- the parts of a view
 module _ (e : ℕ) (v : List ℕ) where
-  pub before-some : (k : ℕ) → Some k ≡ position (λ x. eqb x e) v → (take k v ≡ take (place e v) v) × (length (take k v) ≤ length v)
-  before-some k q = (ap (λ (i : ℕ). take i v) (place-some e v k q).0, length-take-le_length k v)
+  pub before_some : (k : ℕ) → Some k ≡ position (λ x. eqb x e) v → (take k v ≡ take (place e v) v) × (length (take k v) ≤ length v)
+  before_some k q = (ap (λ (i : ℕ). take i v) (place-some e v k q).0, length-take-le_length k v)
 
-  pub before-none : ◌≡◌ {A = Option ℕ} None (position (λ x. eqb x e) v) → (v ≡ take (place e v) v) × (length v ≤ length v)
-  before-none q = (sym (take_all (place e v) v (place-none e v q)), omega arith)
+  pub before_none : ◌≡◌ {A = Option ℕ} None (position (λ x. eqb x e) v) → (v ≡ take (place e v) v) × (length v ≤ length v)
+  before_none q = (sym (take_all (place e v) v (place-none e v q)), omega arith)
 
-  pub up-to-some : (k : ℕ) → Some k ≡ position (λ x. eqb x e) v → (take (k + 1) v ≡ up_to_in v e) × (length (take (k + 1) v) ≤ length v)
+  pub up_to_some : (k : ℕ) → Some k ≡ position (λ x. eqb x e) v → (take (k + 1) v ≡ up_to_in v e) × (length (take (k + 1) v) ≤ length v)
   unfolding up_to_in
-  up-to-some k q = (rw add-one (ap (λ (i : ℕ). take (suc i) v) (place-some e v k q).0), length-take-le_length (k + 1) v)
+  up_to_some k q = (rw add-one (ap (λ (i : ℕ). take (suc i) v) (place-some e v k q).0), length-take-le_length (k + 1) v)
 
-  pub up-to-none : ◌≡◌ {A = Option ℕ} None (position (λ x. eqb x e) v) → (v ≡ up_to_in v e) × (length v ≤ length v)
+  pub up_to_none : ◌≡◌ {A = Option ℕ} None (position (λ x. eqb x e) v) → (v ≡ up_to_in v e) × (length v ≤ length v)
   unfolding up_to_in
-  up-to-none q = (sym (take_all (suc (place e v)) v (let l = place-none e v q in omega (arith, l))), omega arith)
+  up_to_none q = (sym (take_all (suc (place e v)) v (let l = place-none e v q in omega (arith, l))), omega arith)
 
 -- ---- the numbers below e that pass, rising: one more, which passes or not
 module _ (f : ℕ → Bool) (e : ℕ) where

@@ -37,7 +37,7 @@ fn completed_view(view: &View, n: usize) -> EventList
     ensures { (result ≡ event_list_of (completed n view.now.events.now)) × (result.count ≤ 64) }
 {
     let behind = rising(others(view.marks()), n);
-    joined(view.events, &behind.events[..behind.count])
+    joined(view.events, behind.entries())
 }
 
 // The view of the last event, by the processes of the events, that is of process p, completed; the first view where there is none.

@@ -32,6 +32,7 @@ pub(crate) fn place_of(numbers: &[u8], e: u8) -> Option<usize>
 
 // The part of the view before the event; the whole view where it does not stand there.
 // Kept: not one function with `up_to_event`: it would take a flag.
+#[tactic(auto, using(crate::proofs::ListLaws::before_none))]
 pub(crate) fn before_event(view: &[u8], e: u8) -> &[u8]
     ensures { (result.now ≡ take (place e view.now) view.now) × (length result.now ≤ length view.now) }
 {
@@ -42,6 +43,7 @@ pub(crate) fn before_event(view: &[u8], e: u8) -> &[u8]
 }
 
 // The part of the view up to and with the event; the whole view where it does not stand there.
+#[tactic(auto, using(crate::proofs::ListLaws::up_to_none))]
 pub(crate) fn up_to_event(view: &[u8], e: u8) -> &[u8]
     ensures { (result.now ≡ up_to_in view.now e) × (length result.now ≤ length view.now) }
 {

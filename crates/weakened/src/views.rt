@@ -8,6 +8,7 @@ ghost use Rattle.weakened.specs.Steps.{view_rows_of};
 use certificate::record::EventList;
 
 // The rows of views, and how many events each view has.
+// Kept: no heap, fixed memory; rows and lengths apart, as `rows_of` and the `lengths` of a `Certificate` have them.
 #[derive(Clone, Copy)]
 pub struct ViewRows {
     pub rows: [[u8; 64]; 64],

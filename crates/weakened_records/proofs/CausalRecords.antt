@@ -36,7 +36,7 @@ use Rattle.weakened.proofs.CausalLaws.{last-below}
 use Rattle.orders.proofs.ViewLaws.{view-first, views-first}
 use Rattle.certificate.proofs.NumberingLaws.{numbers-in}
 use Rattle.faults.proofs.CheckLaws.{process-of, event-views, view-same}
-use Rattle.weakened_records.proofs.PassedLaws.{size-passed, few-passed, few-numbers, pasts-passed, lengths-passed, rows-passed, good-passed}
+use Rattle.weakened_records.proofs.PassedLaws.{size-passed, few_passed, few-numbers, pasts-passed, lengths-passed, rows-passed, good-passed}
 use Rattle.weakened_records.proofs.RecordLaws.{record-made, same-criterion}
 use Rattle.weakened_records.specs.Steps.{Passed, IsRecordOf}
 
@@ -87,7 +87,7 @@ module _ (h : WrittenHistory.History) (c : WrittenCertificate.Certificate) (rows
 
   -- the views of the events are lists of events, none twice
   pub lists-events : EventViews rows c.lengths h.count h.count
-  lists-events = event-views h p.history c rows p.certificate (few-numbers h c rows p c.criterion) h.count (few-passed h c rows p)
+  lists-events = event-views h p.history c rows p.certificate (few-numbers h c rows p c.criterion) h.count (few_passed h c rows p)
 
   pub lists-once : (k : ℕ) → k < h.count → Once (view_at rows c.lengths k)
   lists-once k l = rw (view-is k l) (view-once k l)
@@ -105,7 +105,7 @@ module _ (h : WrittenHistory.History) (c : WrittenCertificate.Certificate) (rows
     named-is = numbers-in named _ numbered
 
     events-long : length qs ≡ h.count
-    events-long = length-take-le h.count ps (omega (arith, long, few-passed h c rows p))
+    events-long = length-take-le h.count ps (omega (arith, long, few_passed h c rows p))
 
     pub none-without : length qs ≡ 0 → length ns ≡ 0
     none-without z = ap length named-is ∙ no-views h.count h.events (omega (arith, z, events-long))
@@ -131,7 +131,7 @@ module _ (h : WrittenHistory.History) (c : WrittenCertificate.Certificate) (rows
         highest-below h.count (λ e. eqb (get_or qs e 0) k) (own (history_of h) k)
         (λ e l.
         ap (λ (x : ℕ). eqb x k)
-        (get_or-take h.count ps e 0 l ∙ agree e (omega (arith, l, few-passed h c rows p)) ∙ sym (process-of h p.history e l) ∙ get_or-map (λ (x : Event). x.process) (history_of h).events e _))
+        (get_or-take h.count ps e 0 l ∙ agree e (omega (arith, l, few_passed h c rows p)) ∙ sym (process-of h p.history e l) ∙ get_or-map (λ (x : Event). x.process) (history_of h).events e _))
         ∙ ap (λ (n : ℕ). highest n (own (history_of h) k)) (sym (size-passed h c rows p))
 
     views-count : length ns ≡ view_count Pram (history_of h)

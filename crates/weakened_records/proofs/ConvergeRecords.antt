@@ -24,7 +24,7 @@ use Rattle.orders.specs.Rows.{in_row, in_rows, IsOrder}
 use Rattle.weakened.specs.declared.views.ViewRows.{ViewRows}
 use Rattle.weakened.specs.Steps.{lengths_of, view_rows_of}
 use Rattle.weakened_records.specs.declared.records.ViewedRecord.{ViewedRecord}
-use Rattle.weakened_records.proofs.PassedLaws.{size-passed, few-passed, pasts-passed, one-begins}
+use Rattle.weakened_records.proofs.PassedLaws.{size-passed, few_passed, pasts-passed, one-begins}
 use Rattle.weakened_records.proofs.RecordLaws.{record-made, same-criterion, pasts-order}
 use Rattle.weakened_records.specs.Steps.{Passed, IsRecordOf}
 
@@ -58,7 +58,7 @@ module _ (h : WrittenHistory.History) (c : WrittenCertificate.Certificate) (rows
         → IsRecordOf (weakened Weak (history_of h) (certificate_of h c rows)) r.certificate r.views
     converge-record r made built long m =
         let all =
-        ap (λ (n : ℕ). cut_views n (in_rows (take h.count rows_of_lem)) (take h.count (get_or rows 0 []))) (length-take-le h.count rows_of_lem (omega (arith, long, few-passed h c rows p)))
+        ap (λ (n : ℕ). cut_views n (in_rows (take h.count rows_of_lem)) (take h.count (get_or rows 0 []))) (length-take-le h.count rows_of_lem (omega (arith, long, few_passed h c rows p)))
         ∙ rows-first h.count rows_of_lem (take h.count (get_or rows 0 []))
         ∙ views-are in
         record-made _ Weak _ _ r c.pasts made built (converge-weak (history_of h) (certificate_of h c rows) (same-criterion h c rows Converge q))

@@ -66,11 +66,11 @@ module _ (h : History) (c : WrittenCertificate.Certificate) (rows : List (List �
   pub size-passed : size (history_of h) ≡ h.count
   size-passed = size_of h p.history
 
-  pub few-passed : h.count ≤ 64
-  few-passed = few-of h p.history
+  pub few_passed : h.count ≤ 64
+  few_passed = few-of h p.history
 
   pub few-events : length (events_in h) ≤ 64
-  few-events = omega (arith, (within-sound h p.history).events, few-passed)
+  few-events = omega (arith, (within-sound h p.history).events, few_passed)
 
   pub processes-passed : FewProcesses (history_of h)
   processes-passed = few-processes h (within-sound h p.history)
@@ -138,14 +138,14 @@ module _ (h : History) (c : WrittenCertificate.Certificate) (rows : List (List �
     pub one-long : length (take h.count (get_or rows 0 [])) ≡ h.count
     one-long = ap length one-begins ∙ all-length h.count (get_or (certificate_of h c rows).views 0 []) one-view
 
-    pub one-few : length (take h.count (get_or rows 0 [])) ≤ 64
-    one-few = omega (arith, one-long, few-passed)
+    pub one_few : length (take h.count (get_or rows 0 [])) ≤ 64
+    one_few = omega (arith, one-long, few_passed)
 
-    pub one-entries : (k : ℕ) → k < length (take h.count (get_or rows 0 [])) → get_or (take h.count (get_or rows 0 [])) k 0 < 64
-    one-entries k i =
+    pub one_entries : (k : ℕ) → k < length (take h.count (get_or rows 0 [])) → get_or (take h.count (get_or rows 0 [])) k 0 < 64
+    one_entries k i =
         let l : k < h.count = omega (arith, i, one-long) in
         let e = (event-views h p.history c rows p.certificate (few-numbers c.criterion) 1 (omega arith)).entries 0 (omega arith) k (omega (arith, l, one-length)) in
-        rw (get_or-take h.count (get_or rows 0 []) k 0 l) (omega (arith, e, few-passed))
+        rw (get_or-take h.count (get_or rows 0 []) k 0 l) (omega (arith, e, few_passed))
 
     pub one_holds : (e : ℕ) → e < length (take h.count (get_or rows 0 [])) → mem e (take h.count (get_or rows 0 [])) ≡ true
     unfolding IsView

@@ -112,9 +112,6 @@ other-lists w other h c v n m q b k l =
     go Strict e u = refl
 
 -- ---- to itself
-pub sequential-stays : (w : Criterion) → w ≡ Sequential → is_pair Sequential w ≡ true → w ≡ Sequential
-sequential-stays w e t = e
-
 pub causal-stays : (w : Criterion) → (w ≡ Pram → ⊥) → (w ≡ Weak → ⊥) → is_pair Causal w ≡ true → w ≡ Causal
 causal-stays Pram a b t = absurd (a refl)
 causal-stays Weak a b t = absurd (b refl)

@@ -29,7 +29,6 @@ use Rattle.criteria.proofs.RecordLaws.{processes-are, view-count}
 use Rattle.orders.specs.Rows.{view_at}
 use Rattle.orders.proofs.ViewLaws.{view-first}
 use Rattle.certificate.proofs.NumberingLaws.{numbers-in}
-use Rattle.faults.proofs.RecordFacts.{numbers-long}
 use Rattle.faults.proofs.CheckLaws.{few-of, process-at, view-same}
 use Rattle.weakened.specs.declared.views.ViewRows.{ViewRows}
 use Rattle.weakened.specs.Steps.{lengths_of, view_rows_of}
@@ -102,15 +101,15 @@ module _ (h : WrittenHistory.History) (c : WrittenCertificate.Certificate) (rows
         (process-listed (history_of h) e (processes-passed h c rows p) (omega (arith, l, size-passed h c rows p))) in
         omega (arith, z.0, slot_is e l, views-count)
 
-    view-is : (k : ℕ) → k < length ns → view_at (take named.count rows) (take named.count c.lengths) k ≡ get_or vs k []
+    view-is : (k : ℕ) → k < length ns → view_at (take (length ns) rows) (take (length ns) c.lengths) k ≡ get_or vs k []
     unfolding certificate_of
     view-is k l =
-        view-first rows c.lengths named.count k (omega (arith, l, numbers-long named _ numbered))
+        view-first rows c.lengths (length ns) k l
         ∙ view-same h p.history c rows p.certificate (few-numbers h c rows p c.criterion) (length ns)
         (ap length (numbers-in named _ numbered) ∙ ap (λ (w : Criterion). length (view_numbers w (events_in h))) (sym q)) k l
 
     abbrev made_at : ℕ → List ℕ
-    made_at e = up_to_in (view_at (take named.count rows) (take named.count c.lengths) (slot_at e)) e
+    made_at e = up_to_in (view_at (take (length ns) rows) (take (length ns) c.lengths) (slot_at e)) e
 
     views-are : table (length qs) made_at ≡ table (size (history_of h)) (own_part (history_of h) vs)
     unfolding own_part

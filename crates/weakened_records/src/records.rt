@@ -1,5 +1,5 @@
 // The record of a weakened certificate, with the rows of its views beside it.
-ghost use Rattle.std.specs.Prelude.{◌≡◌, ℕ, ◌≤◌, ◌<◌, true, cond, [], map, length, replicate};
+ghost use Rattle.std.specs.Prelude.{◌≡◌, ℕ, ◌≤◌, ◌<◌, true, cond, [], map, length, replicate, take};
 ghost use Rattle.history.specs.Record.{pad};
 ghost use Rattle.certificate.specs.declared.record.Criterion.TheVariants.{Pram, Weak, Causal, Converge, Sequential, Strict};
 ghost use Rattle.certificate.specs.Record.{no_list, event_list_of};
@@ -41,7 +41,7 @@ pub fn no_pasts() -> [EventList; 64]
 
 // The record of a criterion, pasts and views.
 // Kept: rows and lengths are named first: tried with `made.rows` in the literal, and the borrow checker does not cover it yet.
-fn record_of(criterion: Criterion, pasts: [EventList; 64], made: ViewRows) -> ViewedRecord
+pub fn record_of(criterion: Criterion, pasts: [EventList; 64], made: ViewRows) -> ViewedRecord
     ensures { (result.certificate ≡ record { criterion = criterion; pasts = pasts; lengths = made.lengths }) × (result.views ≡ made.rows) }
 {
     let ViewRows { rows, lengths } = made;
@@ -99,7 +99,23 @@ struct Passing<'a> {
 }
 
 impl Passing<'_> {
+    // The first views of the certificate, as many as there are numbers, with these numbers.
+    fn views<'b>(&'b self, numbers: &'b [u8]) -> Views<'b>
+        requires { length numbers.now ≤ 64 }
+        ensures rows { result.rows.now ≡ take (length numbers.now) self.now.of.now.views }
+        ensures lengths { result.lengths.now ≡ take (length numbers.now) self.now.of.now.certificate.lengths }
+        ensures numbers { result.numbers.now ≡ numbers.now }
+    {
+        let m = numbers.len();
+        Views {
+            rows: &self.of.views[..m],
+            lengths: &self.of.certificate.lengths[..m],
+            numbers,
+        }
+    }
+
     // From sequential to any other criterion.
+    #[tactic(auto, using(crate::proofs::PassedLaws::one_few, crate::proofs::PassedLaws::one_entries))]
     fn sequential_to_other(&self, wanted: Criterion) -> ViewedRecord
         requires { (self.now.of.now.certificate.criterion ≡ Sequential) × (wanted ≡ Sequential → ⊥) }
         ensures { IsRecordOf (weakened wanted (history_of self.now.h.now) (certificate_of self.now.h.now self.now.of.now.certificate self.now.of.now.views)) result.certificate result.views }
@@ -123,6 +139,7 @@ impl Passing<'_> {
     }
 
     // From converge to weak: the same pasts, and the view cut to past(e) and e.
+    #[tactic(auto, using(crate::proofs::PassedLaws::one_few, crate::proofs::PassedLaws::one_entries))]
     fn converge_to_weak(&self) -> ViewedRecord
         requires { self.now.of.now.certificate.criterion ≡ Converge }
         ensures { IsRecordOf (weakened Weak (history_of self.now.h.now) (certificate_of self.now.h.now self.now.of.now.certificate self.now.of.now.views)) result.certificate result.views }
@@ -144,11 +161,7 @@ impl Passing<'_> {
         let own = view_numbers(Criterion::Causal, &self.h.events[..n]);
         let named = view_numbers(Criterion::Pram, &self.h.events[..n]);
         let processes = processes_of(&self.h.events);
-        let views = Views {
-            rows: &self.of.views[..n],
-            lengths: &self.of.certificate.lengths[..n],
-            numbers: &own.numbers[..n],
-        };
+        let views = self.views(&own.numbers[..n]);
         let made = completed_views(&processes[..n], &views, &named.numbers[..named.count]);
         record_of(Criterion::Pram, no_pasts(), made)
     }
@@ -161,13 +174,9 @@ impl Passing<'_> {
         let n = self.h.count;
         let named = view_numbers(Criterion::Strict, &self.h.events[..n]);
         let processes = processes_of(&self.h.events);
-        let views = Views {
-            rows: &self.of.views[..named.count],
-            lengths: &self.of.certificate.lengths[..named.count],
-            numbers: &named.numbers[..named.count],
-        };
-        let made = own_parts(&processes[..n], &views);
-        record_of(wanted, self.of.certificate.pasts, made)
+        let pasts = self.of.certificate.pasts;
+        let views = self.views(&named.numbers[..named.count]);
+        record_of(wanted, pasts, own_parts(&processes[..n], &views))
     }
 
     // From causal: to weak the same lists.
@@ -210,6 +219,7 @@ impl Passing<'_> {
 }
 
 // The record that names the criterion wanted, of a certificate that passed the check; where the two are not a pair, the same record.
+#[tactic(auto, using(crate::proofs::PassedLaws::few_passed))]
 pub fn weakened_record(h: &History, of: &ViewedRecord, wanted: Criterion) -> ViewedRecord
     requires { Passed h.now of.now.certificate of.now.views }
     ensures { IsRecordOf (weakened wanted (history_of h.now) (certificate_of h.now of.now.certificate of.now.views)) result.certificate result.views }

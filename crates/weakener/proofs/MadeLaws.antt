@@ -11,7 +11,6 @@ use lib.Dec.{leb}
 use borrow.Author.Tests.{ne_eqb}
 use Rattle.layout.specs.Fill.{after}
 use Rattle.history.specs.declared.record.History as WrittenHistory
-use Rattle.history.specs.declared.record.Event.{Event}
 use Rattle.history.specs.Record.{events_in}
 use Rattle.history.specs.Readable.{within}
 use Rattle.history_reader.specs.Place.{nowhere}
@@ -40,6 +39,7 @@ use Rattle.checker.specs.declared.check.Checked.{Checked}
 use Rattle.checker.specs.Verdict.{checked_as}
 use Rattle.checker.specs.MadeText.{text_of_lists, text_if_some, made_answer}
 use Rattle.checker.proofs.ListTexts.{lists-fit, text-lists}
+use Rattle.checker.proofs.MadeLaws.{some-text, no_text}
 use Rattle.weakened_records.specs.Steps.{Passed, IsRecordOf}
 use Rattle.weakened_records.proofs.PassedLaws.{few-events, processes-passed, readable-passed, short-passed}
 use Rattle.weakener.specs.declared.made.Made.{Made}
@@ -142,14 +142,6 @@ lists-some OneLine h c = go _ (has_pasts c.criterion)
     go : (d : Certificate) (t : Bool) → is_some (cond t (some d) none) ≡ t
     go d true = refl
     go d false = refl
-
-no_text : (es : List Event) (o : Option Certificate) → is_some o ≡ false → text_if_some es o ≡ none
-no_text es none e = refl
-no_text es (some d) e = absurd (false≢true (sym e))
-
-some-text : (es : List Event) (o : Option Certificate) → is_some o ≡ true → (t : List ℕ) × (text_if_some es o ≡ some t)
-some-text es none e = absurd (false≢true e)
-some-text es (some d) e = (text_of_lists es d, refl)
 
 -- what the writer answers of a record within its limits
 module _ (h : WrittenHistory.History) (c : WrittenCertificate.Certificate) (rows : List (List ℕ)) (w : within h ≡ true) (f : fits (events_in h) c rows ≡ true)

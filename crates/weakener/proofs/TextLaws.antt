@@ -13,7 +13,7 @@ use Rattle.history.specs.declared.record.History.{History}
 use Rattle.history.specs.Record.{events_in}
 use Rattle.certificate.specs.declared.record.Criterion.{Criterion}
 use Rattle.certificate.specs.declared.criterion.NoCriterion.{NoCriterion}
-use Rattle.certificate.specs.Criteria.{criterion_numbered}
+use Rattle.certificate.specs.Steps.Criteria.{criterion_numbered}
 use Rattle.weakener.specs.declared.made.Wanted.TheVariants.{Named}
 use Rattle.certificate.specs.declared.record.Certificate.{Certificate}
 use Rattle.certificate.specs.Record.{no_row}

@@ -120,10 +120,10 @@ fn make_record(
     }
     let made = record_wanted(h, of, wanted);
     // A record that is made of an accepted one is within its limits: it is refused only where the buffer is too short.
-    match write_certificate(buffer, *h, made.certificate, &made.views) {
-        Ok(length) => Ok(Made { criterion, length }),
-        Err(_) => Err(Unmade::TooShort(criterion)),
-    }
+    let length = write_certificate(buffer, *h, made.certificate, &made.views).map_err(
+        |_| Unmade::TooShort(criterion),
+    )?;
+    Ok(Made { criterion, length })
 }
 
 // What is wanted of a certificate text for a history text, into a lent buffer.

@@ -1,5 +1,5 @@
-// One line of stock: reading refusals as in the check, 17 for a certificate without pasts, the faults of the check, 26, 18, or the sequential
-// text in the buffer's first bytes.
+// One line of stock: reading refusals as in the check, 17 for a certificate without pasts, the faults of the check, 26, 18, or the
+// sequential text in the buffer's first bytes.
 ghost use Rattle.std.specs.Prelude.{◌≡◌, is_ok, eqb};
 ghost use Rattle.checker.specs.OneLine.{line_answer, line_length, line_bytes};
 ghost use Rattle.weakener.specs.Made.{verdict_made, length_of};

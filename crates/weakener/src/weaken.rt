@@ -12,7 +12,7 @@ use certificate::record::Criterion;
 fn wanted_of(number: u32) -> Option<Wanted>
     ensures { result ≡ wanted_in (wanted_of number) }
 {
-    Criterion::try_from(number).ok().map(|c| Wanted::Named(c))
+    Criterion::try_from(number).ok().map(Wanted::Named)
 }
 
 // Weakens a certificate text for a history text to the criterion wanted, into a lent buffer.

@@ -1,4 +1,4 @@
--- The numbers of the views in an array, and which criteria have a view a process or a view an event.
+-- The numbers of the views in an array, and which criteria have a view an event.
 use Rattle.std.specs.Prelude.{ℕ, Bool, true, false, List, length}
 use Rattle.history.specs.Record.{pad}
 use Rattle.certificate.specs.declared.record.Criterion.{Criterion}
@@ -7,15 +7,6 @@ use Rattle.certificate.specs.declared.numbers.ViewNumbers.{ViewNumbers}
 
 unfoldable pub view_numbers_of : List ℕ → ViewNumbers
 view_numbers_of ns = record { count = length ns; numbers = pad 64 0 ns }
-
--- The views are one a process with events.
-abbrev pub process_each : Criterion → Bool
-process_each Pram = true
-process_each Weak = false
-process_each Causal = false
-process_each Converge = false
-process_each Sequential = false
-process_each Strict = true
 
 -- The views are one an event.
 abbrev pub event_each : Criterion → Bool

@@ -1,6 +1,5 @@
 -- What the reader keeps of the line of an event that a text begins with.
-use Rattle.std.specs.Prelude.{ℕ, ◌<◌, ◌≡◌, true, cond, List, ◌∷◌, ◌++◌, length, take, ltb}
-use Rattle.layout.specs.Split.{find}
+use Rattle.std.specs.Prelude.{ℕ, ◌<◌, ◌≡◌, true, List, ◌∷◌, ◌++◌}
 use Rattle.history.specs.declared.record.Object.{Object}
 use Rattle.history.specs.declared.record.Op.{Op}
 use Rattle.history.specs.declared.record.Event.{Event}
@@ -9,10 +8,11 @@ use Rattle.history.specs.Faults.{EventRead, faulty_event, event_line}
 use Rattle.history.specs.Kinds.{may_answer}
 use Rattle.history.specs.HistoryText.{answer_text, event_text}
 use Rattle.history.specs.Readable.{good_answer, good_event}
+use Rattle.history.specs.Steps.Next.{line_read}
 
 -- What the line is that a text begins with: its event, or its first fault. A line without a line feed has fault 2.
-unfoldable pub next_read : ℕ → List Object → List ℕ → EventRead
-next_read own os text = cond (ltb (find 10 text) (length text)) (event_line own os (take (find 10 text) text)) (faulty_event 2)
+abbrev pub next_read : ℕ → List Object → List ℕ → EventRead
+next_read own os text = line_read (event_line own os) (faulty_event 2) text
 
 -- A text begins with an answer and a line feed, and the rest stands behind it; the answer is within its limits where the op can give it.
 pub record AnswerFirst (text : List ℕ) (a : Answer) (rest : List ℕ) : Type 0 where

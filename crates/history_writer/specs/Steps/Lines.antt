@@ -1,9 +1,9 @@
 -- The fields of a line as they are written.
-use Rattle.std.specs.Prelude.{ℕ, cond, List, [], ◌∷◌, ◌++◌, length, get_or}
+use Rattle.std.specs.Prelude.{ℕ, List, [], ◌∷◌, ◌++◌, length, get_or}
 use Rattle.layout.specs.Word.{dash, object_heading, event_heading}
 use Rattle.layout.specs.Number.{spell}
 use Rattle.layout.specs.Pieces.{pieces_from}
-use Rattle.history.specs.Kinds.{kind_word, op_word, has_width, takes_value}
+use Rattle.history.specs.Kinds.{kind_word, op_word}
 use Rattle.history.specs.Record.{no_object, no_event}
 use Rattle.history.specs.HistoryText.{answer_text, object_text, event_text}
 use Rattle.history.specs.declared.record.Object.{Object}
@@ -18,14 +18,6 @@ field_text (Number n) = spell n
 field_text (Kind k) = kind_word k
 field_text (Op o) = op_word o
 field_text (Answer a) = answer_text a
-
--- The fields of an object's line and of an event's line.
-unfoldable pub object_fields_of : ℕ → Object → List Field
-object_fields_of own o = Number own ∷ Kind o.kind ∷ cond (has_width o.kind) (Number o.width) Dash ∷ []
-
-unfoldable pub event_fields_of : ℕ → Event → List Field
-event_fields_of own e =
-    Number own ∷ Number e.process.0 ∷ Number e.object ∷ Op e.op ∷ cond (takes_value e.op) (Number e.value) Dash ∷ Answer e.answer ∷ []
 
 -- The line of the object i and of the event i, their line feeds too.
 abbrev pub object_piece : List Object → ℕ → List ℕ

@@ -1,14 +1,19 @@
 -- `event_numbers` meets its contract: the numbers so far are the first events. Assumes nothing.
 use mathlib.Core.Path.{refl}
-use Rattle.certificate.proofs.NumberingLaws.{counted_none, counted-more, counted-all}
 use borrow.Author.Rules.{rules}
+use Rattle.certificate.specs.Criteria.{count_from}
+use Rattle.certificate.proofs.NumberingLaws.{event-room, event-more}
 use Rattle.certificate.proofs.numbers.event_numbers.Goals as goal
 
 pub loop-i-init : goal.loop-i-init
-loop-i-init c = counted_none _ refl
+unfolding count_from
+loop-i-init c = c.no_numbers-numbers.ensures
+
+pub push-requires : goal.push-requires
+push-requires c = event-room _ _ c.loop-i.invariant (search rules)
 
 pub loop-i-preserved : goal.loop-i-preserved
-loop-i-preserved c = counted-more _ _ _ c.loop-i.invariant (search rules) refl
+loop-i-preserved c = event-more _ _ _ refl (c.push.ensures _ c.loop-i.invariant)
 
 pub returns : goal.returns
-returns c = counted-all _ _ c.loop-i.invariant _ (search rules)
+returns c = search rules

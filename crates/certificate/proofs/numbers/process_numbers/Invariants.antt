@@ -3,4 +3,4 @@ use Rattle.certificate.proofs.NumberingLaws.{Gathered}
 use Rattle.certificate.proofs.numbers.process_numbers.Given as goal
 
 abbrev pub invariant-loop-p : goal.invariant-loop-p
-invariant-loop-p l = Gathered l.events l.numbers l.count l.p
+invariant-loop-p l = Gathered l.events l.numbers l.p

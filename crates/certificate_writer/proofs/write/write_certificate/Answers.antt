@@ -1,49 +1,32 @@
 -- `write_certificate` meets its contract: the limits and the length are judged before the first byte is written. Assumes nothing.
-use Rattle.std.proofs.Common.{◌≡◌, true, rules, length}
-use Rattle.certificate_writer.specs.WriteCertificate.{writable}
+use Rattle.std.proofs.Common.{rules}
 use Rattle.certificate_writer.proofs.TextLaws.{count_few, past_short, view_short, views_all, answer_short, answer_fits, answer_refused}
 use Rattle.certificate_writer.proofs.write.write_certificate.Goals as goal
 
 pub returns-then-not-is_writable : goal.returns-then-not-is_writable
-returns-then-not-is_writable c =
-    answer_refused c.args.h c.args.c c.args.rows.now c.args.buf.now (search rules)
+returns-then-not-is_writable c = answer_refused c.args.h c.args.c c.args.rows.now c.args.buf.now (search rules)
 
 pub shared_ref_as_front-view_numbers : goal.shared_ref_as_front-view_numbers
 shared_ref_as_front-view_numbers c = count_few c.args.h c.args.c c.args.rows.now (search rules)
 
 pub invariant_of-pasts-clause-short : goal.invariant_of-pasts-clause-short
 invariant_of-pasts-clause-short c =
-    let w : writable c.args.h c.args.c c.args.rows.now ≡ true = search rules in
-    let v = c.view_numbers-numbers in
-    let long : length v.result.numbers ≡ 64 = search rules in
-    past_short c.args.h c.args.c c.args.rows.now w v.result v.ensures.0 v.ensures.1 long c.past_count.result c.past_count.ensures
+    past_short c.args.h c.args.c c.args.rows.now (search rules) _ c.view_numbers-numbers.ensures.0 _ c.past_count.ensures
 
 pub invariant_of-views-clause-all : goal.invariant_of-views-clause-all
 invariant_of-views-clause-all c =
-    let w : writable c.args.h c.args.c c.args.rows.now ≡ true = search rules in
-    let v = c.view_numbers-numbers in
-    let long : length v.result.numbers ≡ 64 = search rules in
-    views_all c.args.h c.args.c c.args.rows.now w v.result v.ensures.0 v.ensures.1 long c.past_count.result c.past_count.ensures
+    views_all c.args.h c.args.c c.args.rows.now (search rules) _ c.view_numbers-numbers.ensures.0 _ c.past_count.ensures
 
 pub invariant_of-views-clause-short : goal.invariant_of-views-clause-short
 invariant_of-views-clause-short c =
-    let w : writable c.args.h c.args.c c.args.rows.now ≡ true = search rules in
-    let v = c.view_numbers-numbers in
-    let long : length v.result.numbers ≡ 64 = search rules in
-    view_short c.args.h c.args.c c.args.rows.now w v.result v.ensures.0 v.ensures.1 long c.past_count.result c.past_count.ensures
+    view_short c.args.h c.args.c c.args.rows.now (search rules) _ c.view_numbers-numbers.ensures.0 _ c.past_count.ensures
 
 pub returns-then-buf-n : goal.returns-then-buf-n
 returns-then-buf-n c =
-    let w : writable c.args.h c.args.c c.args.rows.now ≡ true = search rules in
-    let v = c.view_numbers-numbers in
-    let long : length v.result.numbers ≡ 64 = search rules in
-    answer_short c.args.h c.args.c c.args.rows.now w v.result v.ensures.0 v.ensures.1 long c.past_count.result c.past_count.ensures
+    answer_short c.args.h c.args.c c.args.rows.now (search rules) _ c.view_numbers-numbers.ensures.0 _ c.past_count.ensures
     c.args.buf.now _ c.certificate_len-n.ensures (search rules)
 
 pub returns : goal.returns
 returns c =
-    let w : writable c.args.h c.args.c c.args.rows.now ≡ true = search rules in
-    let v = c.view_numbers-numbers in
-    let long : length v.result.numbers ≡ 64 = search rules in
-    answer_fits c.args.h c.args.c c.args.rows.now w v.result v.ensures.0 v.ensures.1 long c.past_count.result c.past_count.ensures
+    answer_fits c.args.h c.args.c c.args.rows.now (search rules) _ c.view_numbers-numbers.ensures.0 _ c.past_count.ensures
     c.args.buf.now _ c.certificate_len-n.ensures (search rules) _ c.put_certificate.ensures.1

@@ -3,6 +3,7 @@ use Rattle.std.proofs.Common.{ap, ◌∙◌}
 use Rattle.history_reader.specs.declared.place.Text.TheVariants.{History, Certificate}
 use Rattle.checker.specs.CheckText.{Verdict}
 use Rattle.checker.proofs.VerdictLaws.{line-begins, line-ends, line-carried, carried_none}
+use Rattle.checker.proofs.check.carried_line.Goals.{in-History, in-Certificate}
 use Rattle.checker.proofs.check.carried_line.Goals as goal
 
 pub returns-in-None : goal.returns-in-None
@@ -17,30 +18,18 @@ pub slice_bounds-result-start : goal.slice_bounds-result-start
 slice_bounds-result-start c =
     line-begins c.args.history.now c.args.text.now c.in-Some.place (c.in-Some.ensures ∙ ap (λ (v : Verdict). v.place) c.check.ensures)
 
-pub slice_bounds-result-end-in-History : goal.slice_bounds-result-end-in-History
-slice_bounds-result-end-in-History c =
-    line-ends c.args.history.now c.args.text.now c.in-Some.place (c.in-Some.ensures ∙ ap (λ (v : Verdict). v.place) c.check.ensures)
-    History c.in-History.is
+pub slice_bounds-result-end-in-Some : goal.slice_bounds-result-end-in-Some
+slice_bounds-result-end-in-Some c =
+    let q = c.in-Some.ensures ∙ ap (λ (v : Verdict). v.place) c.check.ensures in
+    elim c.match-place.branch [
+      | in-History w ↦ rw w.of-is (line-ends c.args.history.now c.args.text.now c.in-Some.place q History w.in-History.is)
+      | in-Certificate w ↦ rw w.of-is (line-ends c.args.history.now c.args.text.now c.in-Some.place q Certificate w.in-Certificate.is)
+    ]
 
-pub returns-in-History : goal.returns-in-History
-returns-in-History c =
-    line-carried c.args.history.now c.args.text.now c.in-Some.place (c.in-Some.ensures ∙ ap (λ (v : Verdict). v.place) c.check.ensures)
-    History c.in-History.is
-
-pub slice_bounds-result-count-in-Certificate : goal.slice_bounds-result-count-in-Certificate
-slice_bounds-result-count-in-Certificate c =
-    line-begins c.args.history.now c.args.text.now c.in-Some.place (c.in-Some.ensures ∙ ap (λ (v : Verdict). v.place) c.check.ensures)
-
-pub slice_bounds-result-start-in-Certificate : goal.slice_bounds-result-start-in-Certificate
-slice_bounds-result-start-in-Certificate c =
-    line-begins c.args.history.now c.args.text.now c.in-Some.place (c.in-Some.ensures ∙ ap (λ (v : Verdict). v.place) c.check.ensures)
-
-pub slice_bounds-result-end-in-Certificate : goal.slice_bounds-result-end-in-Certificate
-slice_bounds-result-end-in-Certificate c =
-    line-ends c.args.history.now c.args.text.now c.in-Some.place (c.in-Some.ensures ∙ ap (λ (v : Verdict). v.place) c.check.ensures)
-    Certificate c.in-Certificate.is
-
-pub returns-in-Certificate : goal.returns-in-Certificate
-returns-in-Certificate c =
-    line-carried c.args.history.now c.args.text.now c.in-Some.place (c.in-Some.ensures ∙ ap (λ (v : Verdict). v.place) c.check.ensures)
-    Certificate c.in-Certificate.is
+pub returns-after-place : goal.returns-after-place
+returns-after-place c =
+    let q = c.in-Some.ensures ∙ ap (λ (v : Verdict). v.place) c.check.ensures in
+    elim c.match-place.branch [
+      | in-History w ↦ rw w.of-is (line-carried c.args.history.now c.args.text.now c.in-Some.place q History w.in-History.is)
+      | in-Certificate w ↦ rw w.of-is (line-carried c.args.history.now c.args.text.now c.in-Some.place q Certificate w.in-Certificate.is)
+    ]

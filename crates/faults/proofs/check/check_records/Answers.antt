@@ -3,7 +3,6 @@ use Rattle.std.proofs.Common.{rules, arith, ◌≡◌, ◌<◌, ◌∙◌, ap, s
 use Rattle.std.proofs.Math.Seq.{get_or-take, length-take-le}
 use Rattle.std.proofs.lemmas.Result.{err_from_is_err_and}
 use Rattle.certificate.specs.Record.{no_list}
-use Rattle.certificate.proofs.NumberingLaws.{numbers-in}
 use Rattle.orders.proofs.ViewLaws.{views-first}
 use Rattle.faults.specs.Finding.{finding_of}
 use Rattle.faults.proofs.RecordFacts.{process-small, numbers-long}
@@ -61,27 +60,25 @@ pub invariant_of-views-clause-events : goal.invariant_of-views-clause-events
 invariant_of-views-clause-events c =
     let views = few-views c.args.h.now c.args.c.now c.args.views.now c.requires c.view_numbers-named.result c.view_numbers-named.ensures in
     let m = c.view_numbers-named.result.count in
-    rw (numbers-long c.view_numbers-named.result _ c.view_numbers-named.ensures.0)
+    rw (c.all.ensures.first, numbers-long c.view_numbers-named.result _ c.view_numbers-named.ensures.0)
     (views-first c.args.views.now c.args.c.now.lengths m 64 (short-views c.args.h.now c.requires.0 c.args.c.now c.args.views.now c.requires.1 views m c.view_numbers-named.ensures.1))
 
 pub returns-in_err-order_fault : goal.returns-in_err-order_fault
 returns-in_err-order_fault c =
-    let long : length c.processes_of-processes.result ≡ 64 = search rules in
     let back = err_from_is_err_and c.from_residual.result c.from_residual.ensures.1 in
     let is = order-stops c.args.h.now c.args.c.now c.args.views.now c.requires c.view_numbers-named.result c.view_numbers-named.ensures
-    c.processes_of-processes.result long c.processes_of-processes.ensures c.program_rows-program.result c.program_rows-program.ensures
+    c.processes_of-processes.result (search rules) c.processes_of-processes.ensures c.program_rows-program.result c.program_rows-program.ensures
     c.order_rows-rows.result c.order_rows-rows.ensures c.past_count.result c.past_count.ensures
     c.order_fault.result c.order_fault.ensures c.in_err-order_fault.field-0.0 c.in_err-order_fault.was in
     rw (back.1, back.2) (ap finding_of (sym c.in_err-order_fault.was) ∙ is)
 
 pub returns-in_err-view_fault : goal.returns-in_err-view_fault
 returns-in_err-view_fault c =
-    let long : length c.processes_of-processes.result ≡ 64 = search rules in
     let back = err_from_is_err_and c.from_residual-in_err-view_fault.result c.from_residual-in_err-view_fault.ensures.1 in
     let is = views-stop c.args.h.now c.args.c.now c.args.views.now c.requires c.view_numbers-named.result c.view_numbers-named.ensures
-    c.processes_of-processes.result long c.processes_of-processes.ensures c.program_rows-program.result c.program_rows-program.ensures
+    c.processes_of-processes.result (search rules) c.processes_of-processes.ensures c.program_rows-program.result c.program_rows-program.ensures
     c.order_rows-rows.result c.order_rows-rows.ensures c.past_count.result c.past_count.ensures
-    c.order_fault.result c.order_fault.ensures _ c.in_ok-order_fault.was c.view_fault.result c.view_fault.ensures c.in_err-view_fault.field-0.0 c.in_err-view_fault.was in
+    c.order_fault.result c.order_fault.ensures _ c.in_ok-order_fault.was c.view_fault.result (rw c.all.ensures.first at c.view_fault.ensures) c.in_err-view_fault.field-0.0 c.in_err-view_fault.was in
     rw (back.1, back.2) (ap finding_of (sym c.in_err-view_fault.was) ∙ is)
 
 pub replay_fault-requires : goal.replay_fault-requires
@@ -90,15 +87,14 @@ replay_fault-requires c =
     let m = c.view_numbers-named.result.count in
     let long = numbers-long c.view_numbers-named.result _ c.view_numbers-named.ensures.0 in (
       c.requires.0,
-      numbers-in c.view_numbers-named.result _ c.view_numbers-named.ensures.0,
-      rw long (views-first c.args.views.now c.args.c.now.lengths m c.args.h.now.count (event-views c.args.h.now c.requires.0 c.args.c.now c.args.views.now c.requires.1 views m c.view_numbers-named.ensures.1)),
+      c.all.ensures.all _ c.view_numbers-named.ensures.0,
+      rw (c.all.ensures.first, long) (views-first c.args.views.now c.args.c.now.lengths m c.args.h.now.count (event-views c.args.h.now c.requires.0 c.args.c.now c.args.views.now c.requires.1 views m c.view_numbers-named.ensures.1)),
     )
 
 pub returns : goal.returns
 returns c =
-    let long : length c.processes_of-processes.result ≡ 64 = search rules in
     replay-stops c.args.h.now c.args.c.now c.args.views.now c.requires c.view_numbers-named.result c.view_numbers-named.ensures
-    c.processes_of-processes.result long c.processes_of-processes.ensures c.program_rows-program.result c.program_rows-program.ensures
+    c.processes_of-processes.result (search rules) c.processes_of-processes.ensures c.program_rows-program.result c.program_rows-program.ensures
     c.order_rows-rows.result c.order_rows-rows.ensures c.past_count.result c.past_count.ensures
-    c.order_fault.result c.order_fault.ensures _ c.in_ok-order_fault.was c.view_fault.result c.view_fault.ensures _ c.in_ok-view_fault.was
+    c.order_fault.result c.order_fault.ensures _ c.in_ok-order_fault.was c.view_fault.result (rw c.all.ensures.first at c.view_fault.ensures) _ c.in_ok-view_fault.was
     c.replay_fault.result c.replay_fault.ensures

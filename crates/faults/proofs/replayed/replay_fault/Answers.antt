@@ -1,10 +1,9 @@
 -- `replay_fault` meets its contract: the history is taken apart once, and a search over its parts finds what the check finds. Assumes
 -- nothing.
-use Rattle.std.proofs.Common.{rules, ◌≡◌, ◌∙◌, refl, sym, length, true, false}
+use Rattle.std.proofs.Common.{rules, refl}
 use Rattle.std.proofs.Math.Option.{some, none}
 use Rattle.history.proofs.Guarantees.{within-sound}
 use Rattle.orders.specs.Rows.{in_rows}
-use Rattle.faults.specs.Steps.{is_converge}
 use Rattle.faults.proofs.RecordFacts.{objects-small}
 use Rattle.faults.proofs.ReplayedLaws.{view-ready, view-there, place_is, place-below, event-is}
 use Rattle.faults.proofs.replayed.replay_fault.Goals as goal
@@ -16,69 +15,51 @@ light_history-history-requires c =
 pub get-requires : goal.get-requires
 get-requires c =
     let a = c.args in
-    let one : is_converge a.criterion ≡ true = sym c.is_converge.ensures ∙ c.if-is_converge.true in
-    let long : length c.starts-begin.result ≡ 16 = search rules in
-    let there = view-there c.light_history-history.ensures c.starts-begin.result c.starts-begin.ensures long a.criterion a.views.now c.requires one in
-    there
+    view-there c.light_history-history.ensures c.starts-begin.result c.starts-begin.ensures (search rules) a.criterion a.views.now c.requires (search rules)
 
 pub bounds-views-0 : goal.bounds-views-0
 bounds-views-0 c =
     let a = c.args in
-    let one : is_converge a.criterion ≡ true = sym c.is_converge.ensures ∙ c.if-is_converge.true in
-    let long : length c.starts-begin.result ≡ 16 = search rules in
-    view-there c.light_history-history.ensures c.starts-begin.result c.starts-begin.ensures long a.criterion a.views.now c.requires one
+    view-there c.light_history-history.ensures c.starts-begin.result c.starts-begin.ensures (search rules) a.criterion a.views.now c.requires (search rules)
 
 pub first_wrong_cut-requires : goal.first_wrong_cut-requires
 first_wrong_cut-requires c =
     let a = c.args in
-    let one : is_converge a.criterion ≡ true = sym c.is_converge.ensures ∙ c.if-is_converge.true in
-    let long : length c.starts-begin.result ≡ 16 = search rules in
-    let there = view-there c.light_history-history.ensures c.starts-begin.result c.starts-begin.ensures long a.criterion a.views.now c.requires one in
-    rw c.get.ensures (view-ready c.light_history-history.ensures c.starts-begin.result c.starts-begin.ensures long a.criterion a.views.now c.requires 0 there)
+    let there = view-there c.light_history-history.ensures c.starts-begin.result c.starts-begin.ensures (search rules) a.criterion a.views.now c.requires (search rules) in
+    rw c.get.ensures (view-ready c.light_history-history.ensures c.starts-begin.result c.starts-begin.ensures (search rules) a.criterion a.views.now c.requires 0 there)
 
 pub returns-in-Some : goal.returns-in-Some
 returns-in-Some c =
     let a = c.args in
-    let one : is_converge a.criterion ≡ true = sym c.is_converge.ensures ∙ c.if-is_converge.true in
-    let long : length c.starts-begin.result ≡ 16 = search rules in
-    event-is c.light_history-history.ensures c.starts-begin.result c.starts-begin.ensures long a.criterion a.views.now c.requires
-    a.rows.now one (some c.in-Some.e.0) (rw c.get.ensures at c.in-Some.ensures)
+    event-is c.light_history-history.ensures c.starts-begin.result c.starts-begin.ensures (search rules) a.criterion a.views.now c.requires
+    a.rows.now (search rules) (some c.in-Some.e.0) (rw c.get.ensures at c.in-Some.ensures)
 
 pub returns-in-None : goal.returns-in-None
 returns-in-None c =
     let a = c.args in
-    let one : is_converge a.criterion ≡ true = sym c.is_converge.ensures ∙ c.if-is_converge.true in
-    let long : length c.starts-begin.result ≡ 16 = search rules in
-    event-is c.light_history-history.ensures c.starts-begin.result c.starts-begin.ensures long a.criterion a.views.now c.requires
-    a.rows.now one none (rw c.get.ensures at c.in-None.ensures)
+    event-is c.light_history-history.ensures c.starts-begin.result c.starts-begin.ensures (search rules) a.criterion a.views.now c.requires
+    a.rows.now (search rules) none (rw c.get.ensures at c.in-None.ensures)
 
 pub first_wrong-requires : goal.first_wrong-requires
 first_wrong-requires c =
     let a = c.args in
-    let long : length c.starts-begin.result ≡ 16 = search rules in
-    view-ready c.light_history-history.ensures c.starts-begin.result c.starts-begin.ensures long a.criterion a.views.now c.requires
+    view-ready c.light_history-history.ensures c.starts-begin.result c.starts-begin.ensures (search rules) a.criterion a.views.now c.requires
 
 pub bounds-views-place : goal.bounds-views-place
 bounds-views-place c =
     let a = c.args in
-    let other : is_converge a.criterion ≡ false = sym c.is_converge.ensures ∙ c.if-is_converge.false in
-    let long : length c.starts-begin.result ≡ 16 = search rules in
     let p = c.in-Some-first_wrong.place in
-    place-below c.light_history-history.ensures c.starts-begin.result c.starts-begin.ensures long a.criterion a.views.now c.requires
-    (in_rows a.rows.now) c.visible_views-who.result other c.visible_views-who.ensures (some p) c.in-Some-first_wrong.ensures p refl
+    place-below c.light_history-history.ensures c.starts-begin.result c.starts-begin.ensures (search rules) a.criterion a.views.now c.requires
+    (in_rows a.rows.now) c.visible_views-who.result (search rules) c.visible_views-who.ensures (some p) c.in-Some-first_wrong.ensures p refl
 
 pub returns-in-Some-first_wrong : goal.returns-in-Some-first_wrong
 returns-in-Some-first_wrong c =
     let a = c.args in
-    let other : is_converge a.criterion ≡ false = sym c.is_converge.ensures ∙ c.if-is_converge.false in
-    let long : length c.starts-begin.result ≡ 16 = search rules in
-    place_is c.light_history-history.ensures c.starts-begin.result c.starts-begin.ensures long a.criterion a.views.now c.requires
-    (in_rows a.rows.now) c.visible_views-who.result other c.visible_views-who.ensures (some c.in-Some-first_wrong.place) c.in-Some-first_wrong.ensures
+    place_is c.light_history-history.ensures c.starts-begin.result c.starts-begin.ensures (search rules) a.criterion a.views.now c.requires
+    (in_rows a.rows.now) c.visible_views-who.result (search rules) c.visible_views-who.ensures (some c.in-Some-first_wrong.place) c.in-Some-first_wrong.ensures
 
 pub returns-in-None-first_wrong : goal.returns-in-None-first_wrong
 returns-in-None-first_wrong c =
     let a = c.args in
-    let other : is_converge a.criterion ≡ false = sym c.is_converge.ensures ∙ c.if-is_converge.false in
-    let long : length c.starts-begin.result ≡ 16 = search rules in
-    place_is c.light_history-history.ensures c.starts-begin.result c.starts-begin.ensures long a.criterion a.views.now c.requires
-    (in_rows a.rows.now) c.visible_views-who.result other c.visible_views-who.ensures none c.in-None-first_wrong.ensures
+    place_is c.light_history-history.ensures c.starts-begin.result c.starts-begin.ensures (search rules) a.criterion a.views.now c.requires
+    (in_rows a.rows.now) c.visible_views-who.result (search rules) c.visible_views-who.ensures none c.in-None-first_wrong.ensures

@@ -1,12 +1,12 @@
 -- `good_objects` meets its contract. Assumes nothing.
-use Rattle.std.proofs.Common.{rules, tests, sym, ◌∙◌}
+use Rattle.std.proofs.Common.{rules, tests, refl}
 use Rattle.std.proofs.lemmas.Iterator.{YieldsList-from_slice}
-use Rattle.std.proofs.lemmas.Iterator.Search.{all_from_yields_List}
-use Rattle.history.specs.Readable.{good_object}
-use Rattle.history_writer.proofs.LimitLaws.{goods_are}
+use Rattle.history.specs.Readable.{good_object, good_objects}
+use Rattle.history.proofs.AllLaws.{all-from_all}
 use Rattle.history_writer.proofs.limits.good_objects.Goals as goal
 
 pub returns : goal.returns
+unfolding good_objects
 returns c =
-    all_from_yields_List good_object _ _ _ c.all.ensures.ran (YieldsList-from_slice c.args.objects.now cc) (λ x b q k. search (rules, tests))
-    ∙ sym (goods_are c.args.objects.now)
+    all-from_all good_object good_objects _ _ _ refl (λ o more. refl) c.all.ensures.ran (YieldsList-from_slice c.args.objects.now cc)
+    (λ x b q k. search (rules, tests))

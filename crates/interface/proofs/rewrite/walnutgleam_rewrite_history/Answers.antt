@@ -2,7 +2,7 @@
 use Rattle.std.proofs.Common.{refl, ap}
 use Rattle.history_reader.specs.ReadHistory.{HistoryRead}
 use Rattle.history_writer.specs.WriteHistory.{written_of}
-use Rattle.checker.proofs.VerdictLaws.{fault-some}
+use Rattle.history_reader.proofs.ReadLaws.{fault-some}
 use Rattle.interface.proofs.RewriteLaws.{refused, history-back}
 use Rattle.interface.proofs.rewrite.walnutgleam_rewrite_history.Goals as goal
 

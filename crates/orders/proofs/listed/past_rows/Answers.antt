@@ -7,13 +7,13 @@ pub loop-i-init : goal.loop-i-init
 loop-i-init c = (refl, rows-begin c.args.pasts.now)
 
 pub invariant_of-listed-clause-few : goal.invariant_of-listed-clause-few
-invariant_of-listed-clause-few c = (past_small c.args.pasts.now c.loop-i.i _ c.loop-i-test.true c.requires.1).0
+invariant_of-listed-clause-few c = rw c.entries.ensures (past_small c.args.pasts.now c.loop-i.i _ c.loop-i-test.true c.requires.1).0
 
 pub invariant_of-listed-clause-inside : goal.invariant_of-listed-clause-inside
-invariant_of-listed-clause-inside c = (past_small c.args.pasts.now c.loop-i.i _ c.loop-i-test.true c.requires.1).1
+invariant_of-listed-clause-inside c = rw c.entries.ensures (past_small c.args.pasts.now c.loop-i.i _ c.loop-i-test.true c.requires.1).1
 
 pub loop-i-preserved : goal.loop-i-preserved
 loop-i-preserved c = (
   length-set c.loop-i.rows c.loop-i.i _ ∙ c.loop-i.invariant.0,
-  rows_more c.args.pasts.now c.loop-i.i _ c.loop-i-test.true c.loop-i.rows _ (omega arith) c.loop-i.invariant.1 c.marks.ensures,
+  rows_more c.args.pasts.now c.loop-i.i _ c.loop-i-test.true c.loop-i.rows _ (omega arith) c.loop-i.invariant.1 (rw c.entries.ensures at c.marks.ensures),
 )

@@ -3,7 +3,7 @@ use native.Mathlib.Omega.{arith}
 use Prim.Native.Nat.{ℕ, ◌<◌}
 use mathlib.Core.Path.{◌≡◌, ap, sym, ◌∙◌}
 use mathlib.Core.Bool.{true}
-use lib.ListN.{length, get_or}
+use lib.ListN.{get_or}
 use borrow.Author.Rules.{rules}
 use Rattle.criteria.specs.History.{only}
 use Rattle.criteria.specs.Check.{first_wrong}
@@ -18,8 +18,7 @@ returns c right =
     let its : c.from-o.result ≡ (get_or c.args.history.now.events c.in-Some.e.0 no_light).object =
     c.from-o.ensures ∙ ap (λ (k : ℕ). (get_or c.args.history.now.events k no_light).object) c.from.ensures in
     let small : c.from-o.result < 16 = object-of c.args.history.now c.requires.1.parts c.in-Some.ensures.0 its in
-    let long : length c.args.starts.now ≡ 16 = search rules in
     row-found (get_or c.args.rows.now c.from-o.result 0) c.requires.1 c.in-Some.ensures.0 its (λ _. true)
-    (λ f l. c.requires.2 c.from-o.result small f (omega (arith, l, c.requires.1.parts.small))) long _ _ c.replay_row.ensures
+    (λ f l. c.requires.2 c.from-o.result small f (omega (arith, l, c.requires.1.parts.small))) (search rules) _ _ c.replay_row.ensures
     ∙ ap (first_wrong (history_in c.args.history.now) (only c.in-Some.e.0) (contents_in c.args.history.now.values c.args.starts.now)) (keep_all c.args.this.view.now)
     ∙ sym (decided c.args.history.now c.args.known.seen c.args.known.view.now c.args.this.seen c.args.this.view.now c.in-Some.e.0 c.in-Some.ensures.1 (contents_in c.args.history.now.values c.args.starts.now) right)

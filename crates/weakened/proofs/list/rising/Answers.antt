@@ -1,4 +1,6 @@
 -- `rising` meets its contract. Assumes nothing.
+-- Kept: shaped as that of `cut_to`, but this loop walks the numbers below n and that one the entries of a slice: a law of both would take
+-- the two lists, the entry and what `push` promises as premises, and be as long.
 use Rattle.std.proofs.Common.{arith, sym, ap, ◌∙◌}
 use Rattle.certificate.specs.Record.{event_list_of}
 use Rattle.orders.specs.Rows.{in_row}

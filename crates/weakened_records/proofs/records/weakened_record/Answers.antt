@@ -1,6 +1,5 @@
 -- `weakened_record` meets its contract: pram and weak go to themselves only. Assumes nothing.
 use Rattle.std.proofs.Common.{refl}
-use Rattle.weakened_records.proofs.PassedLaws.{few-passed}
 use Rattle.weakened_records.proofs.RecordLaws.{stays-record, others-stay}
 use Rattle.weakened_records.proofs.records.weakened_record.Goals as goal
 
@@ -8,15 +7,3 @@ pub returns-in_default : goal.returns-in_default
 returns-in_default c =
     stays-record c.args.h.now c.args.of.now.certificate c.args.of.now.views c.requires c.args.of.now.certificate.criterion c.args.wanted refl
     (others-stay c.args.of.now.certificate.criterion c.args.wanted c.in_default.not-Causal c.in_default.not-Converge c.in_default.not-Sequential c.in_default.not-Strict)
-
-pub invariant_of-passing : goal.invariant_of-passing
-invariant_of-passing c = record { passed = c.requires; few = few-passed c.args.h.now c.args.of.now.certificate c.args.of.now.views c.requires }
-
-pub invariant_of-passing-in-Converge : goal.invariant_of-passing-in-Converge
-invariant_of-passing-in-Converge c = record { passed = c.requires; few = few-passed c.args.h.now c.args.of.now.certificate c.args.of.now.views c.requires }
-
-pub invariant_of-passing-in-Sequential : goal.invariant_of-passing-in-Sequential
-invariant_of-passing-in-Sequential c = record { passed = c.requires; few = few-passed c.args.h.now c.args.of.now.certificate c.args.of.now.views c.requires }
-
-pub invariant_of-passing-in-Strict : goal.invariant_of-passing-in-Strict
-invariant_of-passing-in-Strict c = record { passed = c.requires; few = few-passed c.args.h.now c.args.of.now.certificate c.args.of.now.views c.requires }

@@ -1,6 +1,9 @@
 -- `make_record` meets its contract: 17, what the check finds, 26, 18, or the text. Assumes nothing.
-use Rattle.std.proofs.Common.{sym}
+use Rattle.std.proofs.Common.{◌≡◌, sym, rules}
+use Rattle.std.proofs.lemmas.Result.{err_from_is_err_and}
 use Rattle.history.proofs.WithinLaws.{within-limits}
+use Rattle.history_reader.proofs.ReadLaws.{kept, failed}
+use Rattle.weakener.specs.declared.made.Unmade.TheVariants.{TooShort}
 use Rattle.weakener.proofs.MadeLaws.{passed, refused-record, faulty-record, order-read, crossed-record, made-record, short-record}
 use Rattle.weakener.proofs.made.make_record.Goals as goal
 
@@ -34,16 +37,22 @@ record_wanted-made-requires c = (
       (sym c.if-not-may_be_made.ensures) (passed _ _ _ c.requires c.in_default.ensures),
 )
 
-pub returns-in-Ok : goal.returns-in-Ok
-returns-in-Ok c =
+pub returns : goal.returns
+returns c =
+    let k = kept c.write_certificate.result c.map_err.result _ c.in_ok-length.length c.map_err.ensures.cases c.in_ok-length.was in
     made-record c.args.history.now c.args.h.now c.args.of.now.certificate c.args.of.now.views c.args.wanted c.args.buffer.now
     (sym c.if-not-may_be_made.ensures) (passed _ _ _ c.requires c.in_default.ensures) (sym (c.if-crosses_wanted.ensures c.args.of.now.views))
     c.record_wanted-made.result.certificate c.record_wanted-made.result.views c.record_wanted-made.ensures _ c.write_certificate.ensures.1
-    c.in-Ok.length c.in-Ok.ensures.0
+    c.in_ok-length.length (rw k at c.write_certificate.ensures.0)
 
-pub returns-in-Err-write_certificate : goal.returns-in-Err-write_certificate
-returns-in-Err-write_certificate c =
-    short-record c.args.history.now c.args.h.now c.args.of.now.certificate c.args.of.now.views c.args.wanted c.args.buffer.now
+pub returns-in_err-length : goal.returns-in_err-length
+returns-in_err-length c =
+    let p = err_from_is_err_and c.from_residual.result c.from_residual.ensures.1 in
+    let f = failed c.write_certificate.result c.map_err.result _ c.in_err-length.field-0.0 c.map_err.ensures.cases c.in_err-length.was in
+    let learnt = f.1.1 in
+    let is : c.in_err-length.field-0.0 ≡ TooShort c.args.of.now.certificate.criterion = search rules in
+    rw (p.1, p.2, is)
+    (short-record c.args.history.now c.args.h.now c.args.of.now.certificate c.args.of.now.views c.args.wanted c.args.buffer.now
     (sym c.if-not-may_be_made.ensures) (passed _ _ _ c.requires c.in_default.ensures) (sym (c.if-crosses_wanted.ensures c.args.of.now.views))
     c.record_wanted-made.result.certificate c.record_wanted-made.result.views c.record_wanted-made.ensures _ c.write_certificate.ensures.1
-    _ c.in-Err-write_certificate.ensures.0
+    f.0 (rw f.1.0 at c.write_certificate.ensures.0))

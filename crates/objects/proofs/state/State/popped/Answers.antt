@@ -1,7 +1,5 @@
 -- A pop takes away the value at the end that the kind says, if there is one. Assumes nothing.
 use native.Mathlib.Omega.{arith}
-use mathlib.Core.Path.{◌≡◌}
-use lib.ListN.{length}
 use borrow.Author.Rules.{rules}
 use Rattle.objects.proofs.StateLaws.{pop-none, pop-newest, pop-oldest}
 use Rattle.objects.proofs.state.State.popped.Goals as goal
@@ -11,8 +9,7 @@ returns-then-self c number = pop-none c.args.self c.if-self.true number
 
 pub returns-then-self-2 : goal.returns-then-self-2
 returns-then-self-2 c number =
-    let long : length c.args.self.numbers ≡ 65 = search rules in
-    pop-newest c.args.self (omega arith) (omega arith) c.if-self-2.true number
+    pop-newest c.args.self (omega arith) (search rules) c.if-self-2.true number
 
 pub returns : goal.returns
 returns c number =

@@ -7,10 +7,10 @@ use Rattle.objects.proofs.state.State.push_answer.Goals as goal
 
 pub returns-then-is_full : goal.returns-then-is_full
 returns-then-is_full c =
-    push-answers c.args.self c.one.result c.args.no.0 true (search rules)
+    push-answers c.args.self.now c.one.result c.args.no.0 true (search rules)
     (sym c.is_full.ensures ∙ c.if-is_full.true) c.one.ensures
 
 pub returns-else-is_full : goal.returns-else-is_full
 returns-else-is_full c =
-    push-answers c.args.self c.none.result c.args.no.0 false (search rules)
+    push-answers c.args.self.now c.none.result c.args.no.0 false (search rules)
     (sym c.is_full.ensures ∙ c.if-is_full.false) c.none.ensures

@@ -1,16 +1,13 @@
 -- A push puts the number behind the newest, unless the object holds as many as it can. Assumes nothing.
-use mathlib.Core.Path.{◌≡◌, sym, ◌∙◌}
-use lib.ListN.{length}
+use mathlib.Core.Path.{sym, ◌∙◌}
 use borrow.Author.Rules.{rules}
 use Rattle.objects.proofs.StateLaws.{push-full, push-changes}
 use Rattle.objects.proofs.state.State.pushed.Goals as goal
 
 pub returns-then-is_full : goal.returns-then-is_full
 returns-then-is_full c =
-    let long : length c.args.self.numbers ≡ 65 = search rules in
-    push-full c.args.self long c.requires _ (sym c.is_full.ensures ∙ c.if-is_full.true)
+    push-full c.args.self (search rules) c.requires _ (sym c.is_full.ensures ∙ c.if-is_full.true)
 
 pub returns : goal.returns
 returns c =
-    let long : length c.args.self.numbers ≡ 65 = search rules in
-    rw c.from.ensures (push-changes c.args.self long c.requires _ (sym c.is_full.ensures ∙ c.if-is_full.false))
+    rw c.from.ensures (push-changes c.args.self (search rules) c.requires _ (sym c.is_full.ensures ∙ c.if-is_full.false))

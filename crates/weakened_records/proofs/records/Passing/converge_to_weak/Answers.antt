@@ -1,10 +1,9 @@
 -- `converge_to_weak` meets its contract: the view has all events, and the rows are the order of the pasts. Assumes nothing.
-use Rattle.std.proofs.Common.{rules, refl, length, ◌≡◌}
+use Rattle.std.proofs.Common.{rules, length, ◌≡◌}
 use Rattle.std.proofs.Math.Seq.{get_or-take}
 use Rattle.certificate.specs.Record.{no_list}
-use Rattle.certificate.specs.declared.record.Criterion.TheVariants.{Converge}
 use Rattle.faults.proofs.CheckLaws.{take-few, taken}
-use Rattle.weakened_records.proofs.PassedLaws.{short-passed, one-few, one-entries}
+use Rattle.weakened_records.proofs.PassedLaws.{short-passed}
 use Rattle.weakened_records.proofs.ConvergeRecords.{converge-record}
 use Rattle.weakened_records.proofs.records.Passing.converge_to_weak.Goals as goal
 
@@ -16,12 +15,6 @@ past_rows-order-requires c =
           rw (get_or-take c.args.self.now.h.now.count c.args.self.now.of.now.certificate.pasts k no_list (taken c.args.self.now.h.now.count c.args.self.now.of.now.certificate.pasts k l))
           (short-passed c.args.self.now.h.now c.args.self.now.of.now.certificate c.args.self.now.of.now.views c.args.self.now.passed k),
     )
-
-pub invariant_of-view : goal.invariant_of-view
-invariant_of-view c = record {
-  few = one-few c.args.self.now.h.now c.args.self.now.of.now.certificate c.args.self.now.of.now.views c.args.self.now.passed Converge c.requires refl;
-  inside = one-entries c.args.self.now.h.now c.args.self.now.of.now.certificate c.args.self.now.of.now.views c.args.self.now.passed Converge c.requires refl;
-}
 
 pub cut_views-made-requires : goal.cut_views-made-requires
 cut_views-made-requires c =

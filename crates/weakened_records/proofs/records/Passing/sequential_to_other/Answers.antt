@@ -1,15 +1,9 @@
 -- `sequential_to_other` meets its contract: the record is that of the lists. Assumes nothing.
 use Rattle.std.proofs.Common.{refl}
 use Rattle.certificate.specs.declared.record.Criterion.TheVariants.{Sequential}
-use Rattle.weakened_records.proofs.PassedLaws.{one-few, one-entries, one_holds}
+use Rattle.weakened_records.proofs.PassedLaws.{one_holds}
 use Rattle.weakened_records.proofs.RecordLaws.{other-record}
 use Rattle.weakened_records.proofs.records.Passing.sequential_to_other.Goals as goal
-
-pub invariant_of-order : goal.invariant_of-order
-invariant_of-order c = record {
-  few = one-few c.args.self.now.h.now c.args.self.now.of.now.certificate c.args.self.now.of.now.views c.args.self.now.passed Sequential c.requires.0 refl;
-  inside = one-entries c.args.self.now.h.now c.args.self.now.of.now.certificate c.args.self.now.of.now.views c.args.self.now.passed Sequential c.requires.0 refl;
-}
 
 pub order_pasts-pasts-requires : goal.order_pasts-pasts-requires
 order_pasts-pasts-requires c =
