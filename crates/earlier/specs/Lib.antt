@@ -1,2 +1,3 @@
 pub mod VerdictFrom
 pub mod KnownAnswers
+pub mod ProcessEach
