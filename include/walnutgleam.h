@@ -10,8 +10,8 @@
  *   pointer named length has none beside it: it points to one number and is not NULL.
  * - A buffer, slice or number that is lent to be written overlaps nothing else that is lent in the same call. The two texts may
  *   overlap each other.
- * - There is stack for the call: 74,000 bytes for check, verdict and rewrite_certificate, 124,000 for weaken and sequential,
- *   11,000 for rewrite_history. `make bench` measures it on x86-64, with accepted and damaged texts; it is not proved. */
+ * - There is stack for the call: 56,000 bytes for check, verdict and rewrite_certificate, 84,000 for weaken and sequential,
+ *   10,000 for rewrite_history. `make bench` measures it on x86-64, with accepted and damaged texts; it is not proved. */
 #ifndef WALNUTGLEAM_H
 #define WALNUTGLEAM_H
 
