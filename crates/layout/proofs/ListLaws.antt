@@ -128,6 +128,14 @@ module _ (bound max : ℕ) where
       → places_from bound max (Ok 0) ps xs ≡ fill (leading bound max ps) xs
   places-are ps xs h = places-listed 0 max ps xs (zero-add max) h ∙ fill_at-zero (leading bound max ps) xs
 
+  -- no item changes the answer or the places once one was no number
+  pub nothing-more : (r : Result ℕ ListFault) → r ≡ Err NotList → (ps : List (List ℕ)) (xs : List ℕ)
+      → (answer_from bound max r ps ≡ r) × (places_from bound max r ps xs ≡ xs)
+  nothing-more r is ps xs = rw is (answer-not ps, places-still NotList ps xs)
+
+pub no-list : (r : Result ℕ ListFault) (f : ListFault) → r ≡ Err f → f ≡ NotList → r ≡ Err NotList
+no-list r f is e = is ∙ ap Err e
+
 -- ---- the loop that reads items, which has read n of them
 -- a turn: p is the next one, and its answer q and the places ys are taken up
 module _ (bound max : ℕ) (r : Result ℕ ListFault) (xs : List ℕ) (fs : List (List ℕ)) (n : ℕ) where

@@ -6,6 +6,8 @@ use mathlib.Core.Bool.{Bool, true, false, false≢true}
 use mathlib.Core.List.{List, [], ◌∷◌, ◌++◌, append_assoc}
 use lib.ListN.{length, take, drop, length-append, length-drop, take-append-drop}
 use lib.Seq.{drop-drop, take_all}
+use lib.Dec.{eqb}
+use lib.Pointwise.{pointwise}
 use Rattle.std.specs.Prelude.{Option, Some, None, Result, Ok, Err}
 use Rattle.layout.specs.declared.number.NumberFault.{NumberFault}
 use Rattle.layout.specs.Word.{same}
@@ -13,7 +15,8 @@ use Rattle.layout.specs.Number.{is_number, value, number_of, spell}
 use Rattle.layout.specs.Steps.Number.{digits}
 use Rattle.layout.specs.Steps.Stands.{Stands, NumberAt, stands_at, told_at, number_at, spaced, spaced_number}
 use Rattle.layout.proofs.Cases.{by_bool, by-lt, by-eq}
-use Rattle.layout.proofs.WordLaws.{same_true, same_false}
+use Rattle.layout.proofs.FillLaws.{tail-part}
+use Rattle.layout.proofs.WordLaws.{same_true, same_false, same_is_flipped}
 use Rattle.layout.proofs.NumberLaws.{digits-prefix, digits-few, starts_none, number-starts, value-number}
 use Rattle.layout.proofs.SpellLaws.{spell-value}
 
@@ -47,6 +50,11 @@ module _ (s w : List ℕ) (from : ℕ) where
   pub word-compared : same (take (from + length w - from) (drop from s)) w ≡ stands_at w from s
   unfolding stands_at
   word-compared = let k : from + length w - from ≡ length w = omega arith in ap (λ (n : ℕ). same (take n (drop from s)) w) k
+
+  -- what the library compares: what is left begins with the word
+  pub word_begins : pointwise eqb w (take (length w) (take (length s - from) (drop from s))) ≡ stands_at w from s
+  unfolding stands_at
+  word_begins = rw (tail-part s from) (sym (same_is_flipped (take (length w) (drop from s)) w))
 
   -- a word that is longer than what is left does not stand there
   pub word-short : length s - from < length w → stands_at w from s ≡ false
