@@ -149,7 +149,7 @@ module _ {h : WrittenHistory.History} {l : LightHistory} (t : TakenApart h l) (s
   -- each view is ready for its replay
   pub view-ready : (k : ℕ) → k < length views.numbers.now → Ready l states (view_at views.rows.now views.lengths.now k)
   view-ready k b =
-      ready_of h (within-sound h asked.0) l t states (view_at views.rows.now views.lengths.now k) (objects-agree h asked.0) fresh-as (all-keep-few h asked.0)
+      ready_of h (within-sound h asked.0) l t.events t.long states (view_at views.rows.now views.lengths.now k) (objects-agree h asked.0) fresh-as (all-keep-few h asked.0)
       (view-few views.rows.now views.lengths.now (length views.numbers.now) h.count asked.2 k b) (view-inside views.rows.now views.lengths.now (length views.numbers.now) h.count asked.2 k b)
 
   view-below : (k : ℕ) → k < length views.numbers.now → (e : ℕ) → mem e (view_at views.rows.now views.lengths.now k) ≡ true → e < h.count
@@ -160,7 +160,7 @@ module _ {h : WrittenHistory.History} {l : LightHistory} (t : TakenApart h l) (s
       ≡ first_wrong (history_of h) (is_visible (history_of h) who) (start (history_of h)) view
   replayed-is who view inside =
       let s = within-sound h asked.0 in
-      replay-is h l t states s.count (events-long h asked.0) (omega (arith, s.objects, s.declared, states-long)) (objects-agree h asked.0)
+      replay-is h l t.events states t.values t.start s.count (events-long h asked.0) (omega (arith, s.objects, s.declared, states-long)) (objects-agree h asked.0)
       (λ o b. fresh-as o (omega (arith, b, s.objects, s.declared))) who view (λ e q. object-declared h asked.0 e (inside e q))
 
   number_is : (k : ℕ) → k < length views.numbers.now → get_or views.numbers.now k 0 ≡ view_number c (history_of h) k
@@ -181,7 +181,7 @@ module _ {h : WrittenHistory.History} {l : LightHistory} (t : TakenApart h l) (s
         (replayed-is (get_or who k no_visible) view (view-below k b)
         ∙ ap (λ (x : Visible). first_wrong (history_of h) (is_visible (history_of h) x) (start (history_of h)) view) (seen k b)
         ∙ same-visible (history_of h) (is_visible (history_of h) (visible_at c views.numbers.now l.events k)) (visible c (history_of h) k)
-        (visible-is h l.events views.numbers.now (within-sound h asked.0).count (within-sound h asked.0).events t.lights c k (omega (arith, there, count_same c (history_of h) other)) (λ _. ap (λ (ns : List ℕ). get_or ns k 0) asked.1))
+        (visible-is h l.events views.numbers.now (within-sound h asked.0).count (within-sound h asked.0).events t.events.lights c k (omega (arith, there, count_same c (history_of h) other)) (λ _. ap (λ (ns : List ℕ). get_or ns k 0) asked.1))
         (start (history_of h)) view
         ∙ ap (first_wrong (history_of h) (visible c (history_of h) k) (start (history_of h)))
         (sym (beginning-at views.lengths.now views.rows.now k) ∙ replayed-same c R (beginnings views.lengths.now views.rows.now) k other))
@@ -226,7 +226,7 @@ module _ {h : WrittenHistory.History} {l : LightHistory} (t : TakenApart h l) (s
       event-is-converge =
           let f : ℕ → Option ℕ = wrong_cut (history_in l) (contents_in l.values states) rows (view_at views.rows.now views.lengths.now 0) in
           let zero-is : get_or views.numbers.now 0 0 ≡ 0 = number_is 0 (view-there one) ∙ ap (λ (x : Criterion). view_number x (history_of h) 0) (converge-is c one) in
-          let n : l.size ≡ size (history_of h) = t.size ∙ sym (size_is h ∙ (within-sound h asked.0).events) in
+          let n : l.size ≡ size (history_of h) = t.events.size ∙ sym (size_is h ∙ (within-sound h asked.0).events) in
           ap₂ (λ (i : ℕ) (o : Option ℕ). map_fault (fault16 i) o) zero-is q
           ∙ sym (lowest-events (fault16 0) l.size f)
           ∙ lowest-same l.size (λ k. map_fault (fault16 0) (f k)) (fault_of Converge (history_of h) (in_rows rows) (beginnings views.lengths.now views.rows.now))

@@ -1,9 +1,10 @@
 // A history taken apart for its replays.
-ghost use Rattle.std.specs.Prelude.{◌≡◌, ℕ, ◌≤◌, ◌<◌, get_or, map, Decides};
+ghost use Rattle.std.specs.Prelude.{◌≡◌, ℕ, ◌≤◌, ◌<◌, length, get_or, map, Decides};
 ghost use Rattle.history.specs.Record.{no_event, recorded_in};
 ghost use Rattle.criteria.specs.Check.{fits};
 ghost use Rattle.objects.specs.State.{value_in, given_of};
-ghost use Rattle.replays.specs.Light.{never_answers, is_silent, light_with, TakenApart};
+ghost use Rattle.replays.specs.Replay.{no_light, unused_answer};
+ghost use Rattle.replays.specs.Light.{never_answers, is_silent, light_with, light_of, TakenApart};
 
 use crate::replay::Light;
 use history::answer::no_answer;
@@ -83,10 +84,34 @@ fn light_event(kind: Kind, e: Event) -> Light
     }
 }
 
-// The history, taken apart.
-pub fn light_history(h: &History) -> LightHistory
-    requires { (h.now.count ≤ 64) × ((e : ℕ) → e < h.now.count → (get_or h.now.events e no_event).object < 16) }
-    ensures { TakenApart h.now result }
+// The value of each event, and 0 in the last place for the start.
+pub fn values_of(events: &[Event]) -> [Value; 65]
+    requires { length events.now ≤ 64 }
+    ensures { (get_or result 64 0 ≡ 0) × ((e : ℕ) → e < length events.now → get_or result e 0 ≡ (get_or events.now e no_event).value) }
+{
+    let mut values = [0; 65];
+    for (i, e) in events.iter().enumerate() {
+        values[i] = e.value;
+    }
+    values
+}
+
+// The answer of each event.
+pub fn answers_of(events: &[Event]) -> [Answer; 64]
+    requires { length events.now ≤ 64 }
+    ensures { (e : ℕ) → e < length events.now → get_or result e unused_answer ≡ (get_or events.now e no_event).answer }
+{
+    let mut answers = [no_answer(); 64];
+    for (i, e) in events.iter().enumerate() {
+        answers[i] = e.answer;
+    }
+    answers
+}
+
+// The light record of each event, whose objects are among these.
+fn light_events(objects: &[Object; 16], events: &[Event]) -> [Light; 64]
+    requires { (length events.now ≤ 64) × ((e : ℕ) → e < length events.now → (get_or events.now e no_event).object < 16) }
+    ensures { (e : ℕ) → e < length events.now → get_or result e no_light ≡ light_of objects.now (get_or events.now e no_event) }
 {
     let blank = Light {
         process: ProcessNo(0),
@@ -94,18 +119,25 @@ pub fn light_history(h: &History) -> LightHistory
         op: Op::Write,
         silent: false,
     };
-    let mut light = LightHistory {
-        objects: h.objects,
-        events: [blank; 64],
-        values: [0; 65],
-        answers: [no_answer(); 64],
-        size: h.count,
-    };
-    for (i, e) in h.events[..h.count].iter().enumerate() {
-        let kind = h.objects[usize::from(e.object)].kind;
-        light.events[i] = light_event(kind, *e);
-        light.values[i] = e.value;
-        light.answers[i] = e.answer;
+    let mut lights = [blank; 64];
+    for (i, e) in events.iter().enumerate() {
+        let kind = objects[usize::from(e.object)].kind;
+        lights[i] = light_event(kind, *e);
     }
-    light
+    lights
+}
+
+// The history, taken apart.
+pub fn light_history(h: &History) -> LightHistory
+    requires { (h.now.count ≤ 64) × ((e : ℕ) → e < h.now.count → (get_or h.now.events e no_event).object < 16) }
+    ensures { TakenApart h.now result }
+{
+    let events = &h.events[..h.count];
+    LightHistory {
+        objects: h.objects,
+        events: light_events(&h.objects, events),
+        values: values_of(events),
+        answers: answers_of(events),
+        size: h.count,
+    }
 }

@@ -75,6 +75,9 @@ module _ (h : WrittenHistory.History) (c : WrittenCertificate.Certificate) (rows
   count-is : view_count c.criterion (history_of h) ≡ h.count
   count-is = ap (λ (w : Criterion). view_count w (history_of h)) q ∙ size-passed h c rows p
 
+  pub own-count : length (view_numbers Causal (events_in h)) ≡ h.count
+  own-count = sym (view-count Causal h) ∙ size-passed h c rows p
+
   view-is : (k : ℕ) → k < h.count → view_at rows c.lengths k ≡ get_or (certificate_of h c rows).views k []
   unfolding certificate_of
   view-is = view-same h p.history c rows p.certificate (few-numbers h c rows p c.criterion) h.count (sym count-is ∙ view-count c.criterion h)

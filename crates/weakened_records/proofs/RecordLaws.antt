@@ -26,7 +26,7 @@ use Rattle.certificate.specs.declared.numbers.ViewNumbers.{ViewNumbers}
 use Rattle.certificate.specs.Steps.Numbers.{view_numbers_of, event_each}
 use Rattle.orders.specs.Rows.{in_rows, IsOrder}
 use Rattle.faults.proofs.CheckLaws.{size_of}
-use Rattle.faults.proofs.RecordFacts.{number-count}
+use Rattle.certificate.proofs.NumberingLaws.{counted}
 use Rattle.weakened.specs.declared.views.ViewRows.{ViewRows}
 use Rattle.weakened.specs.Steps.{lengths_of, view_rows_of}
 use Rattle.weakened_records.specs.declared.records.ViewedRecord.{ViewedRecord}
@@ -208,5 +208,5 @@ module _ (h : WrittenHistory.History) (c : WrittenCertificate.Certificate) (rows
         record-made _ w _ _ r ps made built
         (other-lists w other (history_of h) (certificate_of h c rows) order-line (length order-line) named.count (same-criterion h c rows Sequential is)
         (one-begins h c rows passed Sequential is refl) (one-long h c rows passed Sequential is refl ∙ sym (size-passed h c rows passed))
-        (number-count named _ numbered ∙ sym (view-count w h)))
+        (counted named _ numbered ∙ sym (view-count w h)))
         p (ap (λ (m : ViewRows). m.rows) e) (ap (λ (m : ViewRows). m.lengths) e)

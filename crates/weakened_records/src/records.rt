@@ -161,8 +161,8 @@ impl Passing<'_> {
         let own = view_numbers(Criterion::Causal, &self.h.events[..n]);
         let named = view_numbers(Criterion::Pram, &self.h.events[..n]);
         let processes = processes_of(&self.h.events);
-        let views = self.views(&own.numbers[..n]);
-        let made = completed_views(&processes[..n], &views, &named.numbers[..named.count]);
+        let views = self.views(own.all());
+        let made = completed_views(&processes[..n], &views, named.all());
         record_of(Criterion::Pram, no_pasts(), made)
     }
 
@@ -175,7 +175,7 @@ impl Passing<'_> {
         let named = view_numbers(Criterion::Strict, &self.h.events[..n]);
         let processes = processes_of(&self.h.events);
         let pasts = self.of.certificate.pasts;
-        let views = self.views(&named.numbers[..named.count]);
+        let views = self.views(named.all());
         record_of(wanted, pasts, own_parts(&processes[..n], &views))
     }
 

@@ -20,5 +20,5 @@ returns c right =
     let small : c.from-o.result < 16 = object-of c.args.history.now c.requires.1.parts c.in-Some.ensures.0 its in
     row-found (get_or c.args.rows.now c.from-o.result 0) c.requires.1 c.in-Some.ensures.0 its (λ _. true)
     (λ f l. c.requires.2 c.from-o.result small f (omega (arith, l, c.requires.1.parts.small))) (search rules) _ _ c.replay_row.ensures
-    ∙ ap (first_wrong (history_in c.args.history.now) (only c.in-Some.e.0) (contents_in c.args.history.now.values c.args.starts.now)) (keep_all c.args.this.view.now)
-    ∙ sym (decided c.args.history.now c.args.known.seen c.args.known.view.now c.args.this.seen c.args.this.view.now c.in-Some.e.0 c.in-Some.ensures.1 (contents_in c.args.history.now.values c.args.starts.now) right)
+    ∙ ap (first_wrong (history_in c.args.history.now) (only c.in-Some.e.0) (contents_in c.args.history.now.values c.args.starts.now)) (keep_all c.args.this.view.events.now)
+    ∙ sym (decided c.args.history.now c.args.known.seen c.args.known.view.events.now c.args.this.seen c.args.this.view.events.now c.in-Some.e.0 c.in-Some.ensures.1 (contents_in c.args.history.now.values c.args.starts.now) right)
