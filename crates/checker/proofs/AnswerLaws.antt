@@ -118,10 +118,10 @@ read-back history declared c x =
 Named : Text → Type 0
 Named t = text_in (text_of t) ≡ t
 
-refused-back : (n : ℕ) (p : Place) → fault_number (fault_of n) ≡ n → Named p.text
+refused-named : (n : ℕ) (p : Place) → fault_number (fault_of n) ≡ n → Named p.text
     → verdict_of (checked_of (refused_at n p)) ≡ refused_at n p
 unfolding Named
-refused-back n p e h =
+refused-named n p e h =
     ap₂ {C = Verdict} (λ (m : ℕ) (t : Text). refused_at m (record { text = t; line = p.line; start = p.start; end = p.end })) e h
 
 pub verdict-is : (history text : List ℕ) (k : Result Checked Refusal) → k ≡ checked_of (check_text history text)
@@ -135,4 +135,4 @@ verdict-is history text k q =
     (λ z. subst (λ (v : Verdict). verdict_of (checked_of v) ≡ v) (sym (checked-as history text z))
     (read-back history (read_history history).history.declared (certificate_read history text).criterion (check (history_read history) (certificate_read history text))))
     (λ n. subst (λ (v : Verdict). verdict_of (checked_of v) ≡ v) (sym (refused_as history text n))
-    (refused-back r.fault r.place (refuses.number n) (refuses.text n)))
+    (refused-named r.fault r.place (refuses.number n) (refuses.text n)))
