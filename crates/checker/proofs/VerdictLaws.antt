@@ -25,6 +25,7 @@ use Rattle.history_theorems.proofs.Theorems.{no-fault-readable, read-within}
 use Rattle.certificate.specs.declared.record.Certificate.{Certificate}
 use Rattle.certificate.specs.Record.{no_row}
 use Rattle.certificate.specs.Readable.{fits}
+use Rattle.certificate_reader.specs.declared.read.Texts.{Texts}
 use Rattle.certificate_reader.specs.declared.read.Unread.{Unread}
 use Rattle.certificate_reader.specs.declared.read.Unread.TheVariants.{NoHistory, NoCertificate}
 use Rattle.certificate_reader.specs.ReadCertificate.{CertificateRead, texts_read, refusal_in, read_certificate, rows_read}
@@ -39,6 +40,7 @@ use Rattle.faults.specs.declared.finding.Finding.{Finding}
 use Rattle.faults.specs.Finding.{finding_of, found_of}
 use Rattle.checker.specs.CheckText.{Verdict, refused, place_of, found_in, history_read, rows_of, certificate_read, check_text, carried_line}
 use Rattle.checker.specs.Verdict.{verdict_of}
+use Rattle.checker.proofs.AnswerLaws.{checked_of, answer-back}
 use Rattle.checker.proofs.TextTheorems.{checked-as, refused_as, lists-readable}
 use Rattle.checker.proofs.EventLaws.{Below, event-below}
 
@@ -60,6 +62,14 @@ unread-number (NoCertificate h r) = refl
 pub unread-fault : (u : Unread) → (texts_read (Err u)).fault ≡ 0 → ⊥
 unread-fault (NoHistory r) z = fault-some r.fault z
 unread-fault (NoCertificate h r) z = fault-some r.fault z
+
+-- the answer that stands for a refused reading tells its verdict back
+pub refused-back : (r : Result Texts Unread) → ((texts_read r).fault ≡ 0 → ⊥) → verdict_of (checked_of (refused (texts_read r))) ≡ refused (texts_read r)
+refused-back (Ok t) n = absurd (n refl)
+refused-back (Err u) n =
+    ap (λ (v : Verdict). verdict_of (checked_of v)) (unread-refused u)
+    ∙ ap verdict_of (answer-back (Err (refusal_in u)))
+    ∙ sym (unread-refused u)
 
 pub refused-answer : (history text : List ℕ) (u : Unread) → texts_read (Err u) ≡ read_certificate history text
     → verdict_of (Err (refusal_in u)) ≡ check_text history text

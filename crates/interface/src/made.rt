@@ -22,12 +22,12 @@ pub(crate) fn unmade_number(unmade: Unmade) -> u32
 
 // The answer of an operation as the documents' number, 0 where there is a text, and the length of the text, 0 where there is none.
 // Kept: the C interface has a number and a length.
-pub(crate) fn give(answer: Result<usize, u32>, length: &mut u64) -> u32
+pub(crate) fn give(answer: Result<u64, u32>, length: &mut u64) -> u32
     ensures { (result ≡ number_given answer) × (length.new ≡ length_given answer) }
 {
     match answer {
         Ok(n) => {
-            *length = n as u64;
+            *length = n;
             0
         }
         Err(number) => {

@@ -15,5 +15,5 @@ pub fn walnutgleam_sequential(
     ensures { (result ≡ (line_answer history.now certificate.now buffer.old).number) × (buffer.new ≡ line_bytes history.now certificate.now buffer.old) × (length.new ≡ line_length history.now certificate.now buffer.old) }
 {
     let made = sequential(history, certificate, buffer);
-    give(made.map(|m| m.length).map_err(unmade_number), length)
+    give(made.map(|m| m.length as u64).map_err(unmade_number), length)
 }

@@ -16,5 +16,5 @@ pub fn walnutgleam_weaken(
     ensures { (result ≡ (weaken_answer history.now certificate.now wanted buffer.old).number) × (buffer.new ≡ weaken_bytes history.now certificate.now wanted buffer.old) × (length.new ≡ weaken_length history.now certificate.now wanted buffer.old) }
 {
     let made = weaken(history, certificate, wanted, buffer);
-    give(made.map(|m| m.length).map_err(unmade_number), length)
+    give(made.map(|m| m.length as u64).map_err(unmade_number), length)
 }
