@@ -38,13 +38,12 @@ fn replay_object(history: &LightHistory, start: State, part: &[u8], e: EventNo) 
         let at = usize::from(*number);
         let op = history.events[at].op;
         if no == e {
-            let step = state.step(EventOp { no, op });
-            if !history.fits_given(&history.answers[at], &step.answer) {
+            let given = state.step(EventOp { no, op });
+            if !history.fits_given(&history.answers[at], &given) {
                 return Some(e);
             }
-            state = step.state;
         } else {
-            state = state.changed(EventOp { no, op });
+            state.change(EventOp { no, op });
         }
     }
     None

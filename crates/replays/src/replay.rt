@@ -70,13 +70,12 @@ pub fn replay(
         let o = usize::from(e.object);
         let event = EventOp { no, op: e.op };
         if asks(who, e, no) {
-            let step = states[o].step(event);
-            if !history.fits_given(&history.answers[at], &step.answer) {
+            let given = states[o].step(event);
+            if !history.fits_given(&history.answers[at], &given) {
                 return Some(no);
             }
-            states[o] = step.state;
         } else if changes(e.op) {
-            states[o] = states[o].changed(event);
+            states[o].change(event);
         }
     }
     None
