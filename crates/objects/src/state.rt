@@ -1,5 +1,5 @@
-// The state of an object in a replay: a method takes an event and changes the state and hands back the answer (`step`), or does one of the
-// two (`change`, `answer`).
+// The state of an object in a replay: a method takes an event and hands back state and answer (`step`), or one of the two (`changed`,
+// `answer`).
 ghost use Rattle.std.specs.Prelude.{◌≡◌, ℕ, ◌-◌, ◌≤◌, ◌<◌, [], ◌∷◌, leb};
 
 use history::record::{EventNo, Kind, Object, Op};
@@ -37,6 +37,13 @@ pub struct Given {
     pub numbers: [u8; 8],
     pub count: usize,
     pub ghost few: { count ≤ 8 },
+}
+
+// The state after an event, and the answer.
+#[derive(Clone, Copy)]
+pub struct Step {
+    pub state: State,
+    pub answer: Given,
 }
 
 impl Given {
@@ -101,54 +108,59 @@ impl State {
 
     // Puts the event behind the newest, unless the object holds as many as it can.
     // Kept: tail < 65 is asked where one more is put (four contracts); behind the last it is 65, so the type cannot say it.
-    fn push(&mut self, no: EventNo)
-        requires { self.old.tail < 65 }
-        ensures { Changed self.old Op.Push no.0 self.new }
+    fn pushed(mut self, no: EventNo) -> State
+        requires { self.tail < 65 }
+        ensures { Changed self Op.Push no.0 result }
     {
         if self.is_full() {
-            return;
+            return self;
         }
         self.numbers[usize::from(self.tail)] = no.0;
         self.tail += 1;
+        self
     }
 
     // Puts the event behind the newest, and keeps the last ones where the object held as many as it can.
-    fn write(&mut self, no: EventNo)
-        requires { self.old.tail < 65 }
-        ensures { Changed self.old Op.Write no.0 self.new }
+    fn written(mut self, no: EventNo) -> State
+        requires { self.tail < 65 }
+        ensures { Changed self Op.Write no.0 result }
     {
         let full = self.is_full();
         self.numbers[usize::from(self.tail)] = no.0;
         self.tail += 1;
-        if full {
-            self.head = self.tail - self.limit;
+        if !full {
+            return self;
         }
+        self.head = self.tail - self.limit;
+        self
     }
 
     // Drops the event at the end that pop takes, if there is one.
-    fn pop(&mut self)
-        ensures { (no : ℕ) → Changed self.old Op.Pop no self.new }
+    fn popped(mut self) -> State
+        ensures { (no : ℕ) → Changed self Op.Pop no result }
     {
         if self.head == self.tail {
-            return;
+            return self;
         }
         if self.newest {
             self.tail -= 1;
-        } else {
-            self.head += 1;
+            return self;
         }
+        self.head += 1;
+        self
     }
 
-    // Takes an event and changes the state.
-    pub fn change(&mut self, e: EventOp)
-        requires { self.old.tail < 65 }
-        ensures { Changed self.old e.op e.no.0 self.new }
+    // The state after the event.
+    // Kept: by value, here and in `step`: `Changed` speaks of the state before and the one after; `&mut self` would name both as well.
+    pub fn changed(self, e: EventOp) -> State
+        requires { self.tail < 65 }
+        ensures { Changed self e.op e.no.0 result }
     {
         match e.op {
-            Op::Write => self.write(e.no),
-            Op::Push => self.push(e.no),
-            Op::Pop => self.pop(),
-            Op::Read | Op::Peek => {}
+            Op::Write => self.written(e.no),
+            Op::Push => self.pushed(e.no),
+            Op::Pop => self.popped(),
+            Op::Read | Op::Peek => self,
         }
     }
 
@@ -200,13 +212,14 @@ impl State {
         }
     }
 
-    // Takes an event, changes the state and hands back the answer.
-    pub fn step(&mut self, e: EventOp) -> Given
-        requires { self.old.tail < 65 }
-        ensures { Changed self.old e.op e.no.0 self.new × Answered self.old e.op e.no.0 result }
+    // Takes an event and hands back state and answer.
+    pub fn step(self, e: EventOp) -> Step
+        requires { self.tail < 65 }
+        ensures { Changed self e.op e.no.0 result.state × Answered self e.op e.no.0 result.answer }
     {
-        let given = self.answer(e);
-        self.change(e);
-        given
+        Step {
+            state: self.changed(e),
+            answer: self.answer(e),
+        }
     }
 }

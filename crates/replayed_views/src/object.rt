@@ -38,12 +38,13 @@ fn replay_object(history: &LightHistory, start: State, part: &[u8], e: EventNo) 
         let at = usize::from(*number);
         let op = history.events[at].op;
         if no == e {
-            let given = state.step(EventOp { no, op });
-            if !history.fits_given(&history.answers[at], &given) {
+            let step = state.step(EventOp { no, op });
+            if !history.fits_given(&history.answers[at], &step.answer) {
                 return Some(e);
             }
+            state = step.state;
         } else {
-            state.change(EventOp { no, op });
+            state = state.changed(EventOp { no, op });
         }
     }
     None

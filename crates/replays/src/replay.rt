@@ -70,12 +70,13 @@ pub fn replay(
         let o = usize::from(e.object);
         let event = EventOp { no, op: e.op };
         if asks(who, e, no) {
-            let given = states[o].step(event);
-            if !history.fits_given(&history.answers[at], &given) {
+            let step = states[o].step(event);
+            if !history.fits_given(&history.answers[at], &step.answer) {
                 return Some(no);
             }
+            states[o] = step.state;
         } else if changes(e.op) {
-            states[o].change(event);
+            states[o] = states[o].changed(event);
         }
     }
     None

@@ -8,7 +8,7 @@ use Rattle.replayed_views.proofs.object.replay_object.Goals.{then-eq+else-not-fi
 
 pub returns-then-not-fits_given : goal.returns-then-not-fits_given
 returns-then-not-fits_given c =
-    its-wrong c.requires c.loop-number.invariant c.loop-number-test.true c.from-at.ensures c.step-given.result (eqb-true _ _ (sym c.if-eq.ensures)) c.step-given.ensures.1
+    its-wrong c.requires c.loop-number.invariant c.loop-number-test.true c.from-at.ensures c.step-step.result.answer (eqb-true _ _ (sym c.if-eq.ensures)) c.step-step.ensures.1
     (sym c.if-not-fits_given.true ∙ c.fits_given.ensures)
 
 pub loop-number-preserved : goal.loop-number-preserved
@@ -17,9 +17,9 @@ loop-number-preserved c =
     let l = c.loop-number-test.true in
     elim c.if-eq.branch [
       | then-eq+else-not-fits_given w ↦
-          rw w.state-is (its-right c.requires p l c.from-at.ensures w.step-given.result w.step-given.new.self (eqb-true _ _ (sym w.if-eq.ensures)) w.step-given.ensures.1
-          (sym w.if-not-fits_given.false ∙ w.fits_given.ensures) w.step-given.ensures.0)
-      | else-eq w ↦ rw w.state-is (passes c.requires p l c.from-at.ensures w.change.new.self (eqb-false _ _ (sym w.if-eq.ensures)) w.change.ensures)
+          rw w.state-is (its-right c.requires p l c.from-at.ensures w.step-step.result.answer w.step-step.result.state (eqb-true _ _ (sym w.if-eq.ensures)) w.step-step.ensures.1
+          (sym w.if-not-fits_given.false ∙ w.fits_given.ensures) w.step-step.ensures.0)
+      | else-eq w ↦ rw w.state-is (passes c.requires p l c.from-at.ensures w.changed-state.result (eqb-false _ _ (sym w.if-eq.ensures)) w.changed-state.ensures)
     ]
 
 pub returns : goal.returns

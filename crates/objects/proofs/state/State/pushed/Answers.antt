@@ -2,12 +2,12 @@
 use mathlib.Core.Path.{sym, ◌∙◌}
 use borrow.Author.Rules.{rules}
 use Rattle.objects.proofs.StateLaws.{push-full, push-changes}
-use Rattle.objects.proofs.state.State.push.Goals as goal
+use Rattle.objects.proofs.state.State.pushed.Goals as goal
 
 pub returns-then-is_full : goal.returns-then-is_full
 returns-then-is_full c =
-    push-full c.args.self.now (search rules) c.requires _ (sym c.is_full.ensures ∙ c.if-is_full.true)
+    push-full c.args.self (search rules) c.requires _ (sym c.is_full.ensures ∙ c.if-is_full.true)
 
 pub returns : goal.returns
 returns c =
-    rw c.from.ensures (push-changes c.args.self.now (search rules) c.requires _ (sym c.is_full.ensures ∙ c.if-is_full.false))
+    rw c.from.ensures (push-changes c.args.self (search rules) c.requires _ (sym c.is_full.ensures ∙ c.if-is_full.false))
