@@ -89,7 +89,8 @@ impl Item for u8 {
     ghost number = { λ n. n };
 
     fn number(&self) -> u32 {
-        u32::from(*self)
+        let byte = *self;
+        u32::from(byte)
     }
 }
 
