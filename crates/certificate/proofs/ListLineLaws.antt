@@ -35,13 +35,17 @@ module _ (past : Bool) (count own : ℕ) (a s : List ℕ) where
   unfolding pair_read pair_fault list_layout
   pair-number e = rw e
 
+  pub pair_over : same a (spell own) ≡ true → (m : ℕ) → list_of count m s ≡ Err Over → record { fault = 3; list = no_list } ≡ pair_read past count own a s
+  unfolding pair_read pair_fault list_layout list_limits
+  pair_over e m q = let t = list_over count m s q in rw (e, t.0, t.1)
+
   -- the list is read into `count` places
   module _ (e : same a (spell own) ≡ true) (ps : List ℕ) (long : length ps ≡ count) where
     -- it is no list of such numbers
     pair-unread : (f : ListFault) → list_of count (length ps) s ≡ Err f → list_line_of (Err (listed_fault f)) ≡ pair_read past count own a s
     unfolding pair_read pair_fault list_layout list_limits
     pair-unread NotList q = rw (e, list-not count (length ps) s q)
-    pair-unread Over q = let t = list_over count (length ps) s q in rw (e, t.0, t.1)
+    pair-unread Over q = pair_over e (length ps) q
     pair-unread Many q = let t = list-many count (length ps) s q in rw (e, t.0, t.1, rw long at t.2)
 
     pub pair-refused : (f : ListFault) → list_of count (length ps) s ≡ Err f → (r : Result EventList Fault) → IsErrAnd r (λ g. g ≡ listed_fault f)

@@ -35,7 +35,11 @@ fn quick_entry(text: &[u8]) -> Option<(usize, &[u8])>
 
 // Reads entries with commas between them up to a line feed, in one pass, and tells what stands behind the line feed. In a past each is
 // at least `low`, one more than the one before it.
-// Kept: `EventList::push` in place of `events[k]` was measured: 2,500 instructions for a list of 64 entries, in place of 2,235.
+// A function of its own to the compiler too: where it is part of its callers the loop has too few registers, and the two texts of bench's
+// pair causal-full are read in 1.35 times the time.
+// Kept: `EventList::push` in place of `events[k]` was tried: it proves, and these two texts are then read in 1.26 of the time that the
+// reader took before the design pass, where `events[k]` takes 1.08; the bar is a quarter more.
+#[inline(never)]
 fn quick_entries(text: &[u8], part: Part) -> Option<(EventList, &[u8])>
     ensures { IfSome result (λ r. ListFirst (is_past part.sort) part.count text.now r.0 r.1.now) }
 {

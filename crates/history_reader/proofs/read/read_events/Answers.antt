@@ -53,18 +53,15 @@ loop-start-preserved c =
     let v = kept c.next_event-next.result.read c.map_err.result _ c.in_ok-events.field-0 c.map_err.ensures.cases c.in_ok-events.was in
     let few : c.loop-start.count < 64 = event-few c.loop-start.count _ c.args.text.now c.loop-start.start e n.1 c.loop-start.invariant.to c.next_event-next.result.read n.0 c.in_ok-events.field-0 v in
     let short : e < length c.args.text.now = event-short c.loop-start.count _ c.args.text.now c.loop-start.start e n.1 c.loop-start.invariant.to c.next_event-next.result.read n.0 c.in_ok-events.field-0 v in
-    let k : c.loop-start.start + (c.next_event-next.result.length + 1) ≡ e + 1 = omega arith in
-    rw k
-    (record {
+    record {
       to = omega arith;
       filled = filled_more c.loop-start.invariant.filled c.in_ok-events.field-0 few;
       says =
-          c.loop-start.invariant.says
+          rw (filled-take c.loop-start.invariant.filled c.in_ok-events.field-0 few)
+          (c.loop-start.invariant.says
           ∙ events-more (c.args.read.declared + c.loop-start.count + 3) c.args.text.now c.loop-start.start e n.1 c.loop-start.invariant.to n.2 _ c.loop-start-test.true
-          c.next_event-next.result.read c.loop-start.count n.0 _ (filled-count c.loop-start.invariant.filled) c.in_ok-events.field-0 (c.args.read.declared + (c.loop-start.count + 1) + 3) v (omega arith)
-          ∙ ap (λ (es : List Event). events_from (take c.args.read.declared c.args.read.objects) es (c.args.read.declared + (c.loop-start.count + 1) + 3) (e + 1) (split 10 (drop (e + 1) c.args.text.now)))
-          (sym (filled-take c.loop-start.invariant.filled c.in_ok-events.field-0 few));
-    })
+          c.next_event-next.result.read c.loop-start.count n.0 _ (filled-count c.loop-start.invariant.filled) c.in_ok-events.field-0 _ _ v (omega arith) (omega arith));
+    }
 
 pub returns : goal.returns
 returns c =
