@@ -26,6 +26,7 @@ fn text_name(text: Text) -> &'static str {
     match text {
         Text::History => "history",
         Text::Certificate => "certificate",
+        Text::Neither => "-",
     }
 }
 

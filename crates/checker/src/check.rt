@@ -10,22 +10,14 @@ ghost use Rattle.faults.specs.Finding.{found_of};
 ghost use Rattle.checker.specs.Verdict.{checked_as, verdict_of};
 
 use crate::answer::place_in;
+pub use crate::checked::Checked;
 use crate::place::place_of;
 use certificate::record::Criterion;
 use certificate_reader::read::{Texts, read_certificate};
 use faults::check::check_records;
 use faults::finding::Finding;
-use history_reader::place::{Place, Text};
+use history_reader::place::Text;
 use history_reader::read::Refusal;
-
-// What the check says of two texts that were read: the criterion that the certificate names, what was found of it, and the line of the
-// event of what was found.
-#[derive(Clone, Copy)]
-pub struct Checked {
-    pub criterion: Criterion,
-    pub finding: Option<Finding>,
-    pub place: Option<Place>,
-}
 
 // The answer of texts that were read, the history text with `declared` objects.
 pub fn found(
@@ -76,6 +68,7 @@ pub fn carried_line<'a>(history: &'a [u8], text: &'a [u8]) -> &'a [u8]
             let of = match place.text {
                 Text::History => history,
                 Text::Certificate => text,
+                Text::Neither => &[],
             };
             &of[place.start..place.end]
         }

@@ -38,6 +38,7 @@ fn text_word(t: Text) -> &'static [u8]
     match t {
         Text::History => b"history",
         Text::Certificate => b"certificate",
+        Text::Neither => b"-",
     }
 }
 
@@ -88,7 +89,10 @@ fn criterion_field(c: Option<Criterion>) -> Field
 fn text_field(place: Option<Place>) -> Field
     ensures { (result ≡ text_field (place_in place).text) × (length (field_text result) ≤ 11) }
 {
-    place.map_or(Field::Dash, |place| Field::Text(place.text))
+    match place.map(|place| place.text) {
+        None | Some(Text::Neither) => Field::Dash,
+        Some(text) => Field::Text(text),
+    }
 }
 
 // The line of a place, or a dash for none.

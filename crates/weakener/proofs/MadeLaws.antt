@@ -35,7 +35,7 @@ use Rattle.faults.specs.declared.finding.Finding.{Finding}
 use Rattle.faults.specs.declared.finding.Finding.TheVariants.{LacksOwn, InOwnPast, LacksPast, NotItsSet, Against, Wrong, OutsidePast}
 use Rattle.faults.specs.Finding.{fault_in}
 use Rattle.checker.specs.CheckText.{Verdict, checked, found_in}
-use Rattle.checker.specs.declared.check.Checked.{Checked}
+use Rattle.checker.specs.declared.checked.Checked.{Checked}
 use Rattle.checker.specs.Verdict.{checked_as}
 use Rattle.checker.specs.MadeText.{text_of_lists, text_if_some, made_answer}
 use Rattle.checker.proofs.ListTexts.{lists-fit, text-lists}
