@@ -51,7 +51,7 @@ fn good_past(l: &EventList, count: usize) -> bool
     requires { count ≤ 64 }
     ensures { result ≡ good_row count l.now.count l.now.events && rising (entries_in l.now) }
 {
-    good_row(&l.events, l.count, count) && is_rising(&l.events[..l.count])
+    good_row(&l.events, l.count, count) && is_rising(l.entries())
 }
 
 // Whether each list is good, and strictly rising.

@@ -63,8 +63,7 @@ impl<'a> PastLines<'a> {
         requires { i < length self.now.pasts.now }
         ensures { (result.now ≡ entries_in (get_or self.now.pasts.now i no_list)) × (length result.now ≤ 64) }
     {
-        let past = &self.pasts[i];
-        &past.events[..past.count]
+        self.pasts[i].entries()
     }
 }
 

@@ -127,7 +127,7 @@ pub fn write_certificate(
         pasts: &c.pasts[..past_count(c.criterion, h.count)],
     };
     let views = ViewLines {
-        numbers: &numbers.numbers[..numbers.count],
+        numbers: numbers.all(),
         lengths: &c.lengths[..numbers.count],
         rows: &rows[..numbers.count],
     };

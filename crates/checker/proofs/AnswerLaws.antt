@@ -149,9 +149,9 @@ read-back history declared c x =
     (read-place history declared (answer_of x).event)
     (found-finding (finding_in (answer_of x)) ∙ findings.fault-back x)
 
--- one is refused
-refused-again : (n : ℕ) (p : Place) → fault_number (fault_of n) ≡ n → verdict_of (checked_of (refused_at n p)) ≡ refused_at n p
-refused-again n p e =
+-- one is refused: its number is that of a fault
+refused-numbered : (n : ℕ) (p : Place) → fault_number (fault_of n) ≡ n → verdict_of (checked_of (refused_at n p)) ≡ refused_at n p
+refused-numbered n p e =
     ap₂ {C = Verdict} (λ (m : ℕ) (t : Text). refused_at m (record { text = t; line = p.line; start = p.start; end = p.end })) e (text-again p.text)
 
 pub verdict-is : (history text : List ℕ) (k : Result Checked Refusal) → k ≡ checked_of (check_text history text)
@@ -164,4 +164,4 @@ verdict-is history text k q =
     (λ z. subst (λ (v : Verdict). verdict_of (checked_of v) ≡ v) (sym (checked-as history text z))
     (read-back history (read_history history).history.declared (certificate_read history text).criterion (check (history_read history) (certificate_read history text))))
     (λ n. subst (λ (v : Verdict). verdict_of (checked_of v) ≡ v) (sym (refused_as history text n))
-    (refused-again r.fault r.place (refuses.number n)))
+    (refused-numbered r.fault r.place (refuses.number n)))

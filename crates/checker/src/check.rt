@@ -43,13 +43,9 @@ fn checked_texts(history: &[u8], read: &Texts, rows: &[[u8; 64]; 64]) -> Checked
     requires { (within read.now.history ≡ true) × (fits (events_in read.now.history) read.now.certificate rows.now ≡ true) }
     ensures { checked_as result ≡ found_in history.now read.now.history.declared read.now.certificate.criterion (check (history_of read.now.history) (certificate_of read.now.history read.now.certificate rows.now)) }
 {
+    let criterion = read.certificate.criterion;
     let finding = check_records(&read.history, &read.certificate, rows).err();
-    found(
-        history,
-        read.history.declared,
-        read.certificate.criterion,
-        finding,
-    )
+    found(history, read.history.declared, criterion, finding)
 }
 
 // Checks a certificate text for a history text.

@@ -15,7 +15,7 @@ invariant_of-pasts-clause-short c =
 
 pub invariant_of-views-clause-all : goal.invariant_of-views-clause-all
 invariant_of-views-clause-all c =
-    views_all c.args.h c.args.c c.args.rows.now (search rules) _ c.view_numbers-numbers.ensures.0 _ c.past_count.ensures
+    rw c.all.ensures.first (views_all c.args.h c.args.c c.args.rows.now (search rules) _ c.view_numbers-numbers.ensures.0 _ c.past_count.ensures)
 
 pub invariant_of-views-clause-short : goal.invariant_of-views-clause-short
 invariant_of-views-clause-short c =
@@ -24,9 +24,9 @@ invariant_of-views-clause-short c =
 pub returns-then-buf-n : goal.returns-then-buf-n
 returns-then-buf-n c =
     answer_short c.args.h c.args.c c.args.rows.now (search rules) _ c.view_numbers-numbers.ensures.0 _ c.past_count.ensures
-    c.args.buf.now _ c.certificate_len-n.ensures (search rules)
+    c.args.buf.now _ (rw c.all.ensures.first at c.certificate_len-n.ensures) (search rules)
 
 pub returns : goal.returns
 returns c =
     answer_fits c.args.h c.args.c c.args.rows.now (search rules) _ c.view_numbers-numbers.ensures.0 _ c.past_count.ensures
-    c.args.buf.now _ c.certificate_len-n.ensures (search rules) _ c.put_certificate.ensures.1
+    c.args.buf.now _ (rw c.all.ensures.first at c.certificate_len-n.ensures) (search rules) _ (rw c.all.ensures.first at c.put_certificate.ensures.1)

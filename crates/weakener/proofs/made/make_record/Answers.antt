@@ -1,5 +1,5 @@
 -- `make_record` meets its contract: 17, what the check finds, 26, 18, or the text. Assumes nothing.
-use Rattle.std.proofs.Common.{◌≡◌, sym, rules}
+use Rattle.std.proofs.Common.{◌≡◌, arith, sym, rules}
 use Rattle.std.proofs.lemmas.Result.{err_from_is_err_and}
 use Rattle.history.proofs.WithinLaws.{within-limits}
 use Rattle.history_reader.proofs.ReadLaws.{kept, failed}
@@ -13,7 +13,7 @@ returns-then-not-may_be_made c =
     (sym c.if-not-may_be_made.ensures)
 
 pub found-checked-requires : goal.found-checked-requires
-found-checked-requires c = (within-limits c.args.h.now c.requires.0).declared
+found-checked-requires c = omega (arith, (within-limits c.args.h.now c.requires.0).declared)
 
 pub returns-in-Err : goal.returns-in-Err
 returns-in-Err c =
