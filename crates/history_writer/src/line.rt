@@ -58,7 +58,7 @@ fn answer_len(a: Answer) -> usize
     if a.lost {
         return 1;
     }
-    list_len(&a.values[..usize::from(a.count).min(8)])
+    list_len(a.told_values())
 }
 
 // Writes an answer into a part that has room.
@@ -69,7 +69,7 @@ fn put_answer(part: &mut [u8], a: Answer) -> usize
     if a.lost {
         return put_bytes(part, b"?");
     }
-    put_list(part, &a.values[..usize::from(a.count).min(8)])
+    put_list(part, a.told_values())
 }
 
 // How many bytes a field has.
