@@ -1,6 +1,6 @@
 // The history record, by value. Every place that a record does not use holds zeros (`Register`, `Write` and `false` for a kind, an op
 // and a bool), so that two records of one history are equal.
-ghost use Rattle.std.specs.Prelude.{◌≡◌, ◌≤◌};
+ghost use Rattle.std.specs.Prelude.{◌≡◌, ◌≤◌, length};
 ghost use Rattle.history.specs.Record.{no_object, no_event, values_in, objects_in, events_in};
 
 use crate::answer::no_answer;
@@ -86,7 +86,8 @@ impl History {
     // The objects, without the places that are not used.
     pub fn declared_objects(&self) -> &[Object]
         requires { self.now.declared ≤ 16 }
-        ensures { result.now ≡ objects_in self.now }
+        ensures objects { result.now ≡ objects_in self.now }
+        ensures declared { length result.now ≡ self.now.declared }
     {
         &self.objects[..self.declared]
     }
@@ -94,7 +95,8 @@ impl History {
     // The events, without the places that are not used.
     pub fn recorded_events(&self) -> &[Event]
         requires { self.now.count ≤ 64 }
-        ensures { result.now ≡ events_in self.now }
+        ensures events { result.now ≡ events_in self.now }
+        ensures count { length result.now ≡ self.now.count }
     {
         &self.events[..self.count]
     }

@@ -17,22 +17,22 @@ shared_ref_as_front-pasts c =
 
 pub invariant_of-pasts-clause-short : goal.invariant_of-pasts-clause-short
 invariant_of-pasts-clause-short c =
-    past_short c.args.h c.args.c c.args.rows.now (search rules) _ (rw c.recorded_events.ensures at c.view_numbers-numbers.ensures.0) _ c.past_count.ensures
+    past_short c.args.h c.args.c c.args.rows.now (search rules) _ (rw c.recorded_events.ensures.events at c.view_numbers-numbers.ensures.0) _ c.past_count.ensures
 
 pub invariant_of-views-clause-all : goal.invariant_of-views-clause-all
 invariant_of-views-clause-all c =
-    views_all c.args.h c.args.c c.args.rows.now (search rules) _ (rw c.recorded_events.ensures at c.view_numbers-numbers.ensures.0) _ c.past_count.ensures
+    views_all c.args.h c.args.c c.args.rows.now (search rules) _ (rw c.recorded_events.ensures.events at c.view_numbers-numbers.ensures.0) _ c.past_count.ensures
 
 pub invariant_of-views-clause-short : goal.invariant_of-views-clause-short
 invariant_of-views-clause-short c =
-    view_short c.args.h c.args.c c.args.rows.now (search rules) _ (rw c.recorded_events.ensures at c.view_numbers-numbers.ensures.0) _ c.past_count.ensures
+    view_short c.args.h c.args.c c.args.rows.now (search rules) _ (rw c.recorded_events.ensures.events at c.view_numbers-numbers.ensures.0) _ c.past_count.ensures
 
 pub returns-then-buf-n : goal.returns-then-buf-n
 returns-then-buf-n c =
-    answer_short c.args.h c.args.c c.args.rows.now (search rules) _ (rw c.recorded_events.ensures at c.view_numbers-numbers.ensures.0) _ c.past_count.ensures
+    answer_short c.args.h c.args.c c.args.rows.now (search rules) _ (rw c.recorded_events.ensures.events at c.view_numbers-numbers.ensures.0) _ c.past_count.ensures
     c.args.buf.now _ c.certificate_len-n.ensures (search rules)
 
 pub returns : goal.returns
 returns c =
-    answer_fits c.args.h c.args.c c.args.rows.now (search rules) _ (rw c.recorded_events.ensures at c.view_numbers-numbers.ensures.0) _ c.past_count.ensures
+    answer_fits c.args.h c.args.c c.args.rows.now (search rules) _ (rw c.recorded_events.ensures.events at c.view_numbers-numbers.ensures.0) _ c.past_count.ensures
     c.args.buf.now _ c.certificate_len-n.ensures (search rules) _ c.put_certificate.ensures.1

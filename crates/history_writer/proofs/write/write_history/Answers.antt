@@ -14,7 +14,7 @@ recorded_events-requires c = (counts_few c.args.h (sym c.if-not-is_within.ensure
 
 pub returns-then-buf-n : goal.returns-then-buf-n
 returns-then-buf-n c =
-    let long = rw (c.declared_objects.ensures, c.recorded_events.ensures) at c.history_len-n.ensures in
+    let long = rw (c.declared_objects.ensures.objects, c.recorded_events.ensures.events) at c.history_len-n.ensures in
     answer_short c.args.h (sym c.if-not-is_within.ensures) c.args.buf.now c.history_len-n.result long c.if-buf-n.true
 
 pub put_history-requires : goal.put_history-requires
@@ -23,7 +23,7 @@ put_history-requires c =
 
 pub returns : goal.returns
 returns c =
-    let long = rw (c.declared_objects.ensures, c.recorded_events.ensures) at c.history_len-n.ensures in
-    let filled = rw (c.declared_objects.ensures, c.recorded_events.ensures) at c.put_history.ensures.1 in
+    let long = rw (c.declared_objects.ensures.objects, c.recorded_events.ensures.events) at c.history_len-n.ensures in
+    let filled = rw (c.declared_objects.ensures.objects, c.recorded_events.ensures.events) at c.put_history.ensures.1 in
     answer_fits c.args.h (sym c.if-not-is_within.ensures) c.args.buf.now c.history_len-n.result long c.if-buf-n.false
     c.put_history.new.part filled
