@@ -158,8 +158,9 @@ impl Passing<'_> {
         ensures { IsRecordOf (weakened Pram (history_of self.now.h.now) (certificate_of self.now.h.now self.now.of.now.certificate self.now.of.now.views)) result.certificate result.views }
     {
         let n = self.h.count;
-        let own = view_numbers(Criterion::Causal, self.h.recorded_events());
-        let named = view_numbers(Criterion::Pram, self.h.recorded_events());
+        let events = self.h.recorded_events();
+        let own = view_numbers(Criterion::Causal, events);
+        let named = view_numbers(Criterion::Pram, events);
         let processes = processes_of(&self.h.events);
         let views = self.views(own.all());
         let made = completed_views(&processes[..n], &views, named.all());
