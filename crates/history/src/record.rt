@@ -103,6 +103,8 @@ impl History {
 }
 
 // What stands in a place that holds no object.
+// Kept: no `Default`, here, of `no_event` and of `no_answer`: a register without a width and a write of 0 are nothing that one would take
+// for granted, and the must-fail edits `wide_no_object` and `busy_no_event` plant their mistakes in these bodies.
 pub fn no_object() -> Object
     ensures { result ≡ no_object }
 {
