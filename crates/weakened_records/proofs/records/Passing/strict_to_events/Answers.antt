@@ -9,14 +9,14 @@ own_parts-requires c =
     let long : length c.processes_of-processes.result ≡ 64 = search rules in (
       take-few c.args.self.now.h.now.count c.processes_of-processes.result c.args.self.now.few,
       rw (c.views-views.ensures.numbers, c.all.ensures.first)
-          (slot_small c.args.self.now.h.now c.args.self.now.of.now.certificate c.args.self.now.of.now.views c.requires.0 c.args.self.now.passed c.view_numbers-named.result c.view_numbers-named.ensures.0
+          (slot_small c.args.self.now.h.now c.args.self.now.of.now.certificate c.args.self.now.of.now.views c.requires.0 c.args.self.now.passed c.view_numbers-named.result (rw c.recorded_events.ensures.events at c.view_numbers-named.ensures.0)
           c.processes_of-processes.result long c.processes_of-processes.ensures),
     )
 
 pub returns : goal.returns
 returns c =
     let long : length c.processes_of-processes.result ≡ 64 = search rules in
-    events-record c.args.self.now.h.now c.args.self.now.of.now.certificate c.args.self.now.of.now.views c.requires.0 c.args.self.now.passed c.view_numbers-named.result c.view_numbers-named.ensures.0
+    events-record c.args.self.now.h.now c.args.self.now.of.now.certificate c.args.self.now.of.now.views c.requires.0 c.args.self.now.passed c.view_numbers-named.result (rw c.recorded_events.ensures.events at c.view_numbers-named.ensures.0)
     c.processes_of-processes.result long c.processes_of-processes.ensures c.args.wanted c.requires.1
     c.record_of.result c.own_parts.result c.record_of.ensures
     (rw (c.views-views.ensures.rows, c.views-views.ensures.lengths, c.views-views.ensures.numbers, c.all.ensures.first) at c.own_parts.ensures)
