@@ -50,6 +50,7 @@ fn case<W: Write>(out: &mut W, name: &str, text: &[u8]) -> io::Result<()> {
     }
 }
 
+// Reads each of the texts, which have names.
 fn cases<W: Write>(out: &mut W, texts: &[(&str, &[u8])]) -> io::Result<()> {
     for (name, text) in texts {
         case(out, name, text)?;

@@ -84,7 +84,7 @@ fn say_part<W: Write>(out: &mut W, items: &[u32], n: usize) -> io::Result<()>
 fn parts<W: Write>(out: &mut W, items: &[u32], lengths: Range<usize>) -> io::Result<()>
     requires { lengths.end ≤ 8191 }
 {
-    for n in lengths.start..lengths.end {
+    for n in lengths {
         say_part(out, items, n)?;
     }
     Ok(())
