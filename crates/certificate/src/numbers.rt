@@ -85,7 +85,7 @@ fn one_number() -> ViewNumbers
 {
     ViewNumbers {
         count: 1,
-        numbers: [0u8; 64],
+        ..no_numbers()
     }
 }
 
