@@ -41,6 +41,9 @@ impl Part {
     }
 }
 
+// The list of no events.
+// Kept: no `Default`: a derived one says of each place of an array that it holds 0, where callers take the equation with `no_list` of
+// specs/Record; and no one function with `no_numbers` (numbers.rt), since the two give two types.
 pub fn no_list() -> EventList
     ensures { result ≡ no_list }
 {
