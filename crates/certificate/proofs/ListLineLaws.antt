@@ -108,27 +108,3 @@ module _ (count n : ℕ) (s xs : List ℕ) (room : count ≤ 64) (ps : List ℕ)
   pub kept-list : (es : List ℕ) → es ≡ ys → event_list_of (take n ys) ≡ record { count = n; events = es }
   unfolding event_list_of
   kept-list es e = rw (e, kept-numbers, row, numbers-count (is-list count (length ps) n s q))
-
--- ---- the line, by its first field and what is behind it
-module _ (past : Bool) (count own : ℕ) (line : List ℕ) where
-  pub list-whole : split 32 line ≡ line ∷ [] → record { fault = 2; list = no_list } ≡ list_read past count own line
-  unfolding list_read list_fault
-  list-whole cut = rw cut
-
-  module _ (a s : List ℕ) (cut : split 32 line ≡ a ∷ split 32 s) where
-    pub list_more : (f rest : List ℕ) → split 32 s ≡ f ∷ split 32 rest → record { fault = 2; list = no_list } ≡ list_read past count own line
-    unfolding list_read list_fault
-    list_more f rest q = rw (cut, q, ne_eqb (suc (suc (length (split 32 rest)))) 2 (λ z. omega (arith, split-some 32 rest)))
-
-    pub list-pair : split 32 s ≡ s ∷ [] → pair_read past count own a s ≡ list_read past count own line
-    unfolding list_read list_fault list_said pair_read
-    list-pair q = rw (cut, q)
-
--- what `is_some` tells of an answer
-pub some-tells : {A : Type 0} (P : Type 0) (Q : A → Type 0) (o : Option A) → MatchOption o P Q → true ≡ is_some o → (x : A) × Q x
-some-tells P Q None m e = absurd (false≢true (sym e))
-some-tells P Q (Some x) m e = (x, m)
-
-pub none-tells : {A : Type 0} (P : Type 0) (Q : A → Type 0) (o : Option A) → MatchOption o P Q → false ≡ is_some o → P
-none-tells P Q None m e = m
-none-tells P Q (Some x) m e = absurd (false≢true e)

@@ -4,6 +4,8 @@
 
 #![tactic(auto)]
 
+mod events;
 pub mod limits;
+pub mod line;
 pub mod lines;
 pub mod write;
