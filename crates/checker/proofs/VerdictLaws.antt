@@ -15,7 +15,6 @@ use Rattle.history.specs.Record.{events_in}
 use Rattle.history.specs.Readable.{within}
 use Rattle.history.specs.Faults.{fault_number}
 use Rattle.history.proofs.WithinLaws.{within-limits}
-use Rattle.history_reader.specs.declared.place.Text as code-text
 use Rattle.history_reader.specs.declared.place.Place as code-place
 use Rattle.history_reader.specs.Place.{Place, nowhere, text_in, line_place, bytes_at, text_named, part_at}
 use Rattle.history_reader.specs.ReadHistory.{read_history}
@@ -96,6 +95,9 @@ module _ (history text : List ℕ) (r : CertificateRead) (read : r ≡ read_cert
         ap (λ (h : History). fits (events_in h) r.certificate rows) history-is
         ∙ ap₂ (λ (x : CertificateRead) (l : List (List ℕ)). fits (events_in (read_history history).history) x.certificate l) read rows-read
         ∙ read_fits history text no-fault (replicate 64 no_row)
+
+    pub limits-read : (within r.history ≡ true) × (fits (events_in r.history) r.certificate rows ≡ true)
+    limits-read = (within-read, fits_read)
 
     -- what is made of the records that were read is made of the texts
     pub of-texts : {A : Type 0} (F : History → Certificate → List (List ℕ) → A)
@@ -188,13 +190,9 @@ module _ (history text : List ℕ) (p : code-place.Place) (q : line_place p ≡ 
   pub line-begins : p.start ≤ p.end
   line-begins = (answer-placed history text (line_place p) q).from
 
-  module _ (t : code-text.Text) (e : p.text ≡ t) where
-    pub line-ends : p.end ≤ length (text_named (text_in t) history text)
-    line-ends =
-        subst (λ (x : code-text.Text). p.end ≤ length (text_named (text_in x) history text)) e
-        (answer-placed history text (line_place p) q).to
+  module _ (of : List ℕ) (e : of ≡ text_named (text_in p.text) history text) where
+    pub line-ends : p.end ≤ length of
+    line-ends = rw e (answer-placed history text (line_place p) q).to
 
-    pub line-carried : bytes_at (line_place p) (text_named (text_in t) history text) ≡ carried_line history text
-    line-carried =
-        ap (λ (x : code-text.Text). bytes_at (line_place p) (text_named (text_in x) history text)) (sym e)
-        ∙ carried-part history text (line_place p) q
+    pub line-carried : bytes_at (line_place p) of ≡ carried_line history text
+    line-carried = ap (bytes_at (line_place p)) e ∙ carried-part history text (line_place p) q

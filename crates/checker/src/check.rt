@@ -1,6 +1,7 @@
 // The check of two texts: the history's reading refusals, then the certificate's, then 11 to 16 with 20 after 15, then 0.
 ghost use Rattle.std.specs.Prelude.{◌≡◌, ◌≤◌, true};
 ghost use Rattle.history.specs.Record.{events_in};
+ghost use Rattle.history_reader.specs.Place.{text_in, text_named};
 ghost use Rattle.history.specs.Readable.{within};
 ghost use Rattle.certificate.specs.Readable.{fits};
 ghost use Rattle.criteria.specs.Check.{check};
@@ -57,20 +58,25 @@ pub fn check(history: &[u8], text: &[u8]) -> Result<Checked, Refusal>
     Ok(checked_texts(history, &read, &rows))
 }
 
+// The text that a place is in, of the two; an empty one where it is in neither.
+fn text_named<'a>(named: Text, history: &'a [u8], text: &'a [u8]) -> &'a [u8]
+    ensures { result.now ≡ text_named (text_in named) history.now text.now }
+{
+    match named {
+        Text::History => history,
+        Text::Certificate => text,
+        Text::Neither => &[],
+    }
+}
+
 // The line that the answer of the check carries, as part of whichever text it is in and without its line feed: the faulty line of a
 // reading refusal, or the line of an event; empty where there is none.
 pub fn carried_line<'a>(history: &'a [u8], text: &'a [u8]) -> &'a [u8]
     ensures { result.now ≡ carried_line history.now text.now }
 {
-    match place_in(check(history, text)) {
-        None => &history[..0],
-        Some(place) => {
-            let of = match place.text {
-                Text::History => history,
-                Text::Certificate => text,
-                Text::Neither => &[],
-            };
-            &of[place.start..place.end]
-        }
-    }
+    let Some(place) = place_in(check(history, text)) else {
+        return &[];
+    };
+    let of = text_named(place.text, history, text);
+    &of[place.start..place.end]
 }
