@@ -22,7 +22,7 @@ use Rattle.layout.proofs.LeadingLaws.{at-cons}
 use Rattle.history.specs.Record.{pad}
 use Rattle.history.specs.declared.fault.Fault.{Fault}
 use Rattle.history.specs.Faults.{fault_number}
-use Rattle.history.proofs.PadLaws.{pad-set, pad-length, take_more}
+use Rattle.history.proofs.PadLaws.{get_or-blank, pad-set, pad-length, take_more}
 use Rattle.history.specs.declared.record.Event.{Event}
 use Rattle.history_reader.specs.declared.read.Refusal.{Refusal}
 use Rattle.history_reader.proofs.ReadLaws.{fault-some}
@@ -147,10 +147,7 @@ pub record Reading (past : Bool) (count : ℕ) (numbers : List ℕ) (old : Lines
       → left_say (lists_from past count next numbers []) old ≡ left_say (lists_from past count next (drop i numbers) said) now
 
 blank-short : (n k : ℕ) → (get_or (replicate n no_list) k no_list).count ≤ 64
-blank-short zero zero = omega arith
-blank-short zero (suc k) = omega arith
-blank-short (suc n) zero = omega arith
-blank-short (suc n) (suc k) = blank-short n k
+blank-short n k = rw (get_or-blank no_list n k) (omega arith)
 
 set-short : (lists : List EventList) (i : ℕ) (l : EventList) → l.count ≤ 64 → i < length lists → ((k : ℕ) → (get_or lists k no_list).count ≤ 64)
     → (k : ℕ) → (get_or (set lists i l) k no_list).count ≤ 64

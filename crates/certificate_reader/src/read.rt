@@ -225,7 +225,7 @@ pub fn read_certificate(
     ensures { (texts_read result ≡ read_certificate history.now text.now) × (rows.new ≡ rows_read history.now text.now rows.old) }
 {
     let history = read_history(history).map_err(Unread::NoHistory)?;
-    let certificate = read_text(text, &history.events[..history.count], rows).map_err(
+    let certificate = read_text(text, history.recorded_events(), rows).map_err(
         |refusal| Unread::NoCertificate(history, refusal),
     )?;
     Ok(Texts {

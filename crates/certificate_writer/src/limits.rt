@@ -122,7 +122,7 @@ pub(crate) fn fits_history(h: &History, c: &Certificate, rows: &[[u8; 64]; 64]) 
     requires { (h.now.count ≤ 64) × (length (events_in h.now) ≡ h.now.count) }
     ensures { result ≡ fits (events_in h.now) c.now rows.now }
 {
-    let views = view_numbers(c.criterion, &h.events[..h.count]);
+    let views = view_numbers(c.criterion, h.recorded_events());
     let pasts = past_count(c.criterion, h.count);
     parts_fit(c, rows, pasts, views.count, h.count)
 }

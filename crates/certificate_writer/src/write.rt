@@ -122,7 +122,7 @@ pub fn write_certificate(
     if !is_writable(&h, &c, rows) {
         return Err(WriteFault::OutsideLimits);
     }
-    let numbers = view_numbers(c.criterion, &h.events[..h.count]);
+    let numbers = view_numbers(c.criterion, h.recorded_events());
     let pasts = PastLines {
         pasts: &c.pasts[..past_count(c.criterion, h.count)],
     };

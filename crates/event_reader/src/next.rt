@@ -63,6 +63,8 @@ fn leading_lost(text: &[u8]) -> Option<(Answer, &[u8])>
 
 // The answer that a text begins with as values with commas between them, or as `?`, with a line feed behind it, and what stands
 // behind the line feed. Few answers are lost: `?` is looked for only where no number stands.
+// Kept: no one loop with `quick_entries` (certificate::next): there an entry is judged by the one before it, so the step would change what
+// it captures, and the laws of the two differ in that too.
 fn leading_values(text: &[u8]) -> Option<(Answer, &[u8])>
     ensures { IfSome result (λ r. AnswerFirst text.now r.0 r.1.now) }
 {

@@ -51,7 +51,7 @@ impl LightHistory {
     {
         answer.lost
             || self.same_values(
-                &answer.values[..usize::from(answer.count).min(8)],
+                answer.told_values(),
                 &given.numbers[..given.count],
             )
     }
@@ -131,7 +131,7 @@ pub fn light_history(h: &History) -> LightHistory
     requires { (h.now.count ≤ 64) × ((e : ℕ) → e < h.now.count → (get_or h.now.events e no_event).object < 16) }
     ensures { TakenApart h.now result }
 {
-    let events = &h.events[..h.count];
+    let events = h.recorded_events();
     LightHistory {
         objects: h.objects,
         events: light_events(&h.objects, events),

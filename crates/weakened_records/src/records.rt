@@ -112,7 +112,7 @@ impl Passing<'_> {
         let n = self.h.count;
         let line = &self.of.views[0];
         let order = View { events: &line[..n] };
-        let named = view_numbers(wanted, &self.h.events[..n]);
+        let named = view_numbers(wanted, self.h.recorded_events());
         let pasts = order_pasts(wanted, &order);
         record_of(wanted, pasts, order_views(wanted, &order, named.count))
     }
@@ -147,8 +147,9 @@ impl Passing<'_> {
         ensures { IsWeakened Pram self.now.h.now self.now.of.now result }
     {
         let n = self.h.count;
-        let own = view_numbers(Criterion::Causal, &self.h.events[..n]);
-        let named = view_numbers(Criterion::Pram, &self.h.events[..n]);
+        let events = self.h.recorded_events();
+        let own = view_numbers(Criterion::Causal, events);
+        let named = view_numbers(Criterion::Pram, events);
         let processes = processes_of(&self.h.events);
         let views = self.views(own.all());
         let made = completed_views(&processes[..n], &views, named.all());
@@ -161,7 +162,7 @@ impl Passing<'_> {
         ensures { IsWeakened wanted self.now.h.now self.now.of.now result }
     {
         let n = self.h.count;
-        let named = view_numbers(Criterion::Strict, &self.h.events[..n]);
+        let named = view_numbers(Criterion::Strict, self.h.recorded_events());
         let processes = processes_of(&self.h.events);
         let pasts = self.of.certificate.pasts;
         let views = self.views(named.all());

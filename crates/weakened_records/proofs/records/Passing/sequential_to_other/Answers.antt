@@ -13,5 +13,5 @@ order_pasts-pasts-requires c =
 pub returns : goal.returns
 returns c =
     other-record c.args.self.now c.requires.0 c.args.wanted c.requires.1
-    c.view_numbers-named.result c.view_numbers-named.ensures.0 c.record_of.result c.order_pasts-pasts.result c.order_views.result c.record_of.ensures
+    c.view_numbers-named.result (rw c.recorded_events.ensures.events at c.view_numbers-named.ensures.0) c.record_of.result c.order_pasts-pasts.result c.order_views.result c.record_of.ensures
     c.order_pasts-pasts.ensures c.order_views.ensures
