@@ -23,10 +23,10 @@ fn goes_on(events: &[Light; 64], a: &[u8], b: &[u8], p: ProcessNo, e: EventNo) -
     requires { (e.0 < 64) × ((i : ℕ) → i < length b.now → get_or b.now i 0 < 64) }
     ensures { result ≡ true → GoesOn events.now a.now b.now p.0 e.0 }
 {
-    if events[usize::from(e.0)].process != p {
+    let Some(rest) = b.strip_prefix(a) else {
         return false;
-    }
-    b.starts_with(a) && alone(events, &b[a.len()..], p, e)
+    };
+    events[usize::from(e.0)].process == p && alone(events, rest, p, e)
 }
 
 // Whether the answers of process p are the visible ones.

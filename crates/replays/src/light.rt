@@ -14,8 +14,7 @@ use objects::state::Given;
 
 // The light records of the events, and beside them their values and their answers. The last of the values is 0, for the start.
 // Kept: no heap, fixed memory; three lists, since `event_in`, `SoundParts` and `TakenApart` name them; `values` has a 65th place.
-// Kept: the states at the start stand beside it: `replay-is` says of any such states what a replay finds; as a field, the check took 5.2
-// percent longer of converge and 4.2 of strict, as all of it is then cleared three times.
+// Kept: the states at the start stand beside it, since `replay-is` says of any such states what a replay finds.
 #[derive(Clone, Copy)]
 pub struct LightHistory {
     pub objects: [Object; 16],
