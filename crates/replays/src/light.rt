@@ -49,11 +49,7 @@ impl LightHistory {
     pub fn fits_given(&self, answer: &Answer, given: &Given) -> bool
         ensures { result ≡ fits (recorded_in answer.now) (given_of self.now.values given.now) }
     {
-        answer.lost
-            || self.same_values(
-                answer.told_values(),
-                &given.numbers[..given.count],
-            )
+        answer.lost || self.same_values(answer.told_values(), &given.numbers[..given.count])
     }
 }
 
