@@ -1,5 +1,5 @@
 -- `light_history` meets its contract: an event of the list stands at the same place of the array. Assumes nothing.
-use Rattle.std.proofs.Common.{arith, rules, ◌≡◌, ◌∙◌, ◌<◌, ℕ, List, ap, length, get_or, refl}
+use Rattle.std.proofs.Common.{arith, rules, ◌≡◌, ◌∙◌, ◌<◌, ℕ, List, ap, get_or, refl}
 use Rattle.std.proofs.Math.Seq.{get_or-take}
 use Rattle.history.specs.declared.record.Event.{Event}
 use Rattle.history.specs.declared.record.History.{History}
