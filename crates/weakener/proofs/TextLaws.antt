@@ -24,7 +24,6 @@ use Rattle.criteria.specs.Records.{history_of, certificate_of}
 use Rattle.checker.specs.CheckText.{Verdict, refused, history_read, certificate_read, check_text}
 use Rattle.checker.specs.MadeText.{text_if_some, plain, made_answer, made_verdict, length_made, bytes_made}
 use Rattle.checker.specs.WeakenText.{weakened_text, wanted_of, weakened_wanted, weaken_answer, weaken_length, weaken_bytes}
-use Rattle.checker.specs.OneLine.{one_line_text, crossing, line_answer, line_length, line_bytes}
 use Rattle.checker.proofs.VerdictLaws.{unread-fault, no-fault, of-texts, checked-read}
 use Rattle.weakener.specs.declared.made.Made.{Made}
 use Rattle.weakener.specs.declared.made.Wanted.{Wanted}
@@ -141,9 +140,3 @@ weakens-to history text wanted buffer w q k then p =
         (verdict_made k ≡ v) × (is_ok k ≡ eqb v.number 0) × (length_of k ≡ length_made v (weakened_wanted history text o)) × (then ≡ bytes_made v (weakened_wanted history text o) buffer)
     go none p = (p.answer, p.made, p.long, p.bytes)
     go (some w) p = (p.answer, p.made, p.long, p.bytes)
-
--- ---- one line
-pub in-line : (history text buffer : List ℕ) (k : Result Made Unmade) (then : List ℕ) → AnswersTexts (code.Some OneLine) history text buffer k then
-    → (verdict_made k ≡ line_answer history text buffer) × (is_ok k ≡ eqb (line_answer history text buffer).number 0) × (length_of k ≡ line_length history text buffer) × (then ≡ line_bytes history text buffer)
-unfolding line_answer line_length line_bytes one_line_text crossing
-in-line history text buffer k then p = (p.answer, p.made, p.long, p.bytes)
