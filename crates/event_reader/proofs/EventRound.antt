@@ -31,7 +31,7 @@ use Rattle.history.specs.Kinds.{op_word, is_op, op_of, has_op, takes_value, can_
 use Rattle.history.specs.Faults.{EventRead, optional, is_lost, answer_items, answer_said, event_layout, event_limits, event_fits, event_long, object_named, event_fault, event_said, event_six, event_line}
 use Rattle.history.specs.HistoryText.{answer_text, event_text}
 use Rattle.history.specs.Readable.{all_less, all_zero, good_answer, good_value, good_event}
-use Rattle.history.proofs.Guarantees.{SoundEvent, sound-event}
+use Rattle.history.proofs.Guarantees.{GoodEvent, event-good}
 use Rattle.history.proofs.PadLaws.{pad-length, take-pad}
 use Rattle.history.proofs.FaultLaws.{InOrder, fault-none, fault-zero}
 use Rattle.history.proofs.EventLaws.{with-faulty, with-event, Laid, laid, Limited, limited, event-count, event-six}
@@ -136,7 +136,7 @@ answer-parts : (l : Bool) (c : ℕ) (vs : List ℕ) (a : Answer) → l ≡ a.los
     → ◌≡◌ {A = Answer} (record { lost = l; count = c; values = vs }) a
 answer-parts l c vs a p q r = rw (p, q, r)
 
-module _ {os : List Object} {e : Event} (g : SoundEvent os e) where
+module _ {os : List Object} {e : Event} (g : GoodEvent os e) where
   abbrev a : Answer
   a = e.answer
 
@@ -154,7 +154,7 @@ module _ {os : List Object} {e : Event} (g : SoundEvent os e) where
 
   -- one that was lost has no value
   lost-none : a.lost ≡ true → a.count ≡ 0
-  lost-none l = eqb-true a.count 0 (rw l at g.answer)
+  lost-none l = eqb-true a.count 0 (rw l at g.sound.answer)
 
   lost-values : a.lost ≡ true → values_in a ≡ []
   lost-values l = rw (lost-none l)
@@ -182,7 +182,7 @@ module _ {os : List Object} {e : Event} (g : SoundEvent os e) where
 
   answer-can : leb (length (answer_items (answer_text a))) 8 && may_answer (get_or os e.object no_object) e.op (answer_said (answer_text a)) ≡ true
   answer-can =
-      rw (answer-items, length-map (values_in a) spell, answer-count, le-leb a.count 8 g.few, answer-said) g.answer
+      rw (answer-items, length-map (values_in a) spell, answer-count, le-leb a.count 8 g.sound.few, answer-said) g.sound.answer
 
 -- the answer of a few small values is good
 pub made-good : (object : Object) (op : Op) (xs : List ℕ) → length xs ≤ 8 → can_answer object op (length xs) ≡ true
@@ -227,7 +227,7 @@ given-good true v l f = let d = not-true (same v dash) f in rw d (rw d at l)
 given-good false v l f = rw f
 
 -- ---- written and read back
-module _ (own : ℕ) (os : List Object) (e : Event) (h : own < 64) (g : SoundEvent os e) where
+module _ (own : ℕ) (os : List Object) (e : Event) (h : own < 64) (g : GoodEvent os e) where
   abbrev p_text : List ℕ
   p_text = spell e.process.0
 
@@ -262,17 +262,17 @@ module _ (own : ℕ) (os : List Object) (e : Event) (h : own < 64) (g : SoundEve
       rw (
         lt-ltb own 64 h,
         value-spell e.process.0,
-        lt-ltb e.process.0 8 g.process,
+        lt-ltb e.process.0 8 g.sound.process,
         value-spell e.object,
-        lt-ltb e.object (length os) g.declared,
-        given-limits (takes_value e.op) e.value g.value,
+        lt-ltb e.object (length os) g.sound.declared,
+        given-limits (takes_value e.op) e.value g.sound.value,
         answer-items g,
       )
-      (spells-below value_bound (values_in e.answer) g.values)
+      (spells-below value_bound (values_in e.answer) g.sound.values)
 
   fits-text : event_fits (object_named os o_text) w_text v_text ≡ true
   unfolding event_fits
-  fits-text = rw (value-spell e.object, op-word e.op, g.op) (option-fits (takes_value e.op) e.value)
+  fits-text = rw (value-spell e.object, op-word e.op, g.sound.op) (option-fits (takes_value e.op) e.value)
 
   long-text : event_long (object_named os o_text) w_text s_text ≡ true
   unfolding event_long
@@ -289,7 +289,7 @@ module _ (own : ℕ) (os : List Object) (e : Event) (h : own < 64) (g : SoundEve
         value-spell e.process.0,
         value-spell e.object,
         op-word e.op,
-        given-value (takes_value e.op) e.value g.value,
+        given-value (takes_value e.op) e.value g.sound.value,
         answer-said g,
       )
 
@@ -303,7 +303,7 @@ module _ (own : ℕ) (os : List Object) (e : Event) (h : own < 64) (g : SoundEve
 pub event-written : (own : ℕ) (os : List Object) (e : Event) → own < 64 → good_event os e ≡ true
     → event_line own os (event_text own e) ≡ record { fault = 0; event = e }
 event-written own os e h g =
-    event-six own os (event_text own e) (fields_of own e) (text-fields own e) refl ∙ six-text own os e h (sound-event os e g)
+    event-six own os (event_text own e) (fields_of own e) (text-fields own e) refl ∙ six-text own os e h (event-good os e g)
 
 -- ---- read and written back
 six : (l : List (List ℕ)) → length l ≡ 6
