@@ -11,8 +11,7 @@ use certificate_writer::write::write_certificate;
 use history_reader::read::{Refusal, read_history};
 use history_writer::write::{WriteFault, write_history};
 
-// The documents' number of why a text was not written.
-// Kept: the C interface has numbers alone.
+// The documents' number of why a text was not written, as both functions give it.
 fn unwritten_number(fault: WriteFault) -> u32
     ensures { result ≡ write_fault_number fault }
 {

@@ -89,6 +89,7 @@ impl Item for u8 {
     ghost number = { λ n. n };
 
     fn number(&self) -> u32 {
+        // The byte has a name, so that the edit `half_of_each_byte` changes it here alone.
         let byte = *self;
         u32::from(byte)
     }

@@ -92,6 +92,8 @@ pub fn leading_number(text: &[u8], bound: u64) -> Option<(u64, &[u8])>
 }
 
 // The number below a bound that a text begins with and that has a space behind it, and what stands behind the space.
+// Kept: a place and no `strip_prefix`: the edit `word_at_the_start`, which looks for the word at the text's beginning, needs a place that is
+// a value (`stands_at`).
 pub fn number_before_space(text: &[u8], bound: u64) -> Option<(u64, &[u8])>
     requires { bound ≤ 4294967296 }
     ensures { MatchOption result (number_before_space bound text.now ≡ None) (λ r. (number_before_space bound text.now ≡ Some (r.0, r.1.now)) × (r.0 < bound)) }
@@ -131,7 +133,7 @@ pub fn put_number(part: &mut [u8], n: u32) -> usize
 {
     let k = number_len(n);
     let mut rest = n;
-    // Kept: no `part[..k].iter_mut().rev()`, since a proof knows nothing of an adapter of `iter_mut`.
+    // Kept: no `part[..k].iter_mut().rev()`: a proof knows nothing of what an adapter of `iter_mut` leaves in the slice, so it did not close.
     for i in (0..k).rev() {
         part[i] = b'0' + (rest % 10) as u8;
         rest /= 10;

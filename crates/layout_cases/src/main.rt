@@ -41,7 +41,7 @@ fn say_list<W: Write>(out: &mut W, field: &[u8]) -> io::Result<()> {
         // Four at most, so no item is left out; the `min` only lets that be known here.
         Ok(n) => {
             write!(out, "list of {n}")?;
-            say_written(out, &items[0..n.min(4)])
+            say_written(out, &items[..n.min(4)])
         }
         Err(ListFault::NotList) => out.write_all(b"no list"),
         Err(ListFault::Over) => out.write_all(b"an entry over the limit"),

@@ -13,7 +13,8 @@ use history::word::{is_channel, takes_value};
 use objects::state::Given;
 
 // The light records of the events, and beside them their values and their answers. The last of the values is 0, for the start.
-// Kept: no heap, fixed memory; three lists, since `event_in`, `SoundParts` and `TakenApart` name them; `values` has a 65th place.
+// Kept: no heap, fixed memory; three lists, since `event_in`, `SoundParts`, `EventsApart` and `TakenApart` name them; `values` has a
+// 65th place.
 // Kept: the states at the start stand beside it, since `replay-is` says of any such states what a replay finds.
 #[derive(Clone, Copy)]
 pub struct LightHistory {
@@ -80,6 +81,8 @@ fn light_event(kind: Kind, e: Event) -> Light
 }
 
 // The value of each event, and 0 in the last place for the start.
+// Kept: `length events.now ≤ 64` of three contracts is a bound of one slice; a struct for it would be opened in each. No one function with
+// `answers_of` and `light_events`: what they share is a `for` of three lines.
 pub fn values_of(events: &[Event]) -> [Value; 65]
     requires { length events.now ≤ 64 }
     ensures { (get_or result 64 0 ≡ 0) × ((e : ℕ) → e < length events.now → get_or result e 0 ≡ (get_or events.now e no_event).value) }

@@ -32,6 +32,7 @@ pub enum Field {
 }
 
 // The word of a text.
+// Kept: a match gives each text its word, as `kind_word` of history_writer does; a table could find none.
 fn text_word(t: Text) -> &'static [u8]
     ensures { result.now ≡ text_word (text_in t) }
 {
