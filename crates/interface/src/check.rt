@@ -17,7 +17,7 @@ use history_reader::place::Text;
 use history_reader::read::Refusal;
 
 // The number of a criterion, as in the criterion wanted of a weakening.
-// Kept: the C interface has numbers alone.
+// Kept: a function and no `From`, which would stand in certificate, below `criterion_number` of specs/Places, the definition that states it.
 fn criterion_number(c: Criterion) -> u32
     ensures { result ≡ criterion_number c }
 {
@@ -32,7 +32,7 @@ fn criterion_number(c: Criterion) -> u32
 }
 
 // The number of a text: 1 for the history, 2 for the certificate. 0 stands for none.
-// Kept: the C interface has numbers alone.
+// Kept: a function and no `From`, which would stand in history_reader, below `text_number` of specs/Places, the definition that states it.
 fn text_number(t: Text) -> u32
     ensures { result ≡ text_number (text_in t) }
 {

@@ -57,6 +57,8 @@ impl fields::Field for Field {
 }
 
 // A number, or a dash for none.
+// Kept: `≤ 11` in six contracts: a number is so short as it is a u32, which is known only where its field is made. A struct of a field and
+// that fact would hold the enum and be opened at once.
 #[tactic(auto, using(crate::proofs::PieceLaws::number_short))]
 fn number_field(n: Option<u32>) -> Field
     ensures { (result ≡ number_field (option_in n)) × (length (field_text result) ≤ 11) }
