@@ -71,6 +71,15 @@ module _ (past : Bool) (count own : ℕ) (a s : List ℕ) where
           let e : list_with (cond (not past || rising xs) 0 6) xs ≡ record { fault = 6; list = no_list } = rw r in sym e ∙ pair-listed
 
 -- ---- the 64 places, of which the first were lent to the reader, are the row of the list's numbers
+-- the first n of them are the numbers of the field s
+pub record Kept (n : ℕ) (s ys : List ℕ) : Type 0 where
+  pub numbers : take n ys ≡ numbers_of s
+  pub count : length (take n ys) ≡ n
+  pub long : length ys ≡ 64
+  pub few : n ≤ length ys
+  pub below : (i : ℕ) → get_or ys i 0 < 64
+  pub list : (es : List ℕ) → es ≡ ys → event_list_of (take n ys) ≡ record { count = n; events = es }
+
 module _ (count n : ℕ) (s xs : List ℕ) (room : count ≤ 64) (ps : List ℕ) (lent : ps ≡ take count (replicate 64 0)) (q : list_of count (length ps) s ≡ Ok n)
     (k : xs ≡ fill (leading count (length ps) (items_of s)) ps) (ys : List ℕ) (whole : ys ≡ xs ++ drop count (replicate 64 0)) where
   lent-long : length ps ≡ count
@@ -84,27 +93,25 @@ module _ (count n : ℕ) (s xs : List ℕ) (room : count ≤ 64) (ps : List ℕ)
       whole ∙ ap (λ (t : List ℕ). t ++ drop count (replicate 64 0)) e
       ∙ pad_part 64 count (numbers_of s) (omega (arith, numbers-count l, l.few, lent-long)) room
 
-  pub kept-numbers : take n ys ≡ numbers_of s
-  kept-numbers =
+  numbers : take n ys ≡ numbers_of s
+  numbers =
       let c = numbers-count (is-list count (length ps) n s q) in
       ap (take n) row ∙ ap (λ (i : ℕ). take i (pad 64 0 (numbers_of s))) (sym c) ∙ take-pad 64 0 (numbers_of s)
 
-  pub kept-count : length (take n ys) ≡ n
-  kept-count = ap length kept-numbers ∙ numbers-count (is-list count (length ps) n s q)
-
-  pub kept-long : length ys ≡ 64
-  kept-long =
+  long : length ys ≡ 64
+  long =
       let l = is-list count (length ps) n s q in
       ap length row ∙ pad-length 64 0 (numbers_of s) (omega (arith, numbers-count l, l.few, lent-long))
 
-  pub kept-few : n ≤ length ys
-  kept-few = let l = is-list count (length ps) n s q in omega (arith, kept-long, l.few, lent-long)
-
-  pub kept-below : (i : ℕ) → get_or ys i 0 < 64
-  kept-below i =
-      let l = is-list count (length ps) n s q in
-      rw row (pad_below 64 (numbers_of s) 64 (omega arith) (λ j h. omega (arith, numbers-below l j (omega (arith, numbers-count l)), lent-long)) i)
-
-  pub kept-list : (es : List ℕ) → es ≡ ys → event_list_of (take n ys) ≡ record { count = n; events = es }
+  pub kept : Kept n s ys
   unfolding event_list_of
-  kept-list es e = rw (e, kept-numbers, row, numbers-count (is-list count (length ps) n s q))
+  kept =
+      let l = is-list count (length ps) n s q in
+      record {
+        numbers = numbers;
+        count = ap length numbers ∙ numbers-count l;
+        long = long;
+        few = omega (arith, long, l.few, lent-long);
+        below = λ i. rw row (pad_below 64 (numbers_of s) 64 (omega arith) (λ j h. omega (arith, numbers-below l j (omega (arith, numbers-count l)), lent-long)) i);
+        list = λ es e. rw (e, numbers, row, numbers-count l);
+      }

@@ -5,7 +5,7 @@ use native.Mathlib.Omega.{arith}
 use mathlib.Core.Path.{◌≡◌, refl, sym, ap, ap₂, subst, ◌∙◌}
 use mathlib.Core.Bool.{Bool, true, false, ◌&&◌}
 use mathlib.Core.List.{List, [], ◌∷◌, ◌++◌, map, map-append}
-use lib.ListN.{length, get_or, take, drop, set, replicate, length-map, length-append, drop_of_length-le}
+use lib.ListN.{length, get_or, take, drop, set, replicate, length-map, length-append, drop_of_length-le, get_or-eq_default}
 use Rattle.std.proofs.Common.{get_or-set_other, get_or-set_same}
 use Rattle.std.proofs.lemmas.List.{take_more_set}
 use lib.Seq.{take-length, length-take-le}
@@ -23,7 +23,7 @@ use Rattle.history.specs.Record.{pad}
 use Rattle.history.specs.declared.fault.Fault.{Fault}
 use Rattle.history.specs.Faults.{fault_number}
 use Rattle.history.proofs.NextLaws.{next-cut, next-line}
-use Rattle.history.proofs.PadLaws.{get_or-blank, pad-set, pad-length, take_more}
+use Rattle.history.proofs.PadLaws.{pad-set, pad-length, get_or-pad, take_more}
 use Rattle.history.specs.declared.record.Event.{Event}
 use Rattle.history_reader.specs.declared.read.Refusal.{Refusal}
 use Rattle.history_reader.proofs.ReadLaws.{fault-some}
@@ -149,9 +149,6 @@ pub record Reading (past : Bool) (count : ℕ) (numbers : List ℕ) (old : Lines
   pub says : (next : List (List ℕ) → LinesSay)
       → left_say (lists_from past count next numbers []) old ≡ left_say (lists_from past count next (drop i numbers) said) now
 
-blank-short : (n k : ℕ) → (get_or (replicate n no_list) k no_list).count ≤ 64
-blank-short n k = rw (get_or-blank no_list n k) (omega arith)
-
 set-short : (lists : List EventList) (i : ℕ) (l : EventList) → l.count ≤ 64 → i < length lists → ((k : ℕ) → (get_or lists k no_list).count ≤ 64)
     → (k : ℕ) → (get_or (set lists i l) k no_list).count ≤ 64
 set-short lists i l s h p k =
@@ -163,7 +160,9 @@ kept-none : (lists : List EventList) → lists ≡ replicate 64 no_list → Kept
 unfolding pad
 kept-none lists e = record {
   pads = e;
-  short = λ k. subst (λ (l : List EventList). (get_or l k no_list).count ≤ 64) (sym e) (blank-short 64 k);
+  short = λ k.
+      let blank : get_or lists k no_list ≡ no_list = ap (λ (l : List EventList). get_or l k no_list) e ∙ get_or-pad 64 no_list [] k ∙ get_or-eq_default [] no_list (omega arith) in
+      rw blank (omega arith);
 }
 
 module _ (past : Bool) (count : ℕ) (numbers : List ℕ) (old : LinesLeft) where

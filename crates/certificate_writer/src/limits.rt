@@ -37,7 +37,7 @@ fn is_rising(row: &[u8]) -> bool
 }
 
 // Whether a row holds a list of n events of a history with so many events.
-// Kept: the whole row, since what stands behind the n is looked at too.
+// Kept: the whole row: `good_row` of certificate specs/Readable asks that zeros stand behind the n.
 #[tactic(auto, unfolding(certificate::specs::Readable::good_row))]
 fn good_row(row: &[u8; 64], n: usize, count: usize) -> bool
     requires { count ≤ 64 }
@@ -104,7 +104,7 @@ fn blank_rows(rows: &[[u8; 64]]) -> bool
 }
 
 // Whether the first k pasts and the first m rows of a record are good, and its other lists and rows blank.
-// Kept: all rows, since what stands behind the m is looked at too.
+// Kept: all rows: `fits` of certificate specs/Readable asks by `blank_rows` that zeros stand behind the m.
 #[tactic(auto, unfolding(crate::specs::Steps::Lines::parts_fit))]
 fn parts_fit(c: &Certificate, rows: &[[u8; 64]; 64], k: usize, m: usize, count: usize) -> bool
     requires { (k ≤ 64) × (m ≤ 64) × (count ≤ 64) }

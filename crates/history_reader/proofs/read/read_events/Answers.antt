@@ -22,7 +22,7 @@ use Rattle.history_reader.proofs.read.read_events.Goals as goal
 pub loop-start-init : goal.loop-start-init
 loop-start-init c =
     let k : c.args.read.declared + 3 ≡ c.args.read.declared + 0 + 3 = omega arith in record {
-      to = c.requires.0;
+      to = c.requires;
       filled = filled_none 64 no_event _ (rw c.no_event-events.ensures);
       says = ap (λ (n : ℕ). events_from (take c.args.read.declared c.args.read.objects) [] n c.args.read.end (split 10 (drop c.args.read.end c.args.text.now))) k;
     }
@@ -66,7 +66,7 @@ loop-start-preserved c =
 pub returns : goal.returns
 returns c =
     let declared-long : length (take c.args.read.declared c.args.read.objects) ≡ c.args.read.declared = let l : length c.args.read.objects ≡ 16 = search rules in
-    length-take-le c.args.read.declared c.args.read.objects (omega (arith, c.requires.1)) in
+    length-take-le c.args.read.declared c.args.read.objects (omega (arith, c.args.read.few)) in
     ap {B = HistoryRead} (λ (h : History). record { fault = 0; place = nowhere; history = h })
-    (history-made c.args.read.objects c.args.read.declared c.loop-start.events c.loop-start.count c.requires.2 declared-long c.loop-start.invariant.filled)
+    (history-made c.args.read.objects c.args.read.declared c.loop-start.events c.loop-start.count c.args.read.pads declared-long c.loop-start.invariant.filled)
     ∙ sym (c.loop-start.invariant.says ∙ events-done _ _ (c.args.read.declared + c.loop-start.count + 3) c.args.text.now c.loop-start.start c.loop-start-test.false)

@@ -31,8 +31,6 @@ pub returns-then-is_word : goal.returns-then-is_word
 returns-then-is_word c =
     let p = part-told 10 c.args.text.now c.loop-line.start c.in-Some.line.now c.loop-line.invariant.to (search rules) (search rules) in
     record {
-      few = c.loop-line.invariant.filled.few;
-      pads = c.loop-line.invariant.filled.pads;
       to = omega (arith, p.1);
       says =
           c.loop-line.invariant.says
