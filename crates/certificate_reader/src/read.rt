@@ -108,16 +108,8 @@ impl<'a> LinesLeft<'a> {
         let mut lists = [no_list(); 64];
         for (i, own) in numbers.iter().enumerate() {
             let next = next_list(self.text, u32::from(*own), part);
-            // Kept: a `match` and no `map_err`: the place is made for a fault alone, and a closure that makes it would lend `self`.
-            match next.read {
-                Ok(list) => lists[i] = list,
-                Err(fault) => {
-                    return Err(Refusal {
-                        fault,
-                        place: self.place(next.length),
-                    });
-                }
-            }
+            let place = self.place(next.length);
+            lists[i] = next.read.map_err(|fault| Refusal { fault, place })?;
             self.pass(next.length);
         }
         Ok(lists)
