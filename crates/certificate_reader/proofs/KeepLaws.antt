@@ -161,7 +161,7 @@ unfolding pad
 kept-none lists e = record {
   pads = e;
   short = λ k.
-      let blank : get_or lists k no_list ≡ no_list = ap (λ (l : List EventList). get_or l k no_list) e ∙ get_or-pad 64 no_list [] k ∙ get_or-eq_default [] no_list (omega arith) in
+      let blank : get_or lists k no_list ≡ no_list = ap (λ (l : List EventList). get_or l k no_list) e ∙ get_or-pad 64 no_list [] k ∙ get_or-eq_default [] no_list {n = k} (omega arith) in
       rw blank (omega arith);
 }
 
