@@ -1,24 +1,20 @@
 -- Laws of a line of a number and a list of events. Assumes nothing.
-use Prim.Native.Nat.{ℕ, suc, ◌≤◌, ◌<◌}
+use Prim.Native.Nat.{ℕ, ◌≤◌, ◌<◌}
 use native.Mathlib.Omega.{arith}
 use mathlib.Core.Path.{◌≡◌, sym, ap, ◌∙◌}
-use mathlib.Core.Bool.{Bool, true, false, cond, not, ◌||◌, false≢true}
-use mathlib.Core.List.{List, [], ◌∷◌, ◌++◌}
+use mathlib.Core.Bool.{Bool, true, false, cond, not, ◌||◌}
+use mathlib.Core.List.{List, ◌++◌}
 use lib.ListN.{length, get_or, take, drop, replicate, length-replicate}
 use lib.Seq.{length-take-le}
-use borrow.Author.Tests.{ne_eqb, le-leb}
+use borrow.Author.Tests.{le-leb}
 use Rattle.std.proofs.Common.{Result, Ok, Err}
 use Rattle.std.specs.Result.{IsErrAnd}
-use Rattle.std.specs.Option.{MatchOption, is_some}
-use Rattle.std.proofs.Common.{Option, Some, None}
 use Rattle.layout.specs.declared.list.ListFault.{ListFault}
 use Rattle.layout.specs.declared.list.ListFault.TheVariants.{NotList, Over, Many}
-use Rattle.layout.specs.Split.{split}
 use Rattle.layout.specs.Word.{same}
 use Rattle.layout.specs.Number.{spell}
 use Rattle.layout.specs.Fill.{fill}
 use Rattle.layout.specs.List.{items_of, list_of, numbers_of, leading}
-use Rattle.layout.proofs.SplitLaws.{split-some}
 use Rattle.layout.proofs.ListLaws.{is-list, leading-numbers, list-not, list_over, list-many, numbers-count, numbers-below}
 use Rattle.history.specs.declared.fault.Fault.{Fault}
 use Rattle.history.specs.Record.{pad}
@@ -26,8 +22,8 @@ use Rattle.history.proofs.PadLaws.{pad-length, take-pad, pad_part, pad_below}
 use Rattle.history.specs.Steps.Fields.{listed_fault}
 use Rattle.certificate.specs.declared.record.EventList.{EventList}
 use Rattle.certificate.specs.Record.{no_list, event_list_of}
-use Rattle.certificate.specs.Faults.{rising, list_layout, list_limits, pair_fault, list_fault, list_said}
-use Rattle.certificate.specs.Steps.Lists.{list_line_of, list_with, pair_read, list_read}
+use Rattle.certificate.specs.Faults.{rising, list_layout, list_limits, pair_fault}
+use Rattle.certificate.specs.Steps.Lists.{list_line_of, list_with, pair_read}
 
 -- ---- the two fields of a line
 module _ (past : Bool) (count own : ℕ) (a s : List ℕ) where

@@ -1,7 +1,7 @@
 -- The fields of the lines as they are written. Assumes nothing.
 use Prim.Native.Nat.{ℕ}
 use mathlib.Core.Path.{◌≡◌}
-use mathlib.Core.List.{List, [], ◌∷◌, ◌++◌, map}
+use mathlib.Core.List.{[], ◌∷◌, ◌++◌, map}
 use Rattle.layout.specs.Split.{join}
 use Rattle.layout.specs.Word.{criterion_word}
 use Rattle.layout.specs.Number.{spell}
@@ -12,7 +12,6 @@ use Rattle.certificate.specs.Criteria.{word_of}
 use Rattle.certificate.specs.declared.record.Criterion as record_criterion
 use Rattle.certificate.specs.CertificateText.{list_line, criterion_text}
 use Rattle.certificate_writer.specs.declared.events.Events as lent
-use Rattle.certificate_writer.specs.declared.line.Field.{Field}
 use Rattle.certificate_writer.specs.declared.line.Field.TheVariants.{Heading, Criterion, Number, Events}
 use Rattle.certificate_writer.specs.Steps.Fields.{field_text}
 
