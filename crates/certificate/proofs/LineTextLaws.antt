@@ -2,67 +2,44 @@
 -- list. Assumes nothing.
 use Prim.Native.Nat.{ℕ, ◌<◌}
 use native.Mathlib.Omega.{arith}
-use mathlib.Core.Path.{◌≡◌, refl, ap, ◌∙◌}
+use mathlib.Core.Path.{◌≡◌, ap, ◌∙◌}
 use mathlib.Core.Bool.{Bool, true}
-use mathlib.Core.List.{List, [], ◌∷◌, ◌++◌}
+use mathlib.Core.List.{List, [], ◌∷◌}
 use lib.ListN.{length}
 use lib.Dec.{ltb}
-use borrow.Author.Tests.{ltb-true, le-leb, ne_eqb}
+use borrow.Author.Tests.{ltb-true, le-leb}
 use Rattle.layout.specs.Split.{split}
-use Rattle.layout.specs.Word.{dash}
 use Rattle.layout.specs.Number.{spell}
 use Rattle.layout.specs.List.{list_text}
-use Rattle.layout.specs.Steps.List.{tail_text}
 use Rattle.layout.proofs.Cases.{and_left, and_right}
 use Rattle.layout.proofs.SplitLaws.{without, without-append, split-clean, split-append}
 use Rattle.layout.proofs.WordLaws.{same_refl}
 use Rattle.layout.proofs.NumberLaws.{digit_low}
-use Rattle.layout.proofs.SpellLaws.{number-spell, number-without}
+use Rattle.layout.proofs.SpellLaws.{spell-without}
 use Rattle.layout.proofs.ListLaws.{is-list}
-use Rattle.layout.proofs.ListTextLaws.{list-none, list-some}
+use Rattle.layout.proofs.ListTextLaws.{list-without}
 use Rattle.layout.proofs.RoundTrips.{Below, read-written, numbers-written}
 use Rattle.history.specs.Readable.{all_less}
 use Rattle.certificate.specs.Faults.{list_layout, list_limits, pair_fault, list_fault, list_said}
 use Rattle.certificate.specs.CertificateText.{list_line}
 use Rattle.certificate.specs.Steps.Next.{Good}
 
--- ---- bytes below the comma, such as the space and the line feed, that a list's text does not hold
-module _ (b : ℕ) (low : b < 44) where
-  spell-without : (n : ℕ) → without b (spell n) ≡ true
-  spell-without n = number-without b (spell n) (digit_low b (omega arith)) (number-spell n)
-
-  behind : (c : ℕ) (s : List ℕ) → b < c → without b s ≡ true → without b (c ∷ s) ≡ true
-  unfolding without
-  behind c s h e = rw (ne_eqb c b (λ q. omega arith)) e
-
-  tail-without : (xs : List ℕ) → without b (tail_text xs) ≡ true
-  unfolding tail_text without
-  tail-without [] = refl
-  tail-without (x ∷ xs) =
-      behind 44 (spell x ++ tail_text xs) low (without-append b (spell x) (tail_text xs) (spell-without x) (tail-without xs))
-
-  dash-without : without b dash ≡ true
-  unfolding without
-  dash-without = behind 45 [] (omega arith) refl
-
-  list-without : (xs : List ℕ) → without b (list_text xs) ≡ true
-  list-without [] = ap (without b) list-none ∙ dash-without
-  list-without (x ∷ xs) =
-      ap (without b) (list-some x xs) ∙ without-append b (spell x) (tail_text xs) (spell-without x) (tail-without xs)
-
 -- ---- the fields of a line
+-- a list's text holds no byte below the comma, such as the space and the line feed
+list-low : (b : ℕ) → b < 44 → (xs : List ℕ) → without b (list_text xs) ≡ true
+list-low b low xs = list-without b (digit_low b (omega arith)) (λ e. omega arith) (λ e. omega arith) xs
+
 line-fields : (own : ℕ) (xs : List ℕ) → split 32 (list_line own xs) ≡ spell own ∷ list_text xs ∷ []
 unfolding list_line
 line-fields own xs =
-    split-append 32 (spell own) (list_text xs) (spell-without 32 (omega arith) own)
-    ∙ ap (λ (r : List (List ℕ)). spell own ∷ r) (split-clean 32 (list_text xs) (list-without 32 (omega arith) xs))
+    split-append 32 (spell own) (list_text xs) (spell-without 32 own (digit_low 32 (omega arith)))
+    ∙ ap (λ (r : List (List ℕ)). spell own ∷ r) (split-clean 32 (list_text xs) (list-low 32 (omega arith) xs))
 
 -- the line holds no line feed
 pub line-without : (own : ℕ) (xs : List ℕ) → without 10 (list_line own xs) ≡ true
-unfolding list_line
+unfolding list_line without
 line-without own xs =
-    without-append 10 (spell own) (32 ∷ list_text xs) (spell-without 10 (omega arith) own)
-    (behind 10 (omega arith) 32 (list_text xs) (omega arith) (list-without 10 (omega arith) xs))
+    without-append 10 (spell own) (32 ∷ list_text xs) (spell-without 10 own (digit_low 10 (omega arith))) (list-low 10 (omega arith) xs)
 
 -- ---- written and read back
 less-below : (bound : ℕ) (xs : List ℕ) → all_less bound xs ≡ true → Below bound xs

@@ -1,24 +1,20 @@
 -- Laws of a line of a number and a list of events. Assumes nothing.
-use Prim.Native.Nat.{ℕ, suc, ◌≤◌, ◌<◌}
+use Prim.Native.Nat.{ℕ, ◌≤◌, ◌<◌}
 use native.Mathlib.Omega.{arith}
 use mathlib.Core.Path.{◌≡◌, sym, ap, ◌∙◌}
-use mathlib.Core.Bool.{Bool, true, false, cond, not, ◌||◌, false≢true}
-use mathlib.Core.List.{List, [], ◌∷◌, ◌++◌}
+use mathlib.Core.Bool.{Bool, true, false, cond, not, ◌||◌}
+use mathlib.Core.List.{List, ◌++◌}
 use lib.ListN.{length, get_or, take, drop, replicate, length-replicate}
 use lib.Seq.{length-take-le}
-use borrow.Author.Tests.{ne_eqb, le-leb}
+use borrow.Author.Tests.{le-leb}
 use Rattle.std.proofs.Common.{Result, Ok, Err}
 use Rattle.std.specs.Result.{IsErrAnd}
-use Rattle.std.specs.Option.{MatchOption, is_some}
-use Rattle.std.proofs.Common.{Option, Some, None}
 use Rattle.layout.specs.declared.list.ListFault.{ListFault}
 use Rattle.layout.specs.declared.list.ListFault.TheVariants.{NotList, Over, Many}
-use Rattle.layout.specs.Split.{split}
 use Rattle.layout.specs.Word.{same}
 use Rattle.layout.specs.Number.{spell}
 use Rattle.layout.specs.Fill.{fill}
 use Rattle.layout.specs.List.{items_of, list_of, numbers_of, leading}
-use Rattle.layout.proofs.SplitLaws.{split-some}
 use Rattle.layout.proofs.ListLaws.{is-list, leading-numbers, list-not, list_over, list-many, numbers-count, numbers-below}
 use Rattle.history.specs.declared.fault.Fault.{Fault}
 use Rattle.history.specs.Record.{pad}
@@ -26,8 +22,8 @@ use Rattle.history.proofs.PadLaws.{pad-length, take-pad, pad_part, pad_below}
 use Rattle.history.specs.Steps.Fields.{listed_fault}
 use Rattle.certificate.specs.declared.record.EventList.{EventList}
 use Rattle.certificate.specs.Record.{no_list, event_list_of}
-use Rattle.certificate.specs.Faults.{rising, list_layout, list_limits, pair_fault, list_fault, list_said}
-use Rattle.certificate.specs.Steps.Lists.{list_line_of, list_with, pair_read, list_read}
+use Rattle.certificate.specs.Faults.{rising, list_layout, list_limits, pair_fault}
+use Rattle.certificate.specs.Steps.Lists.{list_line_of, list_with, pair_read}
 
 -- ---- the two fields of a line
 module _ (past : Bool) (count own : ℕ) (a s : List ℕ) where
@@ -35,13 +31,17 @@ module _ (past : Bool) (count own : ℕ) (a s : List ℕ) where
   unfolding pair_read pair_fault list_layout
   pair-number e = rw e
 
+  pub pair_over : same a (spell own) ≡ true → (m : ℕ) → list_of count m s ≡ Err Over → record { fault = 3; list = no_list } ≡ pair_read past count own a s
+  unfolding pair_read pair_fault list_layout list_limits
+  pair_over e m q = let t = list_over count m s q in rw (e, t.0, t.1)
+
   -- the list is read into `count` places
   module _ (e : same a (spell own) ≡ true) (ps : List ℕ) (long : length ps ≡ count) where
     -- it is no list of such numbers
     pair-unread : (f : ListFault) → list_of count (length ps) s ≡ Err f → list_line_of (Err (listed_fault f)) ≡ pair_read past count own a s
     unfolding pair_read pair_fault list_layout list_limits
     pair-unread NotList q = rw (e, list-not count (length ps) s q)
-    pair-unread Over q = let t = list_over count (length ps) s q in rw (e, t.0, t.1)
+    pair-unread Over q = pair_over e (length ps) q
     pair-unread Many q = let t = list-many count (length ps) s q in rw (e, t.0, t.1, rw long at t.2)
 
     pub pair-refused : (f : ListFault) → list_of count (length ps) s ≡ Err f → (r : Result EventList Fault) → IsErrAnd r (λ g. g ≡ listed_fault f)
@@ -67,6 +67,15 @@ module _ (past : Bool) (count own : ℕ) (a s : List ℕ) where
           let e : list_with (cond (not past || rising xs) 0 6) xs ≡ record { fault = 6; list = no_list } = rw r in sym e ∙ pair-listed
 
 -- ---- the 64 places, of which the first were lent to the reader, are the row of the list's numbers
+-- the first n of them are the numbers of the field s
+pub record Kept (n : ℕ) (s ys : List ℕ) : Type 0 where
+  pub numbers : take n ys ≡ numbers_of s
+  pub count : length (take n ys) ≡ n
+  pub long : length ys ≡ 64
+  pub few : n ≤ length ys
+  pub below : (i : ℕ) → get_or ys i 0 < 64
+  pub list : (es : List ℕ) → es ≡ ys → event_list_of (take n ys) ≡ record { count = n; events = es }
+
 module _ (count n : ℕ) (s xs : List ℕ) (room : count ≤ 64) (ps : List ℕ) (lent : ps ≡ take count (replicate 64 0)) (q : list_of count (length ps) s ≡ Ok n)
     (k : xs ≡ fill (leading count (length ps) (items_of s)) ps) (ys : List ℕ) (whole : ys ≡ xs ++ drop count (replicate 64 0)) where
   lent-long : length ps ≡ count
@@ -80,51 +89,25 @@ module _ (count n : ℕ) (s xs : List ℕ) (room : count ≤ 64) (ps : List ℕ)
       whole ∙ ap (λ (t : List ℕ). t ++ drop count (replicate 64 0)) e
       ∙ pad_part 64 count (numbers_of s) (omega (arith, numbers-count l, l.few, lent-long)) room
 
-  pub kept-numbers : take n ys ≡ numbers_of s
-  kept-numbers =
+  numbers : take n ys ≡ numbers_of s
+  numbers =
       let c = numbers-count (is-list count (length ps) n s q) in
       ap (take n) row ∙ ap (λ (i : ℕ). take i (pad 64 0 (numbers_of s))) (sym c) ∙ take-pad 64 0 (numbers_of s)
 
-  pub kept-count : length (take n ys) ≡ n
-  kept-count = ap length kept-numbers ∙ numbers-count (is-list count (length ps) n s q)
-
-  pub kept-long : length ys ≡ 64
-  kept-long =
+  long : length ys ≡ 64
+  long =
       let l = is-list count (length ps) n s q in
       ap length row ∙ pad-length 64 0 (numbers_of s) (omega (arith, numbers-count l, l.few, lent-long))
 
-  pub kept-few : n ≤ length ys
-  kept-few = let l = is-list count (length ps) n s q in omega (arith, kept-long, l.few, lent-long)
-
-  pub kept-below : (i : ℕ) → get_or ys i 0 < 64
-  kept-below i =
-      let l = is-list count (length ps) n s q in
-      rw row (pad_below 64 (numbers_of s) 64 (omega arith) (λ j h. omega (arith, numbers-below l j (omega (arith, numbers-count l)), lent-long)) i)
-
-  pub kept-list : (es : List ℕ) → es ≡ ys → event_list_of (take n ys) ≡ record { count = n; events = es }
+  pub kept : Kept n s ys
   unfolding event_list_of
-  kept-list es e = rw (e, kept-numbers, row, numbers-count (is-list count (length ps) n s q))
-
--- ---- the line, by its first field and what is behind it
-module _ (past : Bool) (count own : ℕ) (line : List ℕ) where
-  pub list-whole : split 32 line ≡ line ∷ [] → record { fault = 2; list = no_list } ≡ list_read past count own line
-  unfolding list_read list_fault
-  list-whole cut = rw cut
-
-  module _ (a s : List ℕ) (cut : split 32 line ≡ a ∷ split 32 s) where
-    pub list_more : (f rest : List ℕ) → split 32 s ≡ f ∷ split 32 rest → record { fault = 2; list = no_list } ≡ list_read past count own line
-    unfolding list_read list_fault
-    list_more f rest q = rw (cut, q, ne_eqb (suc (suc (length (split 32 rest)))) 2 (λ z. omega (arith, split-some 32 rest)))
-
-    pub list-pair : split 32 s ≡ s ∷ [] → pair_read past count own a s ≡ list_read past count own line
-    unfolding list_read list_fault list_said pair_read
-    list-pair q = rw (cut, q)
-
--- what `is_some` tells of an answer
-pub some-tells : {A : Type 0} (P : Type 0) (Q : A → Type 0) (o : Option A) → MatchOption o P Q → true ≡ is_some o → (x : A) × Q x
-some-tells P Q None m e = absurd (false≢true (sym e))
-some-tells P Q (Some x) m e = (x, m)
-
-pub none-tells : {A : Type 0} (P : Type 0) (Q : A → Type 0) (o : Option A) → MatchOption o P Q → false ≡ is_some o → P
-none-tells P Q None m e = m
-none-tells P Q (Some x) m e = absurd (false≢true e)
+  kept =
+      let l = is-list count (length ps) n s q in
+      record {
+        numbers = numbers;
+        count = ap length numbers ∙ numbers-count l;
+        long = long;
+        few = omega (arith, long, l.few, lent-long);
+        below = λ i. rw row (pad_below 64 (numbers_of s) 64 (omega arith) (λ j h. omega (arith, numbers-below l j (omega (arith, numbers-count l)), lent-long)) i);
+        list = λ es e. rw (e, numbers, row, numbers-count l);
+      }

@@ -4,30 +4,30 @@ use native.Mathlib.Omega.{arith}
 use mathlib.Core.Path.{◌≡◌, refl, sym, ap, ap₂, ◌∙◌}
 use mathlib.Core.Bool.{Bool, true, false, not, ◌&&◌, ◌||◌, or-true}
 use mathlib.Core.List.{List, [], ◌∷◌, ◌++◌, append_assoc}
-use lib.ListN.{length, get_or, take, drop, set, replicate, length-append}
-use lib.Seq.{take_at}
+use lib.ListN.{length, get_or, take, drop, set, replicate}
 use lib.Dec.{leb, ltb}
-use borrow.Author.Tests.{lt-ltb, ltb-true, le-ltb, leb-true}
+use borrow.Author.Tests.{lt-ltb, ltb-true, leb-true}
 use Rattle.std.proofs.Common.{Bor}
 use Rattle.std.specs.Prelude.{Option, Some, None, MatchOption, IfSome, Ok, Err}
 use Rattle.layout.specs.Split.{find}
 use Rattle.layout.specs.Number.{spell}
 use Rattle.layout.specs.List.{list_text}
-use Rattle.layout.proofs.Cases.{by-lt, and_left, and_right}
+use Rattle.layout.proofs.Cases.{and_left, and_right}
 use Rattle.layout.proofs.FillLaws.{tail-part}
-use Rattle.layout.proofs.SplitLaws.{find-append, find-le}
 use Rattle.layout.proofs.LeadingLaws.{byte-leads}
 use Rattle.layout.proofs.SpellLaws.{spell-low, spell_high}
 use Rattle.history.specs.declared.fault.Fault.TheVariants.{Layout}
 use Rattle.history.specs.declared.next.Next.{Next}
 use Rattle.history.specs.Record.{pad}
+use Rattle.history.proofs.NextLaws.{first-long, first-read}
+use Rattle.history.proofs.NextLaws as laws
 use Rattle.history.specs.Readable.{all_less}
 use Rattle.history.proofs.ListedLaws.{Listed, listed_begins, listed_numbers, listed-small, listed-more, listed-filled, listed-count, listed-ends}
 use Rattle.certificate.specs.declared.record.EventList.{EventList}
 use Rattle.certificate.specs.Record.{no_list, event_list_of}
 use Rattle.certificate.specs.Faults.{rising}
 use Rattle.certificate.specs.CertificateText.{list_line}
-use Rattle.certificate.specs.Steps.Lists.{list_line_of, list_read}
+use Rattle.certificate.specs.Steps.Lists.{ListLine, list_line_of, list_read}
 use Rattle.certificate.specs.Steps.Next.{next_read, ListFirst, LineFirst}
 use Rattle.certificate.proofs.LineTextLaws.{line-without, good-fault, line-said}
 
@@ -135,30 +135,24 @@ line-first past count own v text rest p is (Some r) t = record {
 }
 
 module _ (past : Bool) (count own : ℕ) (text : List ℕ) where
-  -- without a line feed, and with one
-  pub next-cut : length text ≤ find 10 text → next_read past count own text ≡ record { fault = 2; list = no_list }
-  unfolding next_read
-  next-cut h = rw (le-ltb (find 10 text) (length text) h)
-
-  pub next-line : find 10 text < length text → next_read past count own text ≡ list_read past count own (take (find 10 text) text)
-  unfolding next_read
-  next-line h = rw (lt-ltb (find 10 text) (length text) h)
+  abbrev cut : ListLine
+  cut = record { fault = 2; list = no_list }
 
   -- the line of a good list
-  module _ (l : EventList) (rest : List ℕ) (first : LineFirst past count own text l rest) where
-    first-ends : find 10 text ≡ length (list_line own first.entries)
-    first-ends = ap (find 10) first.spelt ∙ find-append 10 (list_line own first.entries) rest (line-without own first.entries)
+  read-good : (l : EventList) (rest : List ℕ) (first : LineFirst past count own text l rest)
+      → list_read past count own (list_line own first.entries) ≡ record { fault = 0; list = l }
+  unfolding list_read
+  read-good l rest first = rw (good-fault past count own first.entries first.good, line-said own first.entries, first.told)
 
-    pub first-long : find 10 text + 1 + length rest ≡ length text
-    first-long = omega (arith, first-ends, ap length first.spelt, length-append (list_line own first.entries) (10 ∷ rest))
-
-    pub first-read : next_read past count own text ≡ record { fault = 0; list = l }
-    unfolding list_read
-    first-read =
-        let c : take (find 10 text) text ≡ list_line own first.entries =
-        ap (take (find 10 text)) first.spelt ∙ take_at (list_line own first.entries) (10 ∷ rest) (find 10 text) (sym first-ends) in
-        next-line (omega (arith, first-long))
-        ∙ rw (c, good-fault past count own first.entries first.good, line-said own first.entries, first.told)
+  first-told : (q : Option (EventList × Bor (List ℕ))) → IfSome q (λ r. LineFirst past count own text r.0 r.1.now)
+      → IfSome q (λ r. (find 10 text + 1 + length r.1.now ≡ length text) × (next_read past count own text ≡ list_line_of (Ok r.0)))
+  first-told None t = tt
+  first-told (Some (l, rest)) t =
+      let line = list_line own t.entries in
+      let clean = line-without own t.entries in (
+        first-long (list_read past count own) cut text line rest.now clean t.spelt,
+        first-read (list_read past count own) cut text line rest.now clean t.spelt ∙ read-good l rest.now t,
+      )
 
   -- what the line is, in one pass or cut and read
   pub next-is : (q : Option (EventList × Bor (List ℕ))) (n : Next EventList) → IfSome q (λ r. LineFirst past count own text r.0 r.1.now)
@@ -166,10 +160,4 @@ module _ (past : Bool) (count own : ℕ) (text : List ℕ) where
       ((n.length ≡ find 10 text) × (find 10 text < length text → list_line_of n.read ≡ list_read past count own (take (find 10 text) text)) × (length text ≤ find 10 text → n.read ≡ Err Layout))
       (λ r. (n.length + 1 + length r.1.now ≡ length text) × (n.read ≡ Ok r.0))
       → (list_line_of n.read ≡ next_read past count own text) × (n.length ≡ find 10 text) × (n.length ≤ length text)
-  next-is None n first m = (
-    by-lt (find 10 text) (length text) (λ h. m.1 h ∙ sym (next-line h)) (λ h. ap list_line_of (m.2 h) ∙ sym (next-cut h)),
-    m.0,
-    omega (arith, m.0, find-le 10 text),
-  )
-  next-is (Some (l, rest)) n first m =
-      (ap list_line_of m.1 ∙ sym (first-read l rest.now first), omega (arith, m.0, first-long l rest.now first), omega (arith, m.0))
+  next-is q n first m = laws.next-is (list_read past count own) cut text list_line_of refl q n (first-told q first) m

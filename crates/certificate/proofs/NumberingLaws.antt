@@ -27,14 +27,16 @@ any-has p [] = refl
 any-has p (e ∷ es) = ap (λ (t : Bool). eqb e.process.0 p || t) (any-has p es)
 
 -- ---- numbers in an array
--- one number more, behind the others
+-- one number more, behind the n that an array holds
+pub pad-more : (n : ℕ) (ys xs : List ℕ) (v : ℕ) → n < 64 → n ≡ length xs → ys ≡ pad 64 0 xs
+    → (n + 1 ≡ length (xs ++ v ∷ [])) × (set ys n v ≡ pad 64 0 (xs ++ v ∷ []))
+pad-more n ys xs v room long is = (omega (arith, length-append xs (v ∷ [])), rw is (pad-set 64 0 xs n v long room))
+
 pub numbers-pushed : (x : ViewNumbers) (ns : List ℕ) (v : ℕ) → x.count < 64 → x ≡ view_numbers_of ns
     → ◌≡◌ {A = ViewNumbers} (record { count = x.count + 1; numbers = set x.numbers x.count v }) (view_numbers_of (ns ++ v ∷ []))
 unfolding view_numbers_of
 numbers-pushed x ns v room is =
-    let n : x.count ≡ length ns = ap (λ (t : ViewNumbers). t.count) is in
-    let z : x.numbers ≡ pad 64 0 ns = ap (λ (t : ViewNumbers). t.numbers) is in
-    rw (z, n, pad-set 64 0 ns (length ns) v refl (omega (arith, n, room)), length-append ns (v ∷ [])) refl
+    let m = pad-more x.count x.numbers ns v room (ap (λ (t : ViewNumbers). t.count) is) (ap (λ (t : ViewNumbers). t.numbers) is) in rw (m.0, m.1)
 
 -- the numbers that are in their array
 pub numbers-in : (x : ViewNumbers) (ns : List ℕ) → x ≡ view_numbers_of ns → take x.count x.numbers ≡ ns

@@ -1,4 +1,4 @@
--- The criteria: their words and numbers, and which pasts and views a certificate of each has (document 01, "Certificate text").
+-- The criteria: their words, and which pasts and views a certificate of each has (document 01, "Certificate text").
 use Rattle.std.specs.Prelude.{ℕ, zero, suc, ◌+◌, Bool, true, false, cond, ◌||◌, List, [], ◌∷◌, length, eqb}
 use Rattle.layout.specs.Word.{same, pram_word, weak_word, causal_word, converge_word, sequential_word, strict_word}
 use Rattle.history.specs.declared.record.Event.{Event}

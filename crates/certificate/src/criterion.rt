@@ -6,8 +6,7 @@ ghost use Rattle.certificate.specs.Faults.{criterion_line};
 ghost use Rattle.certificate.specs.Steps.Criteria.{criterion_numbered};
 
 use crate::record::Criterion;
-use layout::split::split_once;
-use layout::word::{is_word, named};
+use layout::word::named;
 
 // Whether a certificate of the criterion has the past of each event.
 pub fn has_pasts(c: Criterion) -> bool
@@ -71,9 +70,5 @@ fn read_word(word: &[u8]) -> Option<Criterion>
 pub fn read_criterion(line: &[u8]) -> Option<Criterion>
     ensures { result ≡ cond (criterion_line line.now) (Some (criterion_of (get_or (split 32 line.now) 1 []))) None }
 {
-    let (heading, word) = split_once(line, b' ')?;
-    if is_word(heading, b"criterion") {
-        return read_word(word);
-    }
-    None
+    read_word(line.strip_prefix(b"criterion ")?)
 }

@@ -41,6 +41,9 @@ impl Part {
     }
 }
 
+// The list of no events.
+// Kept: no `Default`: a derived one says of each place of an array that it holds 0, where callers take the equation with `no_list` of
+// specs/Record; and no one function with `no_numbers` (numbers.rt), since the two give two types.
 pub fn no_list() -> EventList
     ensures { result ≡ no_list }
 {
@@ -78,13 +81,11 @@ fn read_pair(number: &[u8], list: &[u8], own: u32, part: Part) -> Result<EventLi
 }
 
 // Reads the line of a part whose number is `own`, without its line feed.
-// Kept: `ok_or(Fault::Layout)?` for the first refusal was tried: it takes a lemma more, and the second refusal stays a `return`.
+#[tactic(auto, using(layout::proofs::SplitLaws::some_part), unfolding(crate::specs::Steps::Lists::list_read, crate::specs::Steps::Lists::pair_read, crate::specs::Faults::list_fault, crate::specs::Faults::list_said))]
 pub(crate) fn read_list_line(line: &[u8], own: u32, part: Part) -> Result<EventList, Fault>
     ensures { list_line_of result ≡ list_read (is_past part.sort) part.count own line.now }
 {
-    let Some((number, list)) = split_once(line, b' ') else {
-        return Err(Fault::Layout);
-    };
+    let (number, list) = split_once(line, b' ').ok_or(Fault::Layout)?;
     if split_once(list, b' ').is_some() {
         return Err(Fault::Layout);
     }

@@ -14,6 +14,8 @@ use layout::number::number_before_space;
 // it does not know; the line is then cut and read, which also says which fault it has.
 
 // The number of one or two digits that a text begins with, with a byte behind its first digit, and what stands behind the number.
+// Kept: `leading_number` of layout in its place was tried: it proves, and the two texts of bench's pair causal-full are then read in 1.60 of
+// the time that the reader took before the design pass, where this takes 1.06; the bar is a quarter more.
 fn quick_entry(text: &[u8]) -> Option<(usize, &[u8])>
     ensures { IfSome result (λ r. (r.0 < 100) × (text.now ≡ spell r.0 ++ r.1.now)) }
 {
@@ -35,7 +37,12 @@ fn quick_entry(text: &[u8]) -> Option<(usize, &[u8])>
 
 // Reads entries with commas between them up to a line feed, in one pass, and tells what stands behind the line feed. In a past each is
 // at least `low`, one more than the one before it.
-// Kept: `EventList::push` in place of `events[k]` was measured: 2,500 instructions for a list of 64 entries, in place of 2,235.
+// A function of its own to the compiler too: as part of its callers the loop has too few registers, and takes up to 1.4 times as long.
+// Kept: no one loop with `leading_values` (event_reader::next): here an entry is judged by the one before it, so the step would change what
+// it captures, and the laws of the two differ in that too.
+// Kept: `EventList::push` in place of `events[k]` was tried: it proves, and bench's pair causal-full is then read in 1.27 of the time before
+// the design pass or more, wherever the linker puts the loop; with `events[k]` in 1.06 at two places of four. The bar is a quarter more.
+#[inline(never)]
 fn quick_entries(text: &[u8], part: Part) -> Option<(EventList, &[u8])>
     ensures { IfSome result (λ r. ListFirst (is_past part.sort) part.count text.now r.0 r.1.now) }
 {

@@ -8,7 +8,7 @@ use history::record::{Event, ProcessNo};
 
 // The first `count` of the numbers.
 // Kept: no heap, fixed memory; not an EventList, since the numbers are of processes under pram and strict, and `event_list_of`, of
-// which the definitions speak, has events.
+// which the definitions speak, has events; so `all` and `push` stand here a second time.
 #[derive(Clone, Copy)]
 pub struct ViewNumbers {
     pub count: usize,
@@ -36,6 +36,7 @@ impl ViewNumbers {
 }
 
 // No numbers.
+// Kept: no `Default`: a derived one says of each place of an array that it holds 0, where the loops begin with the equation here.
 #[tactic(auto, unfolding(crate::specs::Steps::Numbers::view_numbers_of, history::specs::Record::pad))]
 fn no_numbers() -> ViewNumbers
     ensures { result ≡ view_numbers_of [] }
@@ -85,7 +86,7 @@ fn one_number() -> ViewNumbers
 {
     ViewNumbers {
         count: 1,
-        numbers: [0u8; 64],
+        ..no_numbers()
     }
 }
 

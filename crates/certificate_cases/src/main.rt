@@ -26,6 +26,7 @@ fn text_name(text: Text) -> &'static str {
     match text {
         Text::History => "history",
         Text::Certificate => "certificate",
+        Text::Neither => "-",
     }
 }
 
@@ -62,6 +63,24 @@ fn case<W: Write>(out: &mut W, name: &str, history: &[u8], text: &[u8]) -> io::R
             writeln!(out, "]")
         }
     }
+}
+
+// A line for each named certificate of a history.
+fn cases<W: Write>(out: &mut W, history: &[u8], named: &[(&str, &[u8])]) -> io::Result<()> {
+    for (name, text) in named {
+        case(out, name, history, text)?;
+    }
+    Ok(())
+}
+
+// A certificate of a history that is refused.
+fn faulty_history<W: Write>(out: &mut W) -> io::Result<()> {
+    case(
+        out,
+        "faulty history",
+        b"object kind width\n0 queue 3\n",
+        b"criterion atomic\n",
+    )
 }
 
 // Texts of line feeds alone: as many as a certificate may have bytes, and one more.
@@ -127,166 +146,105 @@ fn records<W: Write>(out: &mut W) -> io::Result<()> {
 }
 
 // Certificates of Q that are read.
-fn of_criteria<W: Write>(out: &mut W) -> io::Result<()> {
-    case(
-        out,
-        "sequential",
-        QUEUE,
-        b"criterion sequential\nview order\n0 0,1\n",
-    )?;
-    case(
-        out,
-        "pram",
-        QUEUE,
-        b"criterion pram\nview order\n0 0,1\n1 0,1\n",
-    )?;
-    case(
-        out,
+const OF_CRITERIA: [(&str, &[u8]); 6] = [
+    ("sequential", b"criterion sequential\nview order\n0 0,1\n"),
+    ("pram", b"criterion pram\nview order\n0 0,1\n1 0,1\n"),
+    (
         "weak",
-        QUEUE,
         b"criterion weak\nevent past\n0 -\n1 0\nview order\n0 0\n1 0,1\n",
-    )?;
-    case(
-        out,
+    ),
+    (
         "converge",
-        QUEUE,
         b"criterion converge\nevent past\n0 -\n1 0\nview order\n0 0,1\n",
-    )?;
-    case(
-        out,
+    ),
+    (
         "strict",
-        QUEUE,
         b"criterion strict\nevent past\n0 -\n1 0\nview order\n0 0,1\n1 0,1\n",
-    )?;
-    case(
-        out,
+    ),
+    (
         "repeats in a view",
-        QUEUE,
         b"criterion sequential\nview order\n0 1,1\n",
-    )
-}
+    ),
+];
 
 // The criterion, and the lists of a certificate.
-fn of_lists<W: Write>(out: &mut W) -> io::Result<()> {
-    case(
-        out,
+const OF_LISTS: [(&str, &[u8]); 4] = [
+    (
         "unknown criterion",
-        QUEUE,
         b"criterion atomic\nview order\n0 0,1\n",
-    )?;
-    case(
-        out,
+    ),
+    (
         "past not rising",
-        QUEUE,
         b"criterion weak\nevent past\n0 1,0\n1 0\nview order\n0 0\n1 0,1\n",
-    )?;
-    case(
-        out,
+    ),
+    (
         "no such event",
-        QUEUE,
         b"criterion weak\nevent past\n0 2,1\n1 0\nview order\n0 0\n1 0,1\n",
-    )?;
-    case(
-        out,
+    ),
+    (
         "too many entries",
-        QUEUE,
         b"criterion weak\nevent past\n0 1,1,1\n1 0\nview order\n0 0\n1 0,1\n",
-    )
-}
+    ),
+];
 
 // The lines of a certificate.
-fn of_lines<W: Write>(out: &mut W) -> io::Result<()> {
-    case(
-        out,
+const OF_LINES: [(&str, &[u8]); 7] = [
+    (
         "wrong own number",
-        QUEUE,
         b"criterion pram\nview order\n0 0,1\n2 0,1\n",
-    )?;
-    case(
-        out,
-        "a line too few",
-        QUEUE,
-        b"criterion pram\nview order\n0 0,1\n",
-    )?;
-    case(
-        out,
+    ),
+    ("a line too few", b"criterion pram\nview order\n0 0,1\n"),
+    (
         "a heading too early",
-        QUEUE,
         b"criterion weak\nevent past\n0 -\nview order\n0 0\n1 0,1\n",
-    )?;
-    case(
-        out,
+    ),
+    (
         "a line too many",
-        QUEUE,
         b"criterion sequential\nview order\n0 0,1\n1 0,1\n",
-    )?;
-    case(
-        out,
+    ),
+    (
         "an empty line too many",
-        QUEUE,
         b"criterion sequential\nview order\n0 0,1\n\n",
-    )?;
-    case(
-        out,
+    ),
+    (
         "no final line feed",
-        QUEUE,
         b"criterion sequential\nview order\n0 0,1",
-    )?;
-    case(out, "empty text", QUEUE, b"")
-}
+    ),
+    ("empty text", b""),
+];
 
-// Certificates of a history without events, and one of a history that is refused.
-fn of_other_histories<W: Write>(out: &mut W) -> io::Result<()> {
-    case(
-        out,
+// Certificates of the empty history.
+const OF_NOTHING: [(&str, &[u8]); 6] = [
+    (
         "nothing, sequential",
-        NOTHING,
         b"criterion sequential\nview order\n0 -\n",
-    )?;
-    case(
-        out,
+    ),
+    (
         "nothing, converge",
-        NOTHING,
         b"criterion converge\nevent past\nview order\n0 -\n",
-    )?;
-    case(
-        out,
-        "nothing, pram",
-        NOTHING,
-        b"criterion pram\nview order\n",
-    )?;
-    case(
-        out,
+    ),
+    ("nothing, pram", b"criterion pram\nview order\n"),
+    (
         "nothing, causal",
-        NOTHING,
         b"criterion causal\nevent past\nview order\n",
-    )?;
-    case(
-        out,
+    ),
+    (
         "nothing, strict",
-        NOTHING,
         b"criterion strict\nevent past\nview order\n",
-    )?;
-    case(
-        out,
+    ),
+    (
         "nothing, pram with a view",
-        NOTHING,
         b"criterion pram\nview order\n0 -\n",
-    )?;
-    case(
-        out,
-        "faulty history",
-        b"object kind width\n0 queue 3\n",
-        b"criterion atomic\n",
-    )
-}
+    ),
+];
 
 fn main(rt: HostRuntime) -> io::Result<()> {
     let mut out = io::writer(&rt);
-    of_criteria(&mut out)?;
-    of_lists(&mut out)?;
-    of_lines(&mut out)?;
-    of_other_histories(&mut out)?;
+    cases(&mut out, QUEUE, &OF_CRITERIA)?;
+    cases(&mut out, QUEUE, &OF_LISTS)?;
+    cases(&mut out, QUEUE, &OF_LINES)?;
+    cases(&mut out, NOTHING, &OF_NOTHING)?;
+    faulty_history(&mut out)?;
     long_texts(&mut out)?;
     records(&mut out)
 }

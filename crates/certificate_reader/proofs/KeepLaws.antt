@@ -5,7 +5,7 @@ use native.Mathlib.Omega.{arith}
 use mathlib.Core.Path.{◌≡◌, refl, sym, ap, ap₂, subst, ◌∙◌}
 use mathlib.Core.Bool.{Bool, true, false, ◌&&◌}
 use mathlib.Core.List.{List, [], ◌∷◌, ◌++◌, map, map-append}
-use lib.ListN.{length, get_or, take, drop, set, replicate, length-map, length-append, drop_of_length-le}
+use lib.ListN.{length, get_or, take, drop, set, replicate, length-map, length-append, drop_of_length-le, get_or-eq_default}
 use Rattle.std.proofs.Common.{get_or-set_other, get_or-set_same}
 use Rattle.std.proofs.lemmas.List.{take_more_set}
 use lib.Seq.{take-length, length-take-le}
@@ -22,7 +22,8 @@ use Rattle.layout.proofs.LeadingLaws.{at-cons}
 use Rattle.history.specs.Record.{pad}
 use Rattle.history.specs.declared.fault.Fault.{Fault}
 use Rattle.history.specs.Faults.{fault_number}
-use Rattle.history.proofs.PadLaws.{pad-set, pad-length, take_more}
+use Rattle.history.proofs.NextLaws.{next-cut, next-line}
+use Rattle.history.proofs.PadLaws.{pad-set, pad-length, get_or-pad, take_more}
 use Rattle.history.specs.declared.record.Event.{Event}
 use Rattle.history_reader.specs.declared.read.Refusal.{Refusal}
 use Rattle.history_reader.proofs.ReadLaws.{fault-some}
@@ -33,7 +34,6 @@ use Rattle.certificate.specs.Criteria.{has_pasts, count_from, view_numbers}
 use Rattle.certificate.specs.Faults.{list_layout, list_limits, pair_fault, list_fault, list_said}
 use Rattle.certificate.specs.Steps.Lists.{ListLine, list_line_of, list_with, list_read}
 use Rattle.certificate.specs.Steps.Next.{next_read}
-use Rattle.certificate.proofs.NextLaws.{next-cut, next-line}
 use Rattle.certificate_reader.specs.declared.left.LinesLeft.{LinesLeft}
 use Rattle.certificate_reader.specs.ReadCertificate.{Lines, refusal, accepted, end_from, heading_from, lists_from, views_from, pasts_from, body_from}
 use Rattle.certificate_reader.specs.Steps.Lines.{refused, LinesSay, left_say, Kept, ListsDone, ListsRead, PastsDone, PastsRead, ViewsDone, AllDone}
@@ -46,13 +46,16 @@ with-fault k xs = by-eq k 0 (λ z. rw (eq-eqb k 0 z) (sym z)) (λ z. rw (ne_eqb 
 with-list : (k : ℕ) (xs : List ℕ) → k ≡ 0 → (list_with k xs).list ≡ event_list_of xs
 with-list k xs z = rw (eq-eqb k 0 z)
 
+abbrev cut : ListLine
+cut = record { fault = 2; list = no_list }
+
 -- x is what the next line is read as, which has e bytes
 module _ (past : Bool) (count n : ℕ) (s : List ℕ) (x : ListLine) (e : ℕ) (q : x ≡ next_read past count n s) (found : e ≡ find 10 s) where
   read-at : e < length s → x ≡ list_read past count n (take e s)
-  read-at k = q ∙ next-line past count n s (omega arith) ∙ ap (λ (m : ℕ). list_read past count n (take m s)) (sym found)
+  read-at k = q ∙ next-line (list_read past count n) cut s (omega arith) ∙ ap (λ (m : ℕ). list_read past count n (take m s)) (sym found)
 
   read-cut : length s ≤ e → x.fault ≡ 2
-  read-cut k = ap (λ (y : ListLine). y.fault) (q ∙ next-cut past count n s (omega arith))
+  read-cut k = ap (λ (y : ListLine). y.fault) (q ∙ next-cut (list_read past count n) cut s (omega arith))
 
   read-fault : e < length s → x.fault ≡ list_fault past count n (take e s)
   unfolding list_read
@@ -146,12 +149,6 @@ pub record Reading (past : Bool) (count : ℕ) (numbers : List ℕ) (old : Lines
   pub says : (next : List (List ℕ) → LinesSay)
       → left_say (lists_from past count next numbers []) old ≡ left_say (lists_from past count next (drop i numbers) said) now
 
-blank-short : (n k : ℕ) → (get_or (replicate n no_list) k no_list).count ≤ 64
-blank-short zero zero = omega arith
-blank-short zero (suc k) = omega arith
-blank-short (suc n) zero = omega arith
-blank-short (suc n) (suc k) = blank-short n k
-
 set-short : (lists : List EventList) (i : ℕ) (l : EventList) → l.count ≤ 64 → i < length lists → ((k : ℕ) → (get_or lists k no_list).count ≤ 64)
     → (k : ℕ) → (get_or (set lists i l) k no_list).count ≤ 64
 set-short lists i l s h p k =
@@ -163,7 +160,9 @@ kept-none : (lists : List EventList) → lists ≡ replicate 64 no_list → Kept
 unfolding pad
 kept-none lists e = record {
   pads = e;
-  short = λ k. subst (λ (l : List EventList). (get_or l k no_list).count ≤ 64) (sym e) (blank-short 64 k);
+  short = λ k.
+      let blank : get_or lists k no_list ≡ no_list = ap (λ (l : List EventList). get_or l k no_list) e ∙ get_or-pad 64 no_list [] k ∙ get_or-eq_default [] no_list {n = k} (omega arith) in
+      rw blank (omega arith);
 }
 
 module _ (past : Bool) (count : ℕ) (numbers : List ℕ) (old : LinesLeft) where

@@ -69,6 +69,8 @@ impl<'a> LinesLeft<'a> {
     }
 
     // Reads the first line, which names the criterion.
+    // Kept: no one function with `heading`: its clause would speak of the answer of a step that it is lent, and `CriterionRead` here and
+    // `LineRead` there would each need a law from that; what the two share is to cut a line and to go past it.
     fn criterion(&mut self) -> Result<Criterion, Refusal>
         requires { (self.old.line ≡ 1) × (self.old.start ≡ 0) }
         ensures { CriterionRead self.old self.new result }
@@ -84,6 +86,7 @@ impl<'a> LinesLeft<'a> {
     }
 
     // Reads a line that is a heading.
+    // Kept: no one function with `criterion`, which says why.
     fn heading(&mut self, heading: &[u8]) -> Result<(), Refusal>
         ensures { LineRead (heading_from heading.now) self.old self.new result }
     {
@@ -225,7 +228,7 @@ pub fn read_certificate(
     ensures { (texts_read result ≡ read_certificate history.now text.now) × (rows.new ≡ rows_read history.now text.now rows.old) }
 {
     let history = read_history(history).map_err(Unread::NoHistory)?;
-    let certificate = read_text(text, &history.events[..history.count], rows).map_err(
+    let certificate = read_text(text, history.recorded_events(), rows).map_err(
         |refusal| Unread::NoCertificate(history, refusal),
     )?;
     Ok(Texts {

@@ -10,7 +10,7 @@ use lib.Dec.{eqb, leb}
 use borrow.Author.Tests.{leb-true, eqb-true}
 use Rattle.std.specs.Prelude.{Ok}
 use Rattle.layout.specs.Split.{split, on_first, join}
-use Rattle.layout.specs.Word.{same, criterion_word, pram_word, weak_word, causal_word, converge_word, sequential_word, strict_word}
+use Rattle.layout.specs.Word.{same, criterion_word}
 use Rattle.layout.specs.Number.{value, spell}
 use Rattle.layout.specs.List.{items_of, all_numbers, all_below, judged, list_of, numbers_of}
 use Rattle.layout.proofs.Cases.{by_bool, and_left, and_right}

@@ -11,7 +11,7 @@ use Rattle.layout.specs.Split.{join}
 use Rattle.layout.specs.Word.{criterion_word, past_heading, view_heading}
 use Rattle.layout.specs.Number.{spell}
 use Rattle.layout.specs.List.{list_text}
-use Rattle.layout.proofs.Cases.{and_left, and_right}
+use Rattle.layout.proofs.Cases.{in-either, and_left, and_right}
 use Rattle.layout.proofs.SpellLaws.{spell-short}
 use Rattle.history.specs.declared.record.Event.{Event}
 use Rattle.history.specs.HistoryText.{lines_text}
@@ -96,11 +96,6 @@ pasts-short count ls h k g =
       lists-short true count (count_from 0 (length ls)) ls h (count-below 64 0 (length ls) (omega arith)) g,
     )
 
-either-short : (n : ℕ) (t : Bool) (ls ms : List (List ℕ)) → length (lines_text ls) ≤ n → length (lines_text ms) ≤ n
-    → length (lines_text (cond t ls ms)) ≤ n
-either-short n true ls ms h k = h
-either-short n false ls ms h k = k
-
 -- ---- the whole
 pub text-short : (c : Criterion) (es : List Event) (pasts views : List (List ℕ)) → length es ≤ 64
     → length pasts ≡ past_count c es → length views ≡ length (view_numbers c es)
@@ -119,5 +114,5 @@ text-short c es pasts views h p q g f =
       arith,
       criterion-short c,
       line-more (criterion_text c) (cond (has_pasts c) (ls ++ ms) ms),
-      either-short 25110 (has_pasts c) (ls ++ ms) ms both (omega arith),
+      in-either (λ (t : List (List ℕ)). length (lines_text t) ≤ 25110) (has_pasts c) (ls ++ ms) ms both (omega arith),
     )

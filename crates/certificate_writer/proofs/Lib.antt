@@ -1,4 +1,5 @@
 pub mod AllLaws
+pub mod FieldLaws
 pub mod LimitLaws
 pub mod LineLaws
 pub mod TextLaws

@@ -7,8 +7,6 @@ use mathlib.Core.Bool.{Bool, true, false, cond}
 use mathlib.Core.List.{List, [], ◌∷◌, ◌++◌, map, append_assoc}
 use lib.ListN.{length, get_or, take, length-map}
 use Rattle.std.proofs.lemmas.List.{get_or-map}
-use Rattle.layout.specs.Number.{spell}
-use Rattle.layout.specs.List.{list_text}
 use Rattle.layout.specs.Pieces.{pieces_from}
 use Rattle.layout.specs.Word.{past_heading, view_heading}
 use Rattle.history.specs.HistoryText.{lines_text}
@@ -21,12 +19,7 @@ use Rattle.certificate.specs.CertificateText.{list_line, list_lines, criterion_t
 use Rattle.certificate.proofs.NumberingLaws.{count_long, count_at}
 use Rattle.certificate_writer.specs.Steps.Lines.{first_bytes, line_bytes, past_piece, view_piece, past_bytes, view_bytes}
 
--- ---- a line: the number and its space, and the list and its line feed
-line_is : (own : ℕ) (xs : List ℕ) → line_bytes own xs ≡ list_line own xs ++ 10 ∷ []
-unfolding list_line
-line_is own xs = append_assoc (spell own) (32 ∷ []) (list_text xs ++ 10 ∷ []) ∙ sym (append_assoc (spell own) (32 ∷ list_text xs) (10 ∷ []))
-
--- ---- pieces that are such lines
+-- ---- pieces that are lines of a number and a list
 pieces_are : (piece : ℕ → List ℕ) (ns : List ℕ) (ls : List (List ℕ)) (k : ℕ) → length ls ≡ length ns
     → ((j : ℕ) → j < length ns → piece (k + j) ≡ line_bytes (get_or ns j 0) (get_or ls j []))
     → pieces_from piece k (length ns) ≡ lines_text (list_lines ns ls)
@@ -35,7 +28,7 @@ pieces_are piece [] ls k e h = refl
 pieces_are piece (n ∷ ns) [] k e h = absurd (omega arith)
 pieces_are piece (n ∷ ns) (l ∷ ls) k e h =
     let z : k + 0 ≡ k = omega arith in
-    let first : piece k ≡ list_line n l ++ 10 ∷ [] = rw z at (h 0 (omega arith)) ∙ line_is n l in
+    let first : piece k ≡ list_line n l ++ 10 ∷ [] = rw z at (h 0 (omega arith)) in
     let rest =
     pieces_are piece ns ls (k + 1) (omega arith)
     (λ j p. let s : k + suc j ≡ k + 1 + j = omega arith in rw s at (h (suc j) (omega arith))) in

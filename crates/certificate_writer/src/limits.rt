@@ -37,7 +37,7 @@ fn is_rising(row: &[u8]) -> bool
 }
 
 // Whether a row holds a list of n events of a history with so many events.
-// Kept: the whole row, since what stands behind the n is looked at too.
+// Kept: the whole row: `good_row` of certificate specs/Readable asks that zeros stand behind the n.
 #[tactic(auto, unfolding(certificate::specs::Readable::good_row))]
 fn good_row(row: &[u8; 64], n: usize, count: usize) -> bool
     requires { count ≤ 64 }
@@ -51,7 +51,7 @@ fn good_past(l: &EventList, count: usize) -> bool
     requires { count ≤ 64 }
     ensures { result ≡ good_row count l.now.count l.now.events && rising (entries_in l.now) }
 {
-    good_row(&l.events, l.count, count) && is_rising(&l.events[..l.count])
+    good_row(&l.events, l.count, count) && is_rising(l.entries())
 }
 
 // Whether each list is good, and strictly rising.
@@ -104,7 +104,7 @@ fn blank_rows(rows: &[[u8; 64]]) -> bool
 }
 
 // Whether the first k pasts and the first m rows of a record are good, and its other lists and rows blank.
-// Kept: all rows, since what stands behind the m is looked at too.
+// Kept: all rows: `fits` of certificate specs/Readable asks by `blank_rows` that zeros stand behind the m.
 #[tactic(auto, unfolding(crate::specs::Steps::Lines::parts_fit))]
 fn parts_fit(c: &Certificate, rows: &[[u8; 64]; 64], k: usize, m: usize, count: usize) -> bool
     requires { (k ≤ 64) × (m ≤ 64) × (count ≤ 64) }
@@ -122,7 +122,7 @@ pub(crate) fn fits_history(h: &History, c: &Certificate, rows: &[[u8; 64]; 64]) 
     requires { (h.now.count ≤ 64) × (length (events_in h.now) ≡ h.now.count) }
     ensures { result ≡ fits (events_in h.now) c.now rows.now }
 {
-    let views = view_numbers(c.criterion, &h.events[..h.count]);
+    let views = view_numbers(c.criterion, h.recorded_events());
     let pasts = past_count(c.criterion, h.count);
     parts_fit(c, rows, pasts, views.count, h.count)
 }

@@ -1,52 +1,13 @@
 // The lines of a certificate that have a number and a list, as pieces of its text.
 ghost use Rattle.std.specs.Prelude.{◌≡◌, ℕ, ◌≤◌, ◌<◌, [], ◌∷◌, ◌++◌, length, get_or, take};
-ghost use Rattle.layout.specs.Fill.{fill};
-ghost use Rattle.layout.specs.Number.{spell};
-ghost use Rattle.layout.specs.List.{list_text};
 ghost use Rattle.certificate.specs.Record.{no_list, entries_in};
-ghost use Rattle.certificate_writer.specs.Steps.Lines.{line_bytes, past_piece, view_piece};
+ghost use Rattle.certificate_writer.specs.Steps.Lines.{past_piece, view_piece};
 
+use crate::events::Events;
+use crate::line::list_line;
 use certificate::record::{Criterion, EventList};
-use layout::list::{list_len, put_list};
-use layout::number::{number_len, put_number};
+use layout::fields::{fields_len, put_fields};
 use layout::pieces::{CountedPieces, Pieces};
-
-// How many bytes the line of a number and events has, its line feed too.
-fn list_line_len(own: u32, events: &[u8]) -> usize
-    requires { length events.now ≤ 64 }
-    ensures { (result ≡ length (line_bytes own events.now)) × (result ≤ 720) }
-{
-    number_len(own) + list_len(events) + 2
-}
-
-// Writes a number and the space behind it into a part that has room.
-fn put_own(part: &mut [u8], own: u32) -> usize
-    requires { length (spell own ++ 32 ∷ []) ≤ length part.old }
-    ensures { (result ≡ length (spell own ++ 32 ∷ [])) × (part.new ≡ fill (spell own ++ 32 ∷ []) part.old) }
-{
-    let k = put_number(part, own);
-    part[k] = b' ';
-    k + 1
-}
-
-// Writes a list of events and the line feed behind it into a part that has room.
-fn put_events(part: &mut [u8], events: &[u8]) -> usize
-    requires { length (list_text events.now ++ 10 ∷ []) ≤ length part.old }
-    ensures { (result ≡ length (list_text events.now ++ 10 ∷ [])) × (part.new ≡ fill (list_text events.now ++ 10 ∷ []) part.old) }
-{
-    let k = put_list(part, events);
-    part[k] = b'\n';
-    k + 1
-}
-
-// Writes the line of a number and events, its line feed too, into a part that has room.
-fn put_list_line(part: &mut [u8], own: u32, events: &[u8]) -> usize
-    requires { length (line_bytes own events.now) ≤ length part.old }
-    ensures { (result ≡ length (line_bytes own events.now)) × (part.new ≡ fill (line_bytes own events.now) part.old) }
-{
-    let k = put_own(part, own);
-    k + put_events(&mut part[k..], events)
-}
 
 // The lines of pasts, numbered from 0.
 // Kept: no plainer as one type with `ViewLines`: how a line's number and events are found is all that either impl has.
@@ -59,12 +20,13 @@ pub(crate) struct PastLines<'a> {
 
 impl<'a> PastLines<'a> {
     // The events of the past i.
-    fn events(&self, i: usize) -> &'a [u8]
+    fn events(&self, i: usize) -> Events<'a>
         requires { i < length self.now.pasts.now }
-        ensures { (result.now ≡ entries_in (get_or self.now.pasts.now i no_list)) × (length result.now ≤ 64) }
+        ensures { result.events.now ≡ entries_in (get_or self.now.pasts.now i no_list) }
     {
-        let past = &self.pasts[i];
-        &past.events[..past.count]
+        Events {
+            events: self.pasts[i].entries(),
+        }
     }
 }
 
@@ -78,15 +40,15 @@ impl Pieces for PastLines<'_> {
     }
 
     fn put_piece(&self, part: &mut [u8], i: usize) -> usize {
-        put_list_line(part, i as u32, self.events(i))
+        put_fields(part, &list_line(i as u32, self.events(i)))
     }
 }
 
 impl CountedPieces for PastLines<'_> {
-    ghost most = { 720 };
+    ghost most = { 1410 };
 
     fn piece_len(&self, i: usize) -> usize {
-        list_line_len(i as u32, self.events(i))
+        fields_len(&list_line(i as u32, self.events(i)))
     }
 }
 
@@ -104,12 +66,14 @@ pub(crate) struct ViewLines<'a> {
 
 impl<'a> ViewLines<'a> {
     // The events of the view i.
-    fn events(&self, i: usize) -> &'a [u8]
+    fn events(&self, i: usize) -> Events<'a>
         requires { i < length self.now.numbers.now }
-        ensures { (result.now ≡ take (get_or self.now.lengths.now i 0) (get_or self.now.rows.now i [])) × (length result.now ≤ 64) }
+        ensures { result.events.now ≡ take (get_or self.now.lengths.now i 0) (get_or self.now.rows.now i []) }
     {
         let row = &self.rows[i];
-        &row[..usize::from(self.lengths[i])]
+        Events {
+            events: &row[..usize::from(self.lengths[i])],
+        }
     }
 }
 
@@ -123,15 +87,15 @@ impl Pieces for ViewLines<'_> {
     }
 
     fn put_piece(&self, part: &mut [u8], i: usize) -> usize {
-        put_list_line(part, u32::from(self.numbers[i]), self.events(i))
+        put_fields(part, &list_line(u32::from(self.numbers[i]), self.events(i)))
     }
 }
 
 impl CountedPieces for ViewLines<'_> {
-    ghost most = { 720 };
+    ghost most = { 1410 };
 
     fn piece_len(&self, i: usize) -> usize {
-        list_line_len(u32::from(self.numbers[i]), self.events(i))
+        fields_len(&list_line(u32::from(self.numbers[i]), self.events(i)))
     }
 }
 

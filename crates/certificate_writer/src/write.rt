@@ -1,59 +1,30 @@
 // Writing a certificate of a history: its lines in the first bytes of a lent part.
-ghost use Rattle.std.specs.Prelude.{◌≡◌, ◌≤◌, [], ◌∷◌, ◌++◌, length};
+ghost use Rattle.std.specs.Prelude.{◌≡◌, ◌≤◌, length};
 ghost use Rattle.layout.specs.Fill.{fill};
-ghost use Rattle.certificate.specs.Criteria.{word_of};
 ghost use Rattle.history_writer.specs.WriteHistory.{written_of};
 ghost use Rattle.certificate_writer.specs.WriteCertificate.{writable, certificate_written, certificate_after};
-ghost use Rattle.certificate_writer.specs.Steps.Lines.{first_bytes, past_bytes};
+ghost use Rattle.certificate_writer.specs.Steps.Lines.{past_bytes};
 ghost use Rattle.certificate_writer.specs.Steps.Text.{parts_bytes, text_bytes};
 
 use crate::limits::fits_history;
+use crate::line::first_line;
 use crate::lines::{Lines, PastLines, ViewLines};
 use certificate::criterion::{has_pasts, past_count};
 use certificate::numbers::view_numbers;
 use certificate::record::{Certificate, Criterion};
-use certificate::word::criterion_word;
 use history::record::History;
 use history_writer::limits::is_within;
 use history_writer::write::WriteFault;
-use layout::fill::put_bytes;
+use layout::fields::{fields_len, put_fields};
 use layout::pieces::{pieces_len, put_headed};
-
-const CRITERION: &[u8] = b"criterion ";
 
 const PAST_HEADING: &[u8] = b"event past\n";
 
 const VIEW_HEADING: &[u8] = b"view order\n";
 
-// How many bytes the first line has, its line feed too.
-fn criterion_len(c: Criterion) -> usize
-    ensures { (result ≡ length (first_bytes c)) × (result ≤ 21) }
-{
-    CRITERION.len() + criterion_word(c).len() + 1
-}
-
-// Writes the word of a criterion and the line feed behind it into a part that has room.
-fn put_word(part: &mut [u8], c: Criterion) -> usize
-    requires { length (word_of c ++ 10 ∷ []) ≤ length part.old }
-    ensures { (result ≡ length (word_of c ++ 10 ∷ [])) × (part.new ≡ fill (word_of c ++ 10 ∷ []) part.old) }
-{
-    let k = put_bytes(part, criterion_word(c));
-    part[k] = b'\n';
-    k + 1
-}
-
-// Writes the first line and its line feed into a part that has room.
-fn put_criterion(part: &mut [u8], c: Criterion) -> usize
-    requires { length (first_bytes c) ≤ length part.old }
-    ensures { (result ≡ length (first_bytes c)) × (part.new ≡ fill (first_bytes c) part.old) }
-{
-    let k = put_bytes(part, CRITERION);
-    k + put_word(&mut part[k..], c)
-}
-
 // How many bytes the part of the pasts has: none where the criterion has no pasts.
 fn pasts_len(c: Criterion, pasts: &PastLines) -> usize
-    ensures { (result ≡ length (past_bytes c pasts.now.pasts.now)) × (result ≤ 46091) }
+    ensures { (result ≡ length (past_bytes c pasts.now.pasts.now)) × (result ≤ 90251) }
 {
     if has_pasts(c) {
         return PAST_HEADING.len() + pieces_len(pasts);
@@ -86,7 +57,7 @@ fn put_parts(part: &mut [u8], lines: &Lines) -> usize
 fn certificate_len(lines: &Lines) -> usize
     ensures { result ≡ length (text_bytes lines.now) }
 {
-    criterion_len(lines.criterion)
+    fields_len(&first_line(lines.criterion))
         + pasts_len(lines.criterion, &lines.pasts)
         + VIEW_HEADING.len()
         + pieces_len(&lines.views)
@@ -97,7 +68,7 @@ fn put_certificate(part: &mut [u8], lines: &Lines) -> usize
     requires { length (text_bytes lines.now) ≤ length part.old }
     ensures { (result ≡ length (text_bytes lines.now)) × (part.new ≡ fill (text_bytes lines.now) part.old) }
 {
-    let k = put_criterion(part, lines.criterion);
+    let k = put_fields(part, &first_line(lines.criterion));
     k + put_parts(&mut part[k..], lines)
 }
 
@@ -122,12 +93,12 @@ pub fn write_certificate(
     if !is_writable(&h, &c, rows) {
         return Err(WriteFault::OutsideLimits);
     }
-    let numbers = view_numbers(c.criterion, &h.events[..h.count]);
+    let numbers = view_numbers(c.criterion, h.recorded_events());
     let pasts = PastLines {
         pasts: &c.pasts[..past_count(c.criterion, h.count)],
     };
     let views = ViewLines {
-        numbers: &numbers.numbers[..numbers.count],
+        numbers: numbers.all(),
         lengths: &c.lengths[..numbers.count],
         rows: &rows[..numbers.count],
     };

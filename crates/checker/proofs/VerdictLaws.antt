@@ -15,7 +15,6 @@ use Rattle.history.specs.Record.{events_in}
 use Rattle.history.specs.Readable.{within}
 use Rattle.history.specs.Faults.{fault_number}
 use Rattle.history.proofs.WithinLaws.{within-limits}
-use Rattle.history_reader.specs.declared.place.Text as code-text
 use Rattle.history_reader.specs.declared.place.Place as code-place
 use Rattle.history_reader.specs.Place.{Place, nowhere, text_in, line_place, bytes_at, text_named, part_at}
 use Rattle.history_reader.specs.ReadHistory.{read_history}
@@ -25,6 +24,7 @@ use Rattle.history_theorems.proofs.Theorems.{no-fault-readable, read-within}
 use Rattle.certificate.specs.declared.record.Certificate.{Certificate}
 use Rattle.certificate.specs.Record.{no_row}
 use Rattle.certificate.specs.Readable.{fits}
+use Rattle.certificate_reader.specs.declared.read.Texts.{Texts}
 use Rattle.certificate_reader.specs.declared.read.Unread.{Unread}
 use Rattle.certificate_reader.specs.declared.read.Unread.TheVariants.{NoHistory, NoCertificate}
 use Rattle.certificate_reader.specs.ReadCertificate.{CertificateRead, texts_read, refusal_in, read_certificate, rows_read}
@@ -39,6 +39,7 @@ use Rattle.faults.specs.declared.finding.Finding.{Finding}
 use Rattle.faults.specs.Finding.{finding_of, found_of}
 use Rattle.checker.specs.CheckText.{Verdict, refused, place_of, found_in, history_read, rows_of, certificate_read, check_text, carried_line}
 use Rattle.checker.specs.Verdict.{verdict_of}
+use Rattle.checker.proofs.AnswerLaws.{checked_of, answer-back}
 use Rattle.checker.proofs.TextTheorems.{checked-as, refused_as, lists-readable}
 use Rattle.checker.proofs.EventLaws.{Below, event-below}
 
@@ -60,6 +61,14 @@ unread-number (NoCertificate h r) = refl
 pub unread-fault : (u : Unread) → (texts_read (Err u)).fault ≡ 0 → ⊥
 unread-fault (NoHistory r) z = fault-some r.fault z
 unread-fault (NoCertificate h r) z = fault-some r.fault z
+
+-- the answer that stands for a refused reading tells its verdict back
+pub refused-back : (r : Result Texts Unread) → ((texts_read r).fault ≡ 0 → ⊥) → verdict_of (checked_of (refused (texts_read r))) ≡ refused (texts_read r)
+refused-back (Ok t) n = absurd (n refl)
+refused-back (Err u) n =
+    ap (λ (v : Verdict). verdict_of (checked_of v)) (unread-refused u)
+    ∙ ap verdict_of (answer-back (Err (refusal_in u)))
+    ∙ sym (unread-refused u)
 
 pub refused-answer : (history text : List ℕ) (u : Unread) → texts_read (Err u) ≡ read_certificate history text
     → verdict_of (Err (refusal_in u)) ≡ check_text history text
@@ -86,6 +95,9 @@ module _ (history text : List ℕ) (r : CertificateRead) (read : r ≡ read_cert
         ap (λ (h : History). fits (events_in h) r.certificate rows) history-is
         ∙ ap₂ (λ (x : CertificateRead) (l : List (List ℕ)). fits (events_in (read_history history).history) x.certificate l) read rows-read
         ∙ read_fits history text no-fault (replicate 64 no_row)
+
+    pub limits-read : (within r.history ≡ true) × (fits (events_in r.history) r.certificate rows ≡ true)
+    limits-read = (within-read, fits_read)
 
     -- what is made of the records that were read is made of the texts
     pub of-texts : {A : Type 0} (F : History → Certificate → List (List ℕ) → A)
@@ -178,13 +190,9 @@ module _ (history text : List ℕ) (p : code-place.Place) (q : line_place p ≡ 
   pub line-begins : p.start ≤ p.end
   line-begins = (answer-placed history text (line_place p) q).from
 
-  module _ (t : code-text.Text) (e : p.text ≡ t) where
-    pub line-ends : p.end ≤ length (text_named (text_in t) history text)
-    line-ends =
-        subst (λ (x : code-text.Text). p.end ≤ length (text_named (text_in x) history text)) e
-        (answer-placed history text (line_place p) q).to
+  module _ (of : List ℕ) (e : of ≡ text_named (text_in p.text) history text) where
+    pub line-ends : p.end ≤ length of
+    line-ends = rw e (answer-placed history text (line_place p) q).to
 
-    pub line-carried : bytes_at (line_place p) (text_named (text_in t) history text) ≡ carried_line history text
-    line-carried =
-        ap (λ (x : code-text.Text). bytes_at (line_place p) (text_named (text_in x) history text)) (sym e)
-        ∙ carried-part history text (line_place p) q
+    pub line-carried : bytes_at (line_place p) of ≡ carried_line history text
+    line-carried = ap (bytes_at (line_place p)) e ∙ carried-part history text (line_place p) q

@@ -5,7 +5,7 @@ use Rattle.history_reader.specs.declared.read.Refusal.{Refusal}
 use Rattle.history_reader.specs.Place.{line_place, place_in}
 use Rattle.criteria.specs.Check.{answer_of}
 use Rattle.faults.specs.Finding.{found_of}
-use Rattle.checker.specs.declared.check.Checked.{Checked}
+use Rattle.checker.specs.declared.checked.Checked.{Checked}
 use Rattle.checker.specs.CheckText.{Verdict, refused_at, checked}
 
 -- Both texts were read.

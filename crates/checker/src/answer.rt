@@ -5,7 +5,7 @@ ghost use Rattle.history_reader.specs.Place as places;
 ghost use Rattle.replays.specs.Replay.{found_event};
 ghost use Rattle.checker.specs.Verdict.{verdict_of};
 
-use crate::check::Checked;
+use crate::checked::Checked;
 use certificate::record::Criterion;
 use faults::finding::{event_of, number_of, view_of};
 use history::record::EventNo;

@@ -31,6 +31,7 @@ use Rattle.history.specs.Kinds.{op_word, is_op, op_of, has_op, takes_value, can_
 use Rattle.history.specs.Faults.{EventRead, optional, is_lost, answer_items, answer_said, event_layout, event_limits, event_fits, event_long, object_named, event_fault, event_said, event_six, event_line}
 use Rattle.history.specs.HistoryText.{answer_text, event_text}
 use Rattle.history.specs.Readable.{all_less, all_zero, good_answer, good_value, good_event}
+use Rattle.history.proofs.Guarantees.{GoodEvent, event-good}
 use Rattle.history.proofs.PadLaws.{pad-length, take-pad}
 use Rattle.history.proofs.FaultLaws.{InOrder, fault-none, fault-zero}
 use Rattle.history.proofs.EventLaws.{with-faulty, with-event, Laid, laid, Limited, limited, event-count, event-six}
@@ -122,32 +123,6 @@ event-clean own e =
     (fields-without 10 (digit_low 10 (omega arith)) (λ q. omega arith) (λ q. omega arith) (λ q. omega arith) own e (op-without e.op).1)
 
 -- ---- the places of an answer
--- what a good answer says
-record GoodAnswer (object : Object) (op : Op) (a : Answer) : Type 0 where
-  few : a.count ≤ 8
-  can : may_answer object op a ≡ true
-  small : all_less value_bound (values_in a) ≡ true
-  long : length a.values ≡ 8
-  rest : all_zero (drop a.count a.values) ≡ true
-
-good-answer : (object : Object) (op : Op) (a : Answer) → good_answer object op a ≡ true → GoodAnswer object op a
-unfolding good_answer
-good-answer object op a e =
-    let b₁ : Bool = leb a.count 8 in
-    let b₂ : Bool = b₁ && may_answer object op a in
-    let b₃ : Bool = b₂ && all_less value_bound (values_in a) in
-    let b₄ : Bool = b₃ && eqb (length a.values) 8 in
-    let e₄ = and_left b₄ (all_zero (drop a.count a.values)) e in
-    let e₃ = and_left b₃ (eqb (length a.values) 8) e₄ in
-    let e₂ = and_left b₂ (all_less value_bound (values_in a)) e₃ in
-    record {
-      few = leb-true a.count 8 (and_left b₁ (may_answer object op a) e₂);
-      can = and_right b₁ (may_answer object op a) e₂;
-      small = and_right b₂ (all_less value_bound (values_in a)) e₃;
-      long = eqb-true (length a.values) 8 (and_right b₃ (eqb (length a.values) 8) e₄);
-      rest = and_right b₄ (all_zero (drop a.count a.values)) e;
-    }
-
 -- a list is not `?`
 list-not-question : (xs : List ℕ) → same (list_text xs) question ≡ false
 unfolding is_digit
@@ -161,7 +136,10 @@ answer-parts : (l : Bool) (c : ℕ) (vs : List ℕ) (a : Answer) → l ≡ a.los
     → ◌≡◌ {A = Answer} (record { lost = l; count = c; values = vs }) a
 answer-parts l c vs a p q r = rw (p, q, r)
 
-module _ {object : Object} {op : Op} {a : Answer} (g : GoodAnswer object op a) where
+module _ {os : List Object} {e : Event} (g : GoodEvent os e) where
+  abbrev a : Answer
+  a = e.answer
+
   answer-count : length (values_in a) ≡ a.count
   answer-count = length-take-le a.count a.values (omega arith)
 
@@ -176,7 +154,7 @@ module _ {object : Object} {op : Op} {a : Answer} (g : GoodAnswer object op a) w
 
   -- one that was lost has no value
   lost-none : a.lost ≡ true → a.count ≡ 0
-  lost-none l = eqb-true a.count 0 (rw l at g.can)
+  lost-none l = eqb-true a.count 0 (rw l at g.sound.answer)
 
   lost-values : a.lost ≡ true → values_in a ≡ []
   lost-values l = rw (lost-none l)
@@ -202,9 +180,9 @@ module _ {object : Object} {op : Op} {a : Answer} (g : GoodAnswer object op a) w
   unfolding answer_text
   answer-said = said-by a.lost refl
 
-  answer-can : leb (length (answer_items (answer_text a))) 8 && may_answer object op (answer_said (answer_text a)) ≡ true
+  answer-can : leb (length (answer_items (answer_text a))) 8 && may_answer (get_or os e.object no_object) e.op (answer_said (answer_text a)) ≡ true
   answer-can =
-      rw (answer-items, length-map (values_in a) spell, answer-count, le-leb a.count 8 g.few, answer-said) g.can
+      rw (answer-items, length-map (values_in a) spell, answer-count, le-leb a.count 8 g.sound.few, answer-said) g.sound.answer
 
 -- the answer of a few small values is good
 pub made-good : (object : Object) (op : Op) (xs : List ℕ) → length xs ≤ 8 → can_answer object op (length xs) ≡ true
@@ -249,33 +227,6 @@ given-good true v l f = let d = not-true (same v dash) f in rw d (rw d at l)
 given-good false v l f = rw f
 
 -- ---- written and read back
--- what a good event says
-record GoodEvent (os : List Object) (e : Event) : Type 0 where
-  process : ltb e.process.0 8 ≡ true
-  object : ltb e.object (length os) ≡ true
-  has : has_op (get_or os e.object no_object).kind e.op ≡ true
-  given : cond (takes_value e.op) (ltb e.value value_bound) (eqb e.value 0) ≡ true
-  answer : GoodAnswer (get_or os e.object no_object) e.op e.answer
-
-good-event : (os : List Object) (e : Event) → good_event os e ≡ true → GoodEvent os e
-unfolding good_event good_value
-good-event os e g =
-    let object : Object = get_or os e.object no_object in
-    let b₁ : Bool = ltb e.process.0 8 in
-    let b₂ : Bool = b₁ && ltb e.object (length os) in
-    let b₃ : Bool = b₂ && has_op object.kind e.op in
-    let b₄ : Bool = b₃ && good_value e.op e.value in
-    let e₄ = and_left b₄ (good_answer object e.op e.answer) g in
-    let e₃ = and_left b₃ (good_value e.op e.value) e₄ in
-    let e₂ = and_left b₂ (has_op object.kind e.op) e₃ in
-    record {
-      process = and_left b₁ (ltb e.object (length os)) e₂;
-      object = and_right b₁ (ltb e.object (length os)) e₂;
-      has = and_right b₂ (has_op object.kind e.op) e₃;
-      given = and_right b₃ (good_value e.op e.value) e₄;
-      answer = good-answer object e.op e.answer (and_right b₄ (good_answer object e.op e.answer) g);
-    }
-
 module _ (own : ℕ) (os : List Object) (e : Event) (h : own < 64) (g : GoodEvent os e) where
   abbrev p_text : List ℕ
   p_text = spell e.process.0
@@ -301,45 +252,45 @@ module _ (own : ℕ) (os : List Object) (e : Event) (h : own < 64) (g : GoodEven
         number-spell e.object,
         op-known e.op,
         option-layout (takes_value e.op) e.value,
-        answer-items g.answer,
+        answer-items g,
       )
       (spells-numbers (values_in e.answer))
 
   limits-text : event_limits own (length os) p_text o_text v_text s_text ≡ true
-  unfolding event_limits
+  unfolding event_limits good_value
   limits-text =
       rw (
         lt-ltb own 64 h,
         value-spell e.process.0,
-        g.process,
+        lt-ltb e.process.0 8 g.sound.process,
         value-spell e.object,
-        g.object,
-        given-limits (takes_value e.op) e.value g.given,
-        answer-items g.answer,
+        lt-ltb e.object (length os) g.sound.declared,
+        given-limits (takes_value e.op) e.value g.sound.value,
+        answer-items g,
       )
-      (spells-below value_bound (values_in e.answer) g.answer.small)
+      (spells-below value_bound (values_in e.answer) g.sound.values)
 
   fits-text : event_fits (object_named os o_text) w_text v_text ≡ true
   unfolding event_fits
-  fits-text = rw (value-spell e.object, op-word e.op, g.has) (option-fits (takes_value e.op) e.value)
+  fits-text = rw (value-spell e.object, op-word e.op, g.sound.op) (option-fits (takes_value e.op) e.value)
 
   long-text : event_long (object_named os o_text) w_text s_text ≡ true
   unfolding event_long
-  long-text = rw (value-spell e.object, op-word e.op) (answer-can g.answer)
+  long-text = rw (value-spell e.object, op-word e.op) (answer-can g)
 
   fault-text : event_fault own os (spell own) p_text o_text w_text v_text s_text ≡ 0
   unfolding event_fault
   fault-text = fault-zero (record { layout = layout-text; limits = limits-text; fits = fits-text; long = long-text })
 
   said-text : event_said p_text o_text w_text v_text s_text ≡ e
-  unfolding event_said
+  unfolding event_said good_value
   said-text =
       rw (
         value-spell e.process.0,
         value-spell e.object,
         op-word e.op,
-        given-value (takes_value e.op) e.value g.given,
-        answer-said g.answer,
+        given-value (takes_value e.op) e.value g.sound.value,
+        answer-said g,
       )
 
   six-text : event_six own os (spell own) p_text o_text w_text v_text s_text ≡ record { fault = 0; event = e }
@@ -352,7 +303,7 @@ module _ (own : ℕ) (os : List Object) (e : Event) (h : own < 64) (g : GoodEven
 pub event-written : (own : ℕ) (os : List Object) (e : Event) → own < 64 → good_event os e ≡ true
     → event_line own os (event_text own e) ≡ record { fault = 0; event = e }
 event-written own os e h g =
-    event-six own os (event_text own e) (fields_of own e) (text-fields own e) refl ∙ six-text own os e h (good-event os e g)
+    event-six own os (event_text own e) (fields_of own e) (text-fields own e) refl ∙ six-text own os e h (event-good os e g)
 
 -- ---- read and written back
 six : (l : List (List ℕ)) → length l ≡ 6

@@ -28,7 +28,8 @@ fn op_behind<'a>(text: &'a [u8], word: &[u8], op: Op) -> Option<(Op, &'a [u8])>
 }
 
 // The op whose word a text begins with, with a space behind it, and what stands behind the space.
-// Kept: the words one after the other; `split_once` and `read_op` were tried, and to read a history took a seventh more instructions.
+// Kept: the words one after the other; no plainer by `split_once` and `read_op`, where a word is cut off, looked up and then judged by what
+// stands behind it (tried: and to read a history took a seventh more instructions).
 #[tactic(auto, unfolding(history::specs::Kinds::op_word))]
 fn leading_op(text: &[u8]) -> Option<(Op, &[u8])>
     ensures { IfSome result (λ r. text.now ≡ op_word r.0 ++ 32 ∷ r.1.now) }
@@ -63,6 +64,8 @@ fn leading_lost(text: &[u8]) -> Option<(Answer, &[u8])>
 
 // The answer that a text begins with as values with commas between them, or as `?`, with a line feed behind it, and what stands
 // behind the line feed. Few answers are lost: `?` is looked for only where no number stands.
+// Kept: no one loop with `quick_entries` (certificate::next): there an entry is judged by the one before it, so the step would change what
+// it captures, and the laws of the two differ in that too.
 fn leading_values(text: &[u8]) -> Option<(Answer, &[u8])>
     ensures { IfSome result (λ r. AnswerFirst text.now r.0 r.1.now) }
 {

@@ -44,7 +44,8 @@ use Rattle.replayed_views.proofs.DecidingLaws.{or_assoc}
 use Rattle.faults.specs.declared.finding.Finding.{Finding}
 use Rattle.faults.specs.Finding.{is_found, finding_of}
 use Rattle.faults.specs.Steps.{order_fault, view_fault}
-use Rattle.faults.proofs.RecordFacts.{number-count, number_at, numbers-long}
+use Rattle.certificate.proofs.NumberingLaws.{counted as numbers-counted}
+use Rattle.faults.proofs.RecordFacts.{number_at, numbers-long}
 use Rattle.faults.proofs.OrderLaws.{order-faults}
 use Rattle.faults.proofs.ViewedLaws.{view-faults}
 use Rattle.faults.proofs.ReplayedLaws.{view-begins}
@@ -285,20 +286,20 @@ module _ (h : WrittenHistory.History) (w : within h ≡ true) where
             ∙ view-faults c.criterion (history_of h) (order (history_of h) lists) order-rows (take numbers.count rows) (take numbers.count c.lengths) (take numbers.count numbers.numbers) viewed
             (length (take numbers.count numbers.numbers))
             (omega (arith, size_of, few-of)) (λ a b. ap (λ (R : ℕ → ℕ → Bool). R a b) order_is) (order-inside (history_of h) lists readable_of)
-            (numbers-as ∙ number-count numbers _ numbered ∙ sym (view-count c.criterion h))
+            (numbers-as ∙ numbers-counted numbers _ numbered ∙ sym (view-count c.criterion h))
             (λ k l.
             get_or-take numbers.count numbers.numbers k 0 (omega (arith, numbers-as)) ∙ number_at numbers _ numbered k
-            ∙ sym (view-number c.criterion h k (omega (arith, numbers-as, number-count numbers _ numbered, view-count c.criterion h))))
+            ∙ sym (view-number c.criterion h k (omega (arith, numbers-as, numbers-counted numbers _ numbered, view-count c.criterion h))))
             (λ k l.
             let b : k < numbers.count = omega (arith, numbers-as) in
-            view-first rows c.lengths numbers.count k b ∙ view-same numbers.count (number-count numbers _ numbered) k b)
+            view-first rows c.lengths numbers.count k b ∙ view-same numbers.count (numbers-counted numbers _ numbered) k b)
             (λ k l. (readable_of.view k).0)
             processes (process-at processes processed)
 
         third-step : find16 c.criterion (history_of h) (in_rows order-rows) (beginnings (take numbers.count c.lengths) (take numbers.count rows))
             ≡ find16 c.criterion (history_of h) (order (history_of h) lists) viewed
         third-step =
-            ap₂ (λ (R : ℕ → ℕ → Bool) (m : ℕ). find16 c.criterion (history_of h) R (beginnings (take m c.lengths) (take m rows))) order_is (number-count numbers _ numbered)
+            ap₂ (λ (R : ℕ → ℕ → Bool) (m : ℕ). find16 c.criterion (history_of h) R (beginnings (take m c.lengths) (take m rows))) order_is (numbers-counted numbers _ numbered)
 
         check-is : check (history_of h) lists
             ≡ or (order_fault order-rows program (cond (has_pasts c.criterion) h.count 0))
@@ -331,7 +332,7 @@ module _ (h : WrittenHistory.History) (w : within h ≡ true) where
 module _ (h : WrittenHistory.History) (c : WrittenCertificate.Certificate) (rows : List (List ℕ)) (asked : (within h ≡ true) × (fits (events_in h) c rows ≡ true))
     (named : ViewNumbers) (numbered : (named ≡ view_numbers_of (view_numbers c.criterion (events_in h))) × (named.count ≤ 64)) where
   pub few-views : length (view_numbers c.criterion (events_in h)) ≤ 64
-  few-views = omega (arith, number-count named _ numbered.0, numbered.1)
+  few-views = omega (arith, numbers-counted named _ numbered.0, numbered.1)
 
   module _ (processes : List ℕ) (long : length processes ≡ 64) (processed : (e : ℕ) → e < 64 → get_or processes e 0 ≡ (get_or h.events e no_event).process.0)
       (program : List ℕ) (programmed : IsOrder program (program_in (length (take h.count processes)) (take h.count processes)))
@@ -345,26 +346,26 @@ module _ (h : WrittenHistory.History) (c : WrittenCertificate.Certificate) (rows
     first-found : finding_of first ≡ order_fault order-rows program (cond (has_pasts c.criterion) h.count 0)
     first-found = first-is ∙ ap (order_fault order-rows program) counted
 
-    pub order-stops : (f : Finding) → first ≡ Err f → finding_of first ≡ check (history_of h) (certificate_of h c rows)
-    order-stops f e =
+    pub order-stops : {f : Finding} → first ≡ Err f → finding_of first ≡ check (history_of h) (certificate_of h c rows)
+    order-stops e =
         order-answers h asked.0 c rows asked.1 few-views program order-rows is-program ordered named numbered.0 processes processed
         (finding_of first) first-found (ap (λ (r : Result (Unit {0}) Finding). is_found (finding_of r)) e)
 
-    module _ (u : Unit {0}) (passed : first ≡ Ok u)
+    module _ {u : Unit {0}} (passed : first ≡ Ok u)
         (second : Result (Unit {0}) Finding)
         (second-is : finding_of second
         ≡ view_fault (event_each c.criterion) (take named.count rows) (take named.count c.lengths) (take named.count named.numbers) order-rows processes
         (length (take named.count named.numbers)) (cond (is_strict c.criterion) (length (take named.count named.numbers)) 0) h.count) where
-      pub views-stop : (f : Finding) → second ≡ Err f → finding_of second ≡ check (history_of h) (certificate_of h c rows)
-      views-stop f e =
+      pub views-stop : {f : Finding} → second ≡ Err f → finding_of second ≡ check (history_of h) (certificate_of h c rows)
+      views-stop e =
           view-answers h asked.0 c rows asked.1 few-views program order-rows is-program ordered named numbered.0 processes processed
           (finding_of first) (finding_of second) first-found (ap (λ (r : Result (Unit {0}) Finding). is_found (finding_of r)) passed) second-is
           (ap (λ (r : Result (Unit {0}) Finding). is_found (finding_of r)) e)
 
-      pub replay-stops : (v : Unit {0}) → second ≡ Ok v → (third : Result (Unit {0}) Finding)
+      pub replay-stops : {v : Unit {0}} → second ≡ Ok v → (third : Result (Unit {0}) Finding)
           → finding_of third ≡ find16 c.criterion (history_of h) (in_rows order-rows) (beginnings (take named.count c.lengths) (take named.count rows))
           → finding_of third ≡ check (history_of h) (certificate_of h c rows)
-      replay-stops v e third third-is =
+      replay-stops e third third-is =
           replay-answers h asked.0 c rows asked.1 few-views program order-rows is-program ordered named numbered.0 processes processed
           (finding_of first) (finding_of second) (finding_of third) first-found (ap (λ (r : Result (Unit {0}) Finding). is_found (finding_of r)) passed) second-is
           (ap (λ (r : Result (Unit {0}) Finding). is_found (finding_of r)) e) third-is

@@ -21,7 +21,7 @@ use Rattle.history.proofs.WithinLaws.{within-limits}
 use Rattle.history.proofs.Guarantees.{within-sound}
 use Rattle.certificate.specs.declared.numbers.ViewNumbers.{ViewNumbers}
 use Rattle.certificate.specs.Steps.Numbers.{view_numbers_of}
-use Rattle.certificate.proofs.NumberingLaws.{numbers-in}
+use Rattle.certificate.proofs.NumberingLaws.{counted, numbers-in}
 use Rattle.criteria.specs.Object.{keeps}
 use Rattle.criteria.specs.History.{event}
 use Rattle.criteria.specs.Records as CriteriaRecords
@@ -88,13 +88,9 @@ module _ (h : WrittenHistory.History) (w : within h ≡ true) where
       rw (event-is h e (omega (arith, l, (within-limits h w).all))) ((within-sound h w).event e l).declared
 
 -- ---- the numbers of the views
-pub number-count : (x : ViewNumbers) (ns : List ℕ) → x ≡ view_numbers_of ns → x.count ≡ length ns
-unfolding view_numbers_of
-number-count x ns q = ap (λ (y : ViewNumbers). y.count) q
-
 pub number_at : (x : ViewNumbers) (ns : List ℕ) → x ≡ view_numbers_of ns → (k : ℕ) → get_or x.numbers k 0 ≡ get_or ns k 0
 unfolding view_numbers_of
 number_at x ns q k = ap (λ (y : ViewNumbers). get_or y.numbers k 0) q ∙ get_or-pad 64 0 ns k
 
 pub numbers-long : (x : ViewNumbers) (ns : List ℕ) → x ≡ view_numbers_of ns → length (take x.count x.numbers) ≡ x.count
-numbers-long x ns q = ap length (numbers-in x ns q) ∙ sym (number-count x ns q)
+numbers-long x ns q = ap length (numbers-in x ns q) ∙ sym (counted x ns q)

@@ -140,31 +140,41 @@ Asked h c views =
 mem-below : (n : ℕ) (v : List ℕ) → ((i : ℕ) → i < length v → get_or v i 0 < n) → (e : ℕ) → mem e v ≡ true → e < n
 mem-below n v f e t = let p = place_in e v t in rw p.1 at (f (place e v) p.0)
 
-module _ {h : WrittenHistory.History} {l : LightHistory} (t : TakenApart h l) (states : List State)
-    (fresh-as : (o : ℕ) → o < 16 → Fresh (get_or h.objects o no_object) (get_or states o no_state)) (states-long : length states ≡ 16)
-    (c : Criterion) (views : Views) (asked : Asked h c views) where
+-- a history taken apart and the states at the start, of a history, a criterion and views as the function asks for them
+pub record Taken (h : WrittenHistory.History) (l : LightHistory) (states : List State) (c : Criterion) (views : Views) : Type 0 where
+  pub apart : TakenApart h l
+  pub fresh : (o : ℕ) → o < 16 → Fresh (get_or h.objects o no_object) (get_or states o no_state)
+  pub long : length states ≡ 16
+  pub asked : Asked h c views
+
+pub taken : {h : WrittenHistory.History} {l : LightHistory} {states : List State} (c : Criterion) (views : Views) → TakenApart h l
+    → ((o : ℕ) → o < 16 → Fresh (get_or h.objects o no_object) (get_or states o no_state)) → length states ≡ 16 → Asked h c views
+    → Taken h l states c views
+taken c views apart fresh long asked = record { apart = apart; fresh = fresh; long = long; asked = asked }
+
+module _ {h : WrittenHistory.History} {l : LightHistory} {states : List State} {c : Criterion} {views : Views} (t : Taken h l states c views) where
   counted : length views.numbers.now ≡ length (view_numbers c (events_in h))
-  counted = ap length asked.1
+  counted = ap length t.asked.1
 
   -- each view is ready for its replay
   pub view-ready : (k : ℕ) → k < length views.numbers.now → Ready l states (view_at views.rows.now views.lengths.now k)
   view-ready k b =
-      ready_of h (within-sound h asked.0) l t states (view_at views.rows.now views.lengths.now k) (objects-agree h asked.0) fresh-as (all-keep-few h asked.0)
-      (view-few views.rows.now views.lengths.now (length views.numbers.now) h.count asked.2 k b) (view-inside views.rows.now views.lengths.now (length views.numbers.now) h.count asked.2 k b)
+      ready_of h (within-sound h t.asked.0) l t.apart.events t.apart.long states (view_at views.rows.now views.lengths.now k) (objects-agree h t.asked.0) t.fresh (all-keep-few h t.asked.0)
+      (view-few views.rows.now views.lengths.now (length views.numbers.now) h.count t.asked.2 k b) (view-inside views.rows.now views.lengths.now (length views.numbers.now) h.count t.asked.2 k b)
 
   view-below : (k : ℕ) → k < length views.numbers.now → (e : ℕ) → mem e (view_at views.rows.now views.lengths.now k) ≡ true → e < h.count
-  view-below k b = mem-below h.count (view_at views.rows.now views.lengths.now k) (view-inside views.rows.now views.lengths.now (length views.numbers.now) h.count asked.2 k b)
+  view-below k b = mem-below h.count (view_at views.rows.now views.lengths.now k) (view-inside views.rows.now views.lengths.now (length views.numbers.now) h.count t.asked.2 k b)
 
   replayed-is : (who : Visible) (view : List ℕ) → ((e : ℕ) → mem e view ≡ true → e < h.count)
       → first_wrong (history_in l) (is_visible (history_in l) who) (contents_in l.values states) view
       ≡ first_wrong (history_of h) (is_visible (history_of h) who) (start (history_of h)) view
   replayed-is who view inside =
-      let s = within-sound h asked.0 in
-      replay-is h l t states s.count (events-long h asked.0) (omega (arith, s.objects, s.declared, states-long)) (objects-agree h asked.0)
-      (λ o b. fresh-as o (omega (arith, b, s.objects, s.declared))) who view (λ e q. object-declared h asked.0 e (inside e q))
+      let s = within-sound h t.asked.0 in
+      replay-is h l t.apart.events states t.apart.values t.apart.start s.count (events-long h t.asked.0) (omega (arith, s.objects, s.declared, t.long)) (objects-agree h t.asked.0)
+      (λ o b. t.fresh o (omega (arith, b, s.objects, s.declared))) who view (λ e q. object-declared h t.asked.0 e (inside e q))
 
   number_is : (k : ℕ) → k < length views.numbers.now → get_or views.numbers.now k 0 ≡ view_number c (history_of h) k
-  number_is k b = ap (λ (ns : List ℕ). get_or ns k 0) asked.1 ∙ sym (view-number c h k (omega (arith, b, counted, view-count c h)))
+  number_is k b = ap (λ (ns : List ℕ). get_or ns k 0) t.asked.1 ∙ sym (view-number c h k (omega (arith, b, counted, view-count c h)))
 
   -- ---- one replay a view
   module _ (R : ℕ → ℕ → Bool) (who : List Visible) (other : is_converge c ≡ false)
@@ -181,7 +191,7 @@ module _ {h : WrittenHistory.History} {l : LightHistory} (t : TakenApart h l) (s
         (replayed-is (get_or who k no_visible) view (view-below k b)
         ∙ ap (λ (x : Visible). first_wrong (history_of h) (is_visible (history_of h) x) (start (history_of h)) view) (seen k b)
         ∙ same-visible (history_of h) (is_visible (history_of h) (visible_at c views.numbers.now l.events k)) (visible c (history_of h) k)
-        (visible-is h l.events views.numbers.now (within-sound h asked.0).count (within-sound h asked.0).events t.lights c k (omega (arith, there, count_same c (history_of h) other)) (λ _. ap (λ (ns : List ℕ). get_or ns k 0) asked.1))
+        (visible-is h l.events views.numbers.now (within-sound h t.asked.0).count (within-sound h t.asked.0).events t.apart.events.lights c k (omega (arith, there, count_same c (history_of h) other)) (λ _. ap (λ (ns : List ℕ). get_or ns k 0) t.asked.1))
         (start (history_of h)) view
         ∙ ap (first_wrong (history_of h) (visible c (history_of h) k) (start (history_of h)))
         (sym (beginning-at views.lengths.now views.rows.now k) ∙ replayed-same c R (beginnings views.lengths.now views.rows.now) k other))
@@ -226,7 +236,7 @@ module _ {h : WrittenHistory.History} {l : LightHistory} (t : TakenApart h l) (s
       event-is-converge =
           let f : ℕ → Option ℕ = wrong_cut (history_in l) (contents_in l.values states) rows (view_at views.rows.now views.lengths.now 0) in
           let zero-is : get_or views.numbers.now 0 0 ≡ 0 = number_is 0 (view-there one) ∙ ap (λ (x : Criterion). view_number x (history_of h) 0) (converge-is c one) in
-          let n : l.size ≡ size (history_of h) = t.size ∙ sym (size_is h ∙ (within-sound h asked.0).events) in
+          let n : l.size ≡ size (history_of h) = t.apart.events.size ∙ sym (size_is h ∙ (within-sound h t.asked.0).events) in
           ap₂ (λ (i : ℕ) (o : Option ℕ). map_fault (fault16 i) o) zero-is q
           ∙ sym (lowest-events (fault16 0) l.size f)
           ∙ lowest-same l.size (λ k. map_fault (fault16 0) (f k)) (fault_of Converge (history_of h) (in_rows rows) (beginnings views.lengths.now views.rows.now))

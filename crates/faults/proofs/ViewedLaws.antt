@@ -15,7 +15,8 @@ use Rattle.criteria.specs.Certificate.{is_strict, view_count, view_number, view_
 use Rattle.criteria.specs.Check.{Fault, fault14, fault15, fault20, not_its_set, against, outside_past, find14, find15, find20}
 use Rattle.criteria.proofs.Lists.{flag-none, lowest-none, mem-get_or, take-mem, place_in}
 use Rattle.criteria.proofs.Check.{set-inside, true-where}
-use Rattle.orders.specs.Rows.{in_rows, view_at, IsOrder, EventViews}
+use Rattle.orders.specs.declared.views.Views.{Views}
+use Rattle.orders.specs.Rows.{in_rows, view_at, IsOrder}
 use Rattle.orders.proofs.BitLaws.{any_same}
 use Rattle.orders.proofs.ViewLaws.{once-of-set}
 use Rattle.orders.proofs.SizeLaws.{set-size}
@@ -25,49 +26,61 @@ use Rattle.faults.proofs.FoundLaws.{lowest-same, found_some, found_none}
 use Rattle.faults.proofs.OrderLaws.{Found}
 
 -- ---- what the three searches say of the fault
-module _ (each : Bool) (views : List (List ℕ)) (lengths numbers : List ℕ) (rows : List ℕ) (processes : List ℕ) (m strict n : ℕ) where
+module _ (w : Criterion) (v : Views) (rows processes : List ℕ) (n : ℕ) where
+  abbrev numbered : List ℕ
+  numbered = v.numbers.now
+
+  abbrev count_is : ℕ
+  count_is = length v.numbers.now
+
+  -- how many views are asked for 20
+  abbrev strict_count : ℕ
+  strict_count = cond (is_strict w) (length v.numbers.now) 0
+
+  abbrev fault_is : Option Fault
+  fault_is = view_fault (event_each w) v.rows.now v.lengths.now v.numbers.now rows processes (length v.numbers.now) strict_count n
+
   -- the tests of view k
   abbrev pub not_set : ℕ → Bool
-  not_set k = not_its_set 64 (set_at each rows n k) (view_at views lengths k)
+  not_set k = not_its_set 64 (set_at (event_each w) rows n k) (view_at v.rows.now v.lengths.now k)
 
   abbrev pub inverted : ℕ → Bool
-  inverted k = against (in_rows rows) (view_at views lengths k)
+  inverted k = against (in_rows rows) (view_at v.rows.now v.lengths.now k)
 
-  pub fault-set : (a : ℕ) → Found (some a) not_set m → some (fault14 (get_or numbers a 0)) ≡ view_fault each views lengths numbers rows processes m strict n
+  pub fault-set : (a : ℕ) → Found (some a) not_set count_is → some (fault14 (get_or numbered a 0)) ≡ fault_is
   unfolding view_fault
-  fault-set a p = rw (found_some not_set (λ k. fault14 (get_or numbers k 0)) m a p) refl
+  fault-set a p = rw (found_some not_set (λ k. fault14 (get_or numbered k 0)) count_is a p) refl
 
-  module _ (p : Found none not_set m) where
-    pub fault-against : (b : ℕ) → Found (some b) inverted m
-        → some (fault15 (get_or numbers b 0)) ≡ view_fault each views lengths numbers rows processes m strict n
+  module _ (p : Found none not_set count_is) where
+    pub fault-against : (b : ℕ) → Found (some b) inverted count_is → some (fault15 (get_or numbered b 0)) ≡ fault_is
     unfolding view_fault
     fault-against b q =
-        rw (found_none not_set (λ k. fault14 (get_or numbers k 0)) m p, found_some inverted (λ k. fault15 (get_or numbers k 0)) m b q) refl
+        rw (found_none not_set (λ k. fault14 (get_or numbered k 0)) count_is p, found_some inverted (λ k. fault15 (get_or numbered k 0)) count_is b q) refl
 
-    module _ (q : Found none inverted m) where
-      pub fault-outside : (d : ℕ) → Found (some d) (outside views lengths rows processes numbers) strict
-          → some (fault20 (get_or numbers d 0)) ≡ view_fault each views lengths numbers rows processes m strict n
+    module _ (q : Found none inverted count_is) where
+      pub fault-outside : (d : ℕ) → Found (some d) (outside v.rows.now v.lengths.now rows processes v.numbers.now) strict_count
+          → some (fault20 (get_or numbered d 0)) ≡ fault_is
       unfolding view_fault
       fault-outside d r =
-          rw (found_none not_set (λ k. fault14 (get_or numbers k 0)) m p, found_none inverted (λ k. fault15 (get_or numbers k 0)) m q)
-          (sym (found_some (outside views lengths rows processes numbers) (λ k. fault20 (get_or numbers k 0)) strict d r))
+          rw (found_none not_set (λ k. fault14 (get_or numbered k 0)) count_is p, found_none inverted (λ k. fault15 (get_or numbered k 0)) count_is q)
+          (sym (found_some (outside v.rows.now v.lengths.now rows processes v.numbers.now) (λ k. fault20 (get_or numbered k 0)) strict_count d r))
 
-      pub fault-none : Found none (outside views lengths rows processes numbers) strict → none ≡ view_fault each views lengths numbers rows processes m strict n
+      pub fault-none : Found none (outside v.rows.now v.lengths.now rows processes v.numbers.now) strict_count → none ≡ fault_is
       unfolding view_fault
       fault-none r =
-          rw (found_none not_set (λ k. fault14 (get_or numbers k 0)) m p, found_none inverted (λ k. fault15 (get_or numbers k 0)) m q)
-          (sym (found_none (outside views lengths rows processes numbers) (λ k. fault20 (get_or numbers k 0)) strict r))
+          rw (found_none not_set (λ k. fault14 (get_or numbered k 0)) count_is p, found_none inverted (λ k. fault15 (get_or numbered k 0)) count_is q)
+          (sym (found_none (outside v.rows.now v.lengths.now rows processes v.numbers.now) (λ k. fault20 (get_or numbered k 0)) strict_count r))
 
   -- each view is its set: none has an entry twice
-  pub once-views : Found none not_set m → EventViews views lengths m 64 → (k : ℕ) → k < m → (e : ℕ) → count e (view_at views lengths k) ≤ 1
-  once-views p s k h =
-      once-of-set (set_at each rows n k) (view_at views lengths k) inside
-      (flag-none (not_set k) k (lowest-none m (λ k. found_if (not_set k) k) (sym p) k h))
+  pub once-views : Found none not_set count_is → (k : ℕ) → k < count_is → (e : ℕ) → count e (view_at v.rows.now v.lengths.now k) ≤ 1
+  once-views p k h =
+      once-of-set (set_at (event_each w) rows n k) (view_at v.rows.now v.lengths.now k) inside
+      (flag-none (not_set k) k (lowest-none count_is (λ k. found_if (not_set k) k) (sym p) k h))
     where
-      inside : (e : ℕ) → mem e (view_at views lengths k) ≡ true → e < 64
+      inside : (e : ℕ) → mem e (view_at v.rows.now v.lengths.now k) ≡ true → e < 64
       inside e t =
-          let p = take-mem e (get_or lengths k 0) (get_or views k []) t in
-          subst (λ (f : ℕ). f < 64) (place_in e (get_or views k []) p.0).1 (s.entries k h (place e (get_or views k [])) p.1)
+          let p = take-mem e (get_or v.lengths.now k 0) (get_or v.rows.now k []) t in
+          subst (λ (f : ℕ). f < 64) (place_in e (get_or v.rows.now k []) p.0).1 (v.events.entries k h (place e (get_or v.rows.now k [])) p.1)
 
 -- ---- the fault is that of the check
 -- own events that are the same among the entries of a view

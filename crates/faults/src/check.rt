@@ -24,7 +24,7 @@ pub fn check_records(h: &History, c: &Certificate, views: &[[u8; 64]; 64]) -> Re
     ensures { finding_of result ≡ check (history_of h.now) (certificate_of h.now c.now views.now) }
 {
     let n = h.count;
-    let named = view_numbers(c.criterion, &h.events[..n]);
+    let named = view_numbers(c.criterion, h.recorded_events());
     let processes = processes_of(&h.events);
     let program = program_rows(&processes[..n]);
     let rows = order_rows(c.criterion, &c.pasts[..n], program);

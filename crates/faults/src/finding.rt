@@ -20,7 +20,8 @@ pub enum Finding {
 }
 
 // The documents' number of the answer: 0 where nothing was found.
-// Kept: 0 is the documents' number of an accepted certificate, and `answer_of` has it.
+// Kept: functions of the Option, here and below, and no methods of `Finding`: docs/PROOFS.md and DECISIONS 79 name them, and `answer_of`
+// has the case of nothing, whose number is the documents' 0.
 pub fn number_of(found: Option<Finding>) -> u32
     ensures { result ≡ (answer_of (found_of found)).number }
 {

@@ -16,7 +16,7 @@ use orders::listed::past_rows;
 use orders::rows::{in_own_past, lacks_own, not_transitive};
 
 // The process of each event.
-// Kept: tried as `events.map(|e| e.process.0)`: it proves, but copies the events and clears a record for the answers.
+// Tried: `events.map(|e| e.process.0)` is proved too, but copies the events and clears a record for the answers.
 pub fn processes_of(events: &[Event; 64]) -> [u8; 64]
     ensures { (e : ℕ) → e < 64 → get_or result e 0 ≡ (get_or events.now e no_event).process.0 }
 {
@@ -40,7 +40,7 @@ pub(crate) fn order_rows(c: Criterion, pasts: &[EventList], program: [u64; 64]) 
 }
 
 // 11, 12 and 13 of the first n events, in this order; `must` is program order.
-// Kept: an order is all its rows; n says how many events are asked.
+// Kept: an order is all its rows; n says how many events are asked: none where a criterion has no pasts.
 pub(crate) fn order_fault(rows: &[u64; 64], must: &[u64; 64], n: usize) -> Result<(), Finding>
     requires { n ≤ 64 }
     ensures { finding_of result ≡ order_fault rows.now must.now n }

@@ -16,7 +16,7 @@ use orders::searches::{first_against, first_not_all, first_not_past, first_outsi
 use orders::views::Views;
 
 // The lowest view that is not its set, each once; there are n events.
-// Kept: an order is all its rows; n says how many events are asked, here and in `view_fault`.
+// Kept: an order is all its rows, of which the first n are of events, here and in `view_fault`.
 fn first_not_set(criterion: Criterion, views: &Views, rows: &[u64; 64], n: usize) -> Option<usize>
     requires { n ≤ 64 }
     ensures found { option_in result ≡ lowest (length views.now.numbers.now) (λ k. found_if (not_its_set 64 (set_at (event_each criterion) rows.now n k) (view_at views.now.rows.now views.now.lengths.now k)) k) }
@@ -48,6 +48,8 @@ fn first_of_strict(
 
 // 14 and 15 of the views of a certificate and 20 of those of strict, in this order; `rows` are the order of the n events of these
 // processes.
+// Kept: criterion, views and rows in four functions, here and in `replayed`: a struct of them would be built once, in `check_records`, and
+// opened in each.
 pub(crate) fn view_fault(
     criterion: Criterion,
     views: &Views,

@@ -29,6 +29,11 @@ pub record SoundEvent (os : List Object) (e : Event) : Type 0 where
   pub values : all_less value_bound (values_in e.answer) ≡ true
   pub places : length e.answer.values ≡ 8
 
+-- an event within its limits: that, and zeros behind the values of its answer
+pub record GoodEvent (os : List Object) (e : Event) : Type 0 where
+  pub sound : SoundEvent os e
+  pub rest : all_zero (drop e.answer.count e.answer.values) ≡ true
+
 -- a history: the counts, and what each object and each event is
 pub record Sound (h : History) : Type 0 where
   pub declared : h.declared ≤ 16
@@ -38,9 +43,9 @@ pub record Sound (h : History) : Type 0 where
   pub object : (i : ℕ) → i < h.declared → good_object (get_or (objects_in h) i no_object) ≡ true
   pub event : (i : ℕ) → i < h.count → SoundEvent (objects_in h) (get_or (events_in h) i no_event)
 
-sound-event : (os : List Object) (e : Event) → good_event os e ≡ true → SoundEvent os e
+pub event-good : (os : List Object) (e : Event) → good_event os e ≡ true → GoodEvent os e
 unfolding good_event good_answer
-sound-event os e g =
+event-good os e g =
     let o : Object = get_or os e.object no_object in
     let a = e.answer in
     let p₁ : Bool = ltb e.process.0 8 in
@@ -59,15 +64,21 @@ sound-event os e g =
     let h₃ = and_left (b₁ && b₂ && b₃) b₄ h₄ in
     let h₂ = and_left (b₁ && b₂) b₃ h₃ in
     record {
-      process = ltb-true e.process.0 8 (and_left p₁ p₂ g₂);
-      declared = ltb-true e.object (length os) (and_right p₁ p₂ g₂);
-      op = and_right (p₁ && p₂) p₃ g₃;
-      value = and_right (p₁ && p₂ && p₃) p₄ g₄;
-      few = leb-true a.count 8 (and_left b₁ b₂ h₂);
-      answer = and_right b₁ b₂ h₂;
-      values = and_right (b₁ && b₂) b₃ h₃;
-      places = eqb-true (length a.values) 8 (and_right (b₁ && b₂ && b₃) b₄ h₄);
+      sound = record {
+        process = ltb-true e.process.0 8 (and_left p₁ p₂ g₂);
+        declared = ltb-true e.object (length os) (and_right p₁ p₂ g₂);
+        op = and_right (p₁ && p₂) p₃ g₃;
+        value = and_right (p₁ && p₂ && p₃) p₄ g₄;
+        few = leb-true a.count 8 (and_left b₁ b₂ h₂);
+        answer = and_right b₁ b₂ h₂;
+        values = and_right (b₁ && b₂) b₃ h₃;
+        places = eqb-true (length a.values) 8 (and_right (b₁ && b₂ && b₃) b₄ h₄);
+      };
+      rest = and_right (b₁ && b₂ && b₃ && b₄) (all_zero (drop a.count a.values)) h₅;
     }
+
+pub sound-event : (os : List Object) (e : Event) → good_event os e ≡ true → SoundEvent os e
+sound-event os e g = (event-good os e g).sound
 
 object-at : (os : List Object) (i : ℕ) → i < length os → good_objects os ≡ true → good_object (get_or os i no_object) ≡ true
 unfolding good_objects

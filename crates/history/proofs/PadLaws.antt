@@ -1,22 +1,22 @@
 -- Laws of a list in an array, whatever its elements are. Assumes nothing.
-use Prim.Native.Nat.{ℕ, zero, suc, ◌+◌, ◌-◌, ◌≤◌, ◌<◌}
+use Prim.Native.Nat.{ℕ, suc, ◌+◌, ◌-◌, ◌≤◌, ◌<◌}
 use native.Mathlib.Nat.{sub-zero}
 use native.Mathlib.Numerals.{add-one}
 use native.Mathlib.Omega.{arith}
-use mathlib.Core.Path.{◌≡◌, refl, sym, ap, ◌∙◌}
+use mathlib.Core.Path.{◌≡◌, sym, ap, ◌∙◌}
 use mathlib.Core.List.{List, [], ◌∷◌, ◌++◌, append_assoc}
 use lib.ListN.{length, get_or, take, drop, set, replicate, length-set, length-append, length-replicate, get_or-append, get_or-eq_default}
 use lib.Seq.{take-append_seam, set-append_seam, take-suc, take-suc-set, length-take-le, get_or-append-add}
-use Rattle.std.proofs.lemmas.List.{drop-replicate, take-replicate, replicate-append-replicate}
+use Rattle.std.proofs.lemmas.List.{get_or-replicate, drop-replicate, take-replicate, replicate-append-replicate}
 use Rattle.layout.specs.Fill.{fill}
 use Rattle.layout.proofs.Cases.{by-lt}
 use Rattle.history.specs.Record.{pad}
 
-get_or-blank : {A : Type 0} (blank : A) (n i : ℕ) → get_or (replicate n blank) i blank ≡ blank
-get_or-blank blank zero zero = refl
-get_or-blank blank zero (suc i) = refl
-get_or-blank blank (suc n) zero = refl
-get_or-blank blank (suc n) (suc i) = get_or-blank blank n i
+-- each place of blanks is blank, and so is each behind them
+pub get_or-blank : {A : Type 0} (blank : A) (n i : ℕ) → get_or (replicate n blank) i blank ≡ blank
+get_or-blank blank n i =
+    by-lt i n (get_or-replicate n i blank blank)
+    (λ h. get_or-eq_default (replicate n blank) blank (omega (arith, h, length-replicate n blank)))
 
 module _ {A : Type 0} (places : ℕ) (blank : A) where
   pub pad-none : pad places blank [] ≡ replicate places blank

@@ -24,6 +24,8 @@ struct Fields<'a> {
 }
 
 // Cuts a line into six fields; none where it has fewer or more.
+// Kept: no one function for a line of any number of fields: it was tried, and the borrow checker does not cover an array of slices that a
+// loop fills yet; `split_once(..)?` for each field reads plainly.
 #[tactic(auto, using(layout::proofs::SplitLaws::some_part))]
 fn cut(line: &[u8]) -> Option<Fields>
     ensures { MatchOption result (length (split 32 line.now) ≢ 6) (λ f. split 32 line.now ≡ f.number.now ∷ f.process.now ∷ f.object.now ∷ f.op.now ∷ f.value.now ∷ f.answer.now ∷ []) }

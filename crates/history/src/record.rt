@@ -1,7 +1,7 @@
 // The history record, by value. Every place that a record does not use holds zeros (`Register`, `Write` and `false` for a kind, an op
 // and a bool), so that two records of one history are equal.
-ghost use Rattle.std.specs.Prelude.{◌≡◌};
-ghost use Rattle.history.specs.Record.{no_object, no_event};
+ghost use Rattle.std.specs.Prelude.{◌≡◌, ◌≤◌, length};
+ghost use Rattle.history.specs.Record.{no_object, no_event, values_in, objects_in, events_in};
 
 use crate::answer::no_answer;
 
@@ -52,6 +52,15 @@ pub struct Answer {
     pub values: [Value; 8],
 }
 
+impl Answer {
+    // The values, without the places that are not used; all eight where it says that it has more.
+    pub fn told_values(&self) -> &[Value]
+        ensures { result.now ≡ values_in self.now }
+    {
+        &self.values[..usize::from(self.count).min(8)]
+    }
+}
+
 // A value is 0 where the op takes none.
 // Kept: the number and no Option, since `good_value` and `blank_event` of specs/Readable ask for that 0.
 #[derive(Clone, Copy, PartialEq, Eq)]
@@ -73,7 +82,29 @@ pub struct History {
     pub count: usize,
 }
 
+impl History {
+    // The objects, without the places that are not used.
+    pub fn declared_objects(&self) -> &[Object]
+        requires { self.now.declared ≤ 16 }
+        ensures objects { result.now ≡ objects_in self.now }
+        ensures declared { length result.now ≡ self.now.declared }
+    {
+        &self.objects[..self.declared]
+    }
+
+    // The events, without the places that are not used.
+    pub fn recorded_events(&self) -> &[Event]
+        requires { self.now.count ≤ 64 }
+        ensures events { result.now ≡ events_in self.now }
+        ensures count { length result.now ≡ self.now.count }
+    {
+        &self.events[..self.count]
+    }
+}
+
 // What stands in a place that holds no object.
+// Kept: no `Default`, here, of `no_event` and of `no_answer`: a register without a width and a write of 0 are nothing that one would take
+// for granted, and the must-fail edits `wide_no_object` and `busy_no_event` plant their mistakes in these bodies.
 pub fn no_object() -> Object
     ensures { result ≡ no_object }
 {

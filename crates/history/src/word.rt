@@ -126,6 +126,7 @@ pub fn may_answer(object: Object, op: Op, answer: Answer) -> bool
 }
 
 // Whether a value or a width stands where it belongs, and `-` elsewhere.
+// Kept: no enum, since both are answers of other functions (`takes_value` or `has_width`, and `is_none`) and no caller writes `true`.
 pub fn fits_dash(wanted: bool, dash: bool) -> bool
     ensures { result ≡ cond wanted (not dash) dash }
 {

@@ -50,6 +50,14 @@ fn case<W: Write>(out: &mut W, name: &str, text: &[u8]) -> io::Result<()> {
     }
 }
 
+// Reads each of the texts, which have names.
+fn cases<W: Write>(out: &mut W, texts: &[(&str, &[u8])]) -> io::Result<()> {
+    for (name, text) in texts {
+        case(out, name, text)?;
+    }
+    Ok(())
+}
+
 // Says what a writer answered and shows the whole buffer.
 fn say_answer<W: Write>(
     out: &mut W,
@@ -78,11 +86,19 @@ fn say_written<W: Write>(out: &mut W, text: &[u8], n: usize) -> io::Result<()>
 }
 
 // An answer with two numbers in its eight places.
-fn answer(lost: bool, count: u8, first: Value, second: Value) -> Answer {
+fn told(count: u8, first: Value, second: Value) -> Answer {
     Answer {
-        lost,
+        lost: false,
         count,
         values: [first, second, 0, 0, 0, 0, 0, 0],
+    }
+}
+
+// A lost answer with a number in the first of its eight places.
+fn lost(count: u8, first: Value) -> Answer {
+    Answer {
+        lost: true,
+        ..told(count, first, 0)
     }
 }
 
@@ -132,7 +148,7 @@ fn record(event: Event, next: Event) -> History {
 // The record of an object of this kind and width, from which 7 was popped.
 fn record_with(kind: Kind, width: u8) -> History {
     let object = Object { kind, width };
-    record_of(object, pop(7, 0, answer(false, 1, 7, 0)), no_event())
+    record_of(object, pop(7, 0, told(1, 7, 0)), no_event())
 }
 
 // Writes a record into a buffer of 96.
@@ -145,7 +161,7 @@ fn say_record<W: Write>(out: &mut W, name: &str, h: History) -> io::Result<()> {
 
 // A record that a text stands for, and three that differ from it in one number and that none stands for.
 fn records<W: Write>(out: &mut W) -> io::Result<()> {
-    let seven = answer(false, 1, 7, 0);
+    let seven = told(1, 7, 0);
     let none = no_event();
     say_record(out, "process 7", record(pop(7, 0, seven), none))?;
     say_record(out, "process 8", record(pop(8, 0, seven), none))?;
@@ -153,31 +169,30 @@ fn records<W: Write>(out: &mut W) -> io::Result<()> {
     say_record(
         out,
         "a value in a place that is not used",
-        record(pop(7, 0, answer(false, 1, 7, 1)), none),
+        record(pop(7, 0, told(1, 7, 1)), none),
     )
 }
 
 // A record with a lost answer; one whose lost answer has a value, one with a number in the places of a lost answer, and one with a
 // lost answer in an event that is not used.
 fn records_with_lost_answers<W: Write>(out: &mut W) -> io::Result<()> {
-    let seven = answer(false, 1, 7, 0);
-    let lost = answer(true, 0, 0, 0);
+    let seven = told(1, 7, 0);
     let none = no_event();
-    say_record(out, "a lost answer", record(pop(7, 0, lost), none))?;
+    say_record(out, "a lost answer", record(pop(7, 0, lost(0, 0)), none))?;
     say_record(
         out,
         "a lost answer of one value",
-        record(pop(7, 0, answer(true, 1, 7, 0)), none),
+        record(pop(7, 0, lost(1, 7)), none),
     )?;
     say_record(
         out,
         "a number beside a lost answer",
-        record(pop(7, 0, answer(true, 0, 7, 0)), none),
+        record(pop(7, 0, lost(0, 7)), none),
     )?;
     say_record(
         out,
         "a lost answer in an event that is not used",
-        record(pop(7, 0, seven), unused(lost)),
+        record(pop(7, 0, seven), unused(lost(0, 0))),
     )
 }
 
@@ -198,18 +213,16 @@ fn long_texts<W: Write>(out: &mut W) -> io::Result<()> {
 }
 
 // As many objects as a history may have, and one more.
-fn objects_to_the_limit<W: Write>(out: &mut W) -> io::Result<()> {
-    case(
-        out,
+const OBJECTS_TO_THE_LIMIT: [(&str, &[u8]); 2] = [
+    (
         "16 objects",
         b"object kind width\n0 queue -\n1 queue -\n2 queue -\n3 queue -\n4 queue -\n5 queue -\n6 queue -\n7 queue -\n8 queue -\n9 queue -\n10 queue -\n11 queue -\n12 queue -\n13 queue -\n14 queue -\n15 queue -\nevent process object op value answer\n",
-    )?;
-    case(
-        out,
+    ),
+    (
         "17 objects",
         b"object kind width\n0 queue -\n1 queue -\n2 queue -\n3 queue -\n4 queue -\n5 queue -\n6 queue -\n7 queue -\n8 queue -\n9 queue -\n10 queue -\n11 queue -\n12 queue -\n13 queue -\n14 queue -\n15 queue -\n16 queue -\nevent process object op value answer\n",
-    )
-}
+    ),
+];
 
 // The byte at a place of the text of one queue and 65 events, each a push of 7. The line of event 10 begins at 215, and from there on
 // each line has 16 bytes.
@@ -243,215 +256,177 @@ fn events_to_the_limit<W: Write>(out: &mut W) -> io::Result<()> {
 }
 
 // Histories that are read, and the widths of objects.
-fn of_objects<W: Write>(out: &mut W) -> io::Result<()> {
-    case(
-        out,
+const OF_OBJECTS: [(&str, &[u8]); 8] = [
+    (
         "Q",
         b"object kind width\n0 queue -\nevent process object op value answer\n0 0 0 push 7 -\n1 1 0 pop - 7\n",
-    )?;
-    case(
-        out,
+    ),
+    (
         "empty history",
         b"object kind width\nevent process object op value answer\n",
-    )?;
-    case(
-        out,
+    ),
+    (
         "width 8",
         b"object kind width\n0 window 8\nevent process object op value answer\n0 7 0 read - 0,0,0,0,0,0,0,0\n",
-    )?;
-    case(
-        out,
+    ),
+    (
         "width 9",
         b"object kind width\n0 window 9\nevent process object op value answer\n",
-    )?;
-    case(
-        out,
+    ),
+    (
         "width 0",
         b"object kind width\n0 window 0\nevent process object op value answer\n",
-    )?;
-    case(
-        out,
+    ),
+    (
         "width of a register",
         b"object kind width\n0 register 1\nevent process object op value answer\n",
-    )?;
-    case(
-        out,
+    ),
+    (
         "width 9 of a register",
         b"object kind width\n0 register 9\nevent process object op value answer\n",
-    )?;
-    case(
-        out,
+    ),
+    (
         "window without a width",
         b"object kind width\n0 window -\nevent process object op value answer\n",
-    )
-}
+    ),
+];
 
 // Capacities of channels beside widths of the other kinds, and answers of pushes.
-fn of_channels<W: Write>(out: &mut W) -> io::Result<()> {
-    case(
-        out,
+const OF_CHANNELS: [(&str, &[u8]); 8] = [
+    (
         "channel of 64",
         b"object kind width\n0 channel 64\nevent process object op value answer\n0 0 0 push 5 -\n1 0 0 push 6 6\n2 1 0 pop - 5\n",
-    )?;
-    case(
-        out,
+    ),
+    (
         "channel of 65",
         b"object kind width\n0 channel 65\nevent process object op value answer\n",
-    )?;
-    case(
-        out,
+    ),
+    (
         "channel of 0",
         b"object kind width\n0 channel 0\nevent process object op value answer\n",
-    )?;
-    case(
-        out,
+    ),
+    (
         "channel without a width",
         b"object kind width\n0 channel -\nevent process object op value answer\n",
-    )?;
-    case(
-        out,
+    ),
+    (
         "width 9 of a queue",
         b"object kind width\n0 queue 9\nevent process object op value answer\n",
-    )?;
-    case(
-        out,
+    ),
+    (
         "width 8 of a queue",
         b"object kind width\n0 queue 8\nevent process object op value answer\n",
-    )?;
-    case(
-        out,
+    ),
+    (
         "two values of a push",
         b"object kind width\n0 channel 1\nevent process object op value answer\n0 0 0 push 5 5,5\n",
-    )?;
-    case(
-        out,
+    ),
+    (
         "value of a push on a queue",
         b"object kind width\n0 queue -\nevent process object op value answer\n0 0 0 push 5 5\n",
-    )
-}
+    ),
+];
 
 // Processes, values, objects and ops of events.
-fn of_events<W: Write>(out: &mut W) -> io::Result<()> {
-    case(
-        out,
+const OF_EVENTS: [(&str, &[u8]); 7] = [
+    (
         "process 7",
         b"object kind width\n0 stack -\nevent process object op value answer\n0 7 0 pop - -\n",
-    )?;
-    case(
-        out,
+    ),
+    (
         "process 8",
         b"object kind width\n0 stack -\nevent process object op value answer\n0 8 0 pop - -\n",
-    )?;
-    case(
-        out,
+    ),
+    (
         "value 65535",
         b"object kind width\n0 register -\nevent process object op value answer\n0 0 0 write 65535 -\n",
-    )?;
-    case(
-        out,
+    ),
+    (
         "value 65536",
         b"object kind width\n0 register -\nevent process object op value answer\n0 0 0 write 65536 -\n",
-    )?;
-    case(
-        out,
+    ),
+    (
         "undeclared object",
         b"object kind width\n0 register -\nevent process object op value answer\n0 0 1 write 1 -\n",
-    )?;
-    case(
-        out,
+    ),
+    (
         "op that the kind lacks",
         b"object kind width\n0 register -\nevent process object op value answer\n0 0 0 push 1 -\n",
-    )?;
-    case(
-        out,
+    ),
+    (
         "value where none belongs",
         b"object kind width\n0 register -\nevent process object op value answer\n0 0 0 read 1 1\n",
-    )
-}
+    ),
+];
 
 // Answers that were lost: `?` for each op, and beside other bytes and other faults.
-fn of_lost_answers<W: Write>(out: &mut W) -> io::Result<()> {
-    case(
-        out,
+const OF_LOST_ANSWERS: [(&str, &[u8]); 7] = [
+    (
         "lost answers of every op",
         b"object kind width\n0 register -\n1 queue -\n2 window 8\nevent process object op value answer\n0 0 0 write 1 ?\n1 0 0 read - ?\n2 1 1 push 2 ?\n3 1 1 pop - ?\n4 2 1 peek - ?\n5 2 2 read - ?\n",
-    )?;
-    case(
-        out,
+    ),
+    (
         "lost before a value",
         b"object kind width\n0 queue -\nevent process object op value answer\n0 0 0 pop - ?,7\n",
-    )?;
-    case(
-        out,
+    ),
+    (
         "lost behind a value",
         b"object kind width\n0 queue -\nevent process object op value answer\n0 0 0 pop - 7,?\n",
-    )?;
-    case(
-        out,
+    ),
+    (
         "lost twice",
         b"object kind width\n0 queue -\nevent process object op value answer\n0 0 0 pop - ??\n",
-    )?;
-    case(
-        out,
+    ),
+    (
         "lost value",
         b"object kind width\n0 queue -\nevent process object op value answer\n0 0 0 push ? -\n",
-    )?;
-    case(
-        out,
+    ),
+    (
         "lost answer of process 8",
         b"object kind width\n0 queue -\nevent process object op value answer\n0 8 0 pop - ?\n",
-    )?;
-    case(
-        out,
+    ),
+    (
         "lost answer of an op that the kind lacks",
         b"object kind width\n0 register -\nevent process object op value answer\n0 0 0 pop - ?\n",
-    )
-}
+    ),
+];
 
 // Answers, and the layout of a text.
-fn of_answers_and_layout<W: Write>(out: &mut W) -> io::Result<()> {
-    case(
-        out,
+const OF_ANSWERS_AND_LAYOUT: [(&str, &[u8]); 9] = [
+    (
         "answer of two values",
         b"object kind width\n0 register -\nevent process object op value answer\n0 0 0 read - 1,2\n",
-    )?;
-    case(
-        out,
+    ),
+    (
         "window's answers of no value to two",
         b"object kind width\n0 window 2\nevent process object op value answer\n0 0 0 read - -\n1 0 0 read - 4\n2 0 0 read - 4,9\n",
-    )?;
-    case(
-        out,
+    ),
+    (
         "window's answer of three values",
         b"object kind width\n0 window 2\nevent process object op value answer\n0 0 0 read - 4,9,7\n",
-    )?;
-    case(
-        out,
+    ),
+    (
         "answer of nine values",
         b"object kind width\n0 window 8\nevent process object op value answer\n0 0 0 read - 1,2,3,4,5,6,7,8,9\n",
-    )?;
-    case(
-        out,
+    ),
+    (
         "layout before limits",
         b"object kind width\n0 register -\nevent process object op value answer\n0 8 0 write 01 -\n",
-    )?;
-    case(
-        out,
+    ),
+    (
         "wrong own number",
         b"object kind width\n1 register -\nevent process object op value answer\n",
-    )?;
-    case(
-        out,
+    ),
+    (
         "no final line feed",
         b"object kind width\nevent process object op value answer",
-    )?;
-    case(
-        out,
+    ),
+    (
         "no heading of the events",
         b"object kind width\n0 queue -\n",
-    )?;
-    case(out, "empty text", b"")
-}
+    ),
+    ("empty text", b""),
+];
 
 // One record into buffers of several lengths.
 fn of_writing<W: Write>(out: &mut W) -> io::Result<()> {
@@ -474,12 +449,12 @@ fn of_writing<W: Write>(out: &mut W) -> io::Result<()> {
 
 fn main(rt: HostRuntime) -> io::Result<()> {
     let mut out = io::writer(&rt);
-    of_objects(&mut out)?;
-    of_channels(&mut out)?;
-    of_events(&mut out)?;
-    of_lost_answers(&mut out)?;
-    of_answers_and_layout(&mut out)?;
-    objects_to_the_limit(&mut out)?;
+    cases(&mut out, &OF_OBJECTS)?;
+    cases(&mut out, &OF_CHANNELS)?;
+    cases(&mut out, &OF_EVENTS)?;
+    cases(&mut out, &OF_LOST_ANSWERS)?;
+    cases(&mut out, &OF_ANSWERS_AND_LAYOUT)?;
+    cases(&mut out, &OBJECTS_TO_THE_LIMIT)?;
     events_to_the_limit(&mut out)?;
     long_texts(&mut out)?;
     of_writing(&mut out)?;

@@ -1,13 +1,14 @@
 -- Laws of the line of an event: how many objects and events are read, and where the line lies. Assumes nothing.
 use Prim.Native.Nat.{ℕ, zero, suc, ◌+◌, ◌-◌, ◌≤◌, ◌<◌}
 use native.Mathlib.Omega.{arith}
-use mathlib.Core.Path.{◌≡◌, refl, ap, ◌∙◌}
-use mathlib.Core.Bool.{Bool, true, false, cond}
+use mathlib.Core.Path.{◌≡◌, ap, ◌∙◌}
+use mathlib.Core.Bool.{Bool, true, cond}
 use mathlib.Core.List.{List, [], ◌∷◌, ◌++◌}
 use lib.ListN.{length, get_or, take, drop, length-append, length-drop, length-take}
 use lib.Seq.{length-take-le}
 use lib.Dec.{eqb, leb}
 use borrow.Author.Tests.{eqb-true, lt-ltb, le-ltb}
+use Rattle.std.proofs.lemmas.Bool.{cond_both}
 use Rattle.layout.specs.Split.{find, split, part_start}
 use Rattle.layout.specs.Word.{same, object_heading, event_heading}
 use Rattle.layout.proofs.Cases.{by-lt}
@@ -34,8 +35,7 @@ unfolding history_of
 few-read os es h k = record { objects = h; events = k }
 
 few-cond : (t : Bool) (r q : HistoryRead) → (t ≡ true → Few r) → Few q → Few (cond t r q)
-few-cond true r q p s = p refl
-few-cond false r q p s = s
+few-cond t r q p s = cond_both t r q Few p (λ _. s)
 
 few-events : (os : List Object) (es : List Event) (line at : ℕ) (ps : List (List ℕ)) → length os ≤ 16 → length es ≤ 64
     → Few (events_from os es line at ps)

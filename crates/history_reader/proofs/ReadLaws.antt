@@ -130,9 +130,9 @@ module _ (line : ℕ) (s : List ℕ) (a e : ℕ) (found : e ≡ a + find 10 (dro
     -- the line is that of an event
     module _ (h : a < length s) (r : Result Event Fault) (own : ℕ) (q : event_read r ≡ next_read own os (drop a s))
         (es : List Event) (many : length es ≡ own) where
-      pub events-more : (v : Event) (after : ℕ) → r ≡ Ok v → line + 1 ≡ after
-          → events_from os es line a (split 10 (drop a s)) ≡ events_from os (es ++ v ∷ []) after (e + 1) (split 10 (drop (e + 1) s))
-      events-more v after z k = events-turn h (event_read r) own q es many ∙ rw (z, k)
+      pub events-more : (v : Event) (after behind : ℕ) → r ≡ Ok v → line + 1 ≡ after → behind ≡ e + 1
+          → events_from os es line a (split 10 (drop a s)) ≡ events_from os (es ++ v ∷ []) after behind (split 10 (drop behind s))
+      events-more v after behind z k b = events-turn h (event_read r) own q es many ∙ rw (z, k, b)
 
       pub events-bad : (f : Fault) → r ≡ Err f → events_from os es line a (split 10 (drop a s)) ≡ refusal (fault_number f) line a (e - a)
       events-bad f z = events-turn h (event_read r) own q es many ∙ rw (z, ne_eqb (fault_number f) 0 (fault-some f))

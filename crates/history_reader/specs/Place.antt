@@ -5,7 +5,7 @@ use Rattle.std.specs.Prelude.{ℕ, ◌+◌, ◌-◌, cond, List, [], length, get
 use Rattle.std.proofs.Math.Option.{Option, none, some}
 use Rattle.layout.specs.Split.{split, part_start}
 use Rattle.history_reader.specs.declared.place.Text as code-text
-use Rattle.history_reader.specs.declared.place.Text.TheVariants.{History, Certificate}
+use Rattle.history_reader.specs.declared.place.Text.TheVariants as code-texts
 use Rattle.history_reader.specs.declared.place.Place as code-place
 
 -- The text that a place is in.
@@ -27,8 +27,9 @@ nowhere = record { text = Neither; line = 0; start = 0; end = 0 }
 
 -- The code's texts and places, and its option of a place.
 abbrev pub text_in : code-text.Text → Text
-text_in History = HistoryText
-text_in Certificate = CertificateText
+text_in code-texts.History = HistoryText
+text_in code-texts.Certificate = CertificateText
+text_in code-texts.Neither = Neither
 
 abbrev pub line_place : code-place.Place → Place
 line_place p = record { text = text_in p.text; line = p.line; start = p.start; end = p.end }

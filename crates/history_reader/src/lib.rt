@@ -2,5 +2,6 @@
 
 #![tactic(auto)]
 
+mod objects;
 pub mod place;
 pub mod read;

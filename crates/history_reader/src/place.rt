@@ -9,6 +9,8 @@ use layout::split::{first_part, part_start};
 pub enum Text {
     History,
     Certificate,
+    // Kept: `faulty_place` promised to take it; no place that is read names it.
+    Neither,
 }
 
 // A line of a text: its number from 1 (0 for a text that is too long), and its bytes from `start` to `end`, without its line feed.

@@ -2,15 +2,15 @@
 ghost use Rattle.std.specs.Prelude.{◌≡◌, ◌+◌, ◌-◌, ◌≤◌, [], length, take, drop, Result, Ok, Err};
 ghost use Rattle.layout.specs.Split.{split};
 ghost use Rattle.history.specs.Faults.{fault_number};
-ghost use Rattle.history.specs.Record.{pad, no_object};
 ghost use Rattle.history_reader.specs.ReadHistory.{refusal, history_read, events_from, objects_from, lines_from, read_history, faulty_line};
 ghost use Rattle.history_reader.specs.Steps.{ObjectsRead};
 
+use crate::objects::Declared;
 use crate::place::{Place, Text, faulty_place};
 use event_reader::next::next_event;
 use history::fault::Fault;
 use history::object::read_object;
-use history::record::{History, Object, no_event, no_object};
+use history::record::{History, no_event, no_object};
 use layout::split::split_once;
 use layout::word::is_word;
 
@@ -24,18 +24,10 @@ pub struct Refusal {
     pub place: Place,
 }
 
-// The objects of a history, the first `declared` of the array, and where the lines of its events begin.
-// Kept: no heap, fixed memory; the array becomes part of a History as it is.
-#[derive(Clone, Copy)]
-struct Declared {
-    objects: [Object; 16],
-    declared: usize,
-    end: usize,
-}
-
-// Kept: no twin of the certificate reader's `refuse`, which is a method of its lines left and knows the layout's fault alone.
-// Kept: no struct of the lines left, as that reader has: a line's number follows from the count of what was read, so the place where
-// the next line begins is all that travels, and such a struct would hold the number a second time.
+// Refuses the line of this number that goes from `start` to `end`.
+// Kept: no struct of the lines left, as the certificate reader has one with a `refuse` and a `heading`: a line's number follows from the
+// count of what was read, so the place where the next line begins is all that travels, and such a struct would hold the number a second
+// time; the one heading that `read_lines` reads and the refusal of a layout are all that the two readers would share.
 fn refuse(fault: Fault, line: usize, start: usize, end: usize) -> Refusal
     requires { start ≤ end }
     ensures { history_read (Err result) ≡ refusal (fault_number fault) line start (end - start) }
@@ -79,7 +71,7 @@ fn read_objects(text: &[u8], from: usize) -> Result<Declared, Refusal>
 // Reads the lines of the events, after those of the objects.
 // Kept: reading a line tells where it ends and the next one begins; no `for` is plainer.
 fn read_events(text: &[u8], read: Declared) -> Result<History, Refusal>
-    requires { (read.end ≤ length text.now) × (read.declared ≤ 16) × (read.objects ≡ pad 16 no_object (take read.declared read.objects)) }
+    requires { read.end ≤ length text.now }
     ensures { history_read result ≡ events_from (take read.declared read.objects) [] (read.declared + 3) read.end (split 10 (drop read.end text.now)) }
 {
     let objects = &read.objects[..read.declared];

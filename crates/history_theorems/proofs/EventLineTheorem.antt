@@ -1,7 +1,7 @@
 -- The line of an event, as part of its history text, is the text of that event. Assumes nothing.
 use Prim.Native.Nat.{ℕ, zero, suc, ◌+◌, ◌-◌, ◌<◌}
 use native.Mathlib.Omega.{arith}
-use mathlib.Core.Path.{◌≡◌, refl, sym, ap, ap₂, ◌∙◌}
+use mathlib.Core.Path.{◌≡◌, sym, ap, ap₂, ◌∙◌}
 use mathlib.Core.List.{List, [], ◌∷◌, ◌++◌}
 use lib.ListN.{length, get_or, take, drop, get_or-append}
 use lib.Seq.{get_or-append-add}
@@ -12,6 +12,7 @@ use Rattle.history.specs.declared.record.Object.{Object}
 use Rattle.history.specs.declared.record.Event.{Event}
 use Rattle.history.specs.Record.{no_event, objects_in, events_in}
 use Rattle.history.specs.HistoryText.{event_text, object_lines, event_lines, text_of, history_text}
+use Rattle.history.proofs.LinesLaws.{numbered_objects, numbered_events, numbered-long}
 use Rattle.history.proofs.WithinLaws.{within-limits}
 use Rattle.history_reader.specs.ReadHistory.{read_history}
 use Rattle.history_reader.specs.Place.{event_place, bytes_at}
@@ -19,16 +20,6 @@ use Rattle.history_theorems.proofs.TextRound.{text-parts}
 use Rattle.history_theorems.proofs.Theorems.{read-within, read-written}
 
 -- ---- the lines of the text of objects and events
-objects-long : (own : ℕ) (os : List Object) → length (object_lines own os) ≡ length os
-unfolding object_lines
-objects-long own [] = refl
-objects-long own (o ∷ os) = ap suc (objects-long (own + 1) os)
-
-events-long : (own : ℕ) (es : List Event) → length (event_lines own es) ≡ length es
-unfolding event_lines
-events-long own [] = refl
-events-long own (e ∷ es) = ap suc (events-long (own + 1) es)
-
 event-line-at : (own : ℕ) (es : List Event) (k : ℕ) → k < length es
     → get_or (event_lines own es) k [] ≡ event_text (own + k) (get_or es k no_event)
 unfolding event_lines
@@ -44,8 +35,8 @@ line_at : (os : List Object) (es : List Event) (k : ℕ) → k < length es
 line_at os es k h =
     let p : List (List ℕ) = object_heading ∷ object_lines 0 os in
     let q : List (List ℕ) = event_heading ∷ (event_lines 0 es ++ [] ∷ []) in
-    let n : length os + 2 + k ≡ length p + suc k = omega (arith, objects-long 0 os) in
-    let l : k < length (event_lines 0 es) = omega (arith, events-long 0 es) in
+    let n : length os + 2 + k ≡ length p + suc k = omega (arith, numbered-long numbered_objects 0 os) in
+    let l : k < length (event_lines 0 es) = omega (arith, numbered-long numbered_events 0 es) in
     let z : 0 + k ≡ k = omega arith in
     ap (λ (ls : List (List ℕ)). get_or ls (length os + 2 + k) []) (text-parts os es)
     ∙ ap (λ (i : ℕ). get_or (p ++ q) i []) n

@@ -1,11 +1,11 @@
 -- The text of good objects and events is at most 16,384 bytes long. Assumes nothing.
-use Prim.Native.Nat.{ℕ, zero, suc, ◌+◌, ◌*◌, ◌≤◌, ◌<◌}
+use Prim.Native.Nat.{ℕ, suc, ◌+◌, ◌*◌, ◌≤◌, ◌<◌}
 use native.Mathlib.Omega.{arith}
 use mathlib.Core.Path.{◌≡◌, refl}
-use mathlib.Core.Bool.{Bool, true, cond, ◌&&◌}
+use mathlib.Core.Bool.{true, cond}
 use mathlib.Core.List.{List, [], ◌∷◌, ◌++◌, map}
-use lib.ListN.{length, get_or, take, drop, length-append}
-use lib.Dec.{eqb, leb, ltb}
+use lib.ListN.{length, length-append, length-take}
+use lib.Dec.{leb, ltb}
 use borrow.Author.Tests.{ltb-true, leb-true}
 use Rattle.layout.specs.Split.{join}
 use Rattle.layout.specs.Word.{dash, object_heading, event_heading}
@@ -21,10 +21,11 @@ use Rattle.history.specs.declared.record.Op.TheVariants.{Write, Read, Push, Pop,
 use Rattle.history.specs.declared.record.Object.{Object}
 use Rattle.history.specs.declared.record.Answer.{Answer}
 use Rattle.history.specs.declared.record.Event.{Event}
-use Rattle.history.specs.Record.{value_bound, no_object, values_in}
-use Rattle.history.specs.Kinds.{kind_word, op_word, is_channel, has_width, width_limit, has_op, takes_value, may_answer}
+use Rattle.history.specs.Record.{value_bound, values_in}
+use Rattle.history.specs.Kinds.{kind_word, op_word, is_channel, has_width, width_limit, takes_value}
 use Rattle.history.specs.HistoryText.{lines_text, answer_text, object_text, event_text, object_lines, event_lines, text_of}
-use Rattle.history.specs.Readable.{good_object, good_objects, all_less, all_zero, good_answer, good_value, good_event, good_events}
+use Rattle.history.proofs.Guarantees.{SoundEvent, sound-event}
+use Rattle.history.specs.Readable.{good_object, good_objects, all_less, good_value, good_event, good_events}
 
 -- ---- the line of an object
 kind-short : (k : Kind) → length (kind_word k) ≤ 8
@@ -91,36 +92,18 @@ unfolding list_text
 list-short [] e h = omega arith
 list-short (x ∷ xs) e h = omega (arith, items-short (x ∷ xs) e)
 
-take_short : {A : Type 0} (n : ℕ) (xs : List A) → length (take n xs) ≤ n
-take_short zero xs = omega arith
-take_short (suc n) [] = omega arith
-take_short (suc n) (x ∷ xs) = let ih = take_short n xs in omega arith
-
-answer-short : (object : Object) (op : Op) (a : Answer) → good_answer object op a ≡ true → length (answer_text a) ≤ 48
-unfolding good_answer answer_text
-answer-short object op a e =
-    let b₂ : Bool = leb a.count 8 && may_answer object op a in
-    let b₃ : Bool = b₂ && all_less value_bound (values_in a) in
-    let b₄ : Bool = b₃ && eqb (length a.values) 8 in
-    let e₄ = and_left b₄ (all_zero (drop a.count a.values)) e in
-    let e₃ = and_left b₃ (eqb (length a.values) 8) e₄ in
-    let e₂ = and_left b₂ (all_less value_bound (values_in a)) e₃ in
-    let c : a.count ≤ 8 = leb-true a.count 8 (and_left (leb a.count 8) (may_answer object op a) e₂) in
-    by_bool a.lost (λ l. rw l (omega arith)) (λ l. rw l (list-short (values_in a) (and_right b₂ (all_less value_bound (values_in a)) e₃) (omega (arith, take_short a.count a.values))))
+answer-short : (os : List Object) (e : Event) → SoundEvent os e → length (answer_text e.answer) ≤ 48
+unfolding answer_text
+answer-short os e s =
+    let a : Answer = e.answer in
+    let n : length (values_in a) ≤ 8 = omega (arith, s.few, length-take a.count a.values) in
+    by_bool a.lost (λ l. rw l (omega arith)) (λ l. rw l (list-short (values_in a) s.values n))
 
 event-short : (own : ℕ) (os : List Object) (e : Event) → own < 64 → length os ≤ 16 → good_event os e ≡ true
     → length (event_text own e) ≤ 68
-unfolding good_event event_text
+unfolding event_text
 event-short own os e h n g =
-    let x : Object = get_or os e.object no_object in
-    let b₂ : Bool = ltb e.process.0 8 && ltb e.object (length os) in
-    let b₃ : Bool = b₂ && has_op x.kind e.op in
-    let b₄ : Bool = b₃ && good_value e.op e.value in
-    let g₄ = and_left b₄ (good_answer x e.op e.answer) g in
-    let g₃ = and_left b₃ (good_value e.op e.value) g₄ in
-    let g₂ = and_left b₂ (has_op x.kind e.op) g₃ in
-    let hp = ltb-true e.process.0 8 (and_left (ltb e.process.0 8) (ltb e.object (length os)) g₂) in
-    let ho = ltb-true e.object (length os) (and_right (ltb e.process.0 8) (ltb e.object (length os)) g₂) in
+    let sound = sound-event os e g in
     let a : List ℕ = spell own in
     let p : List ℕ = spell e.process.0 in
     let o : List ℕ = spell e.object in
@@ -128,11 +111,11 @@ event-short own os e h n g =
     let v : List ℕ = cond (takes_value e.op) (spell e.value) dash in
     let s : List ℕ = answer_text e.answer in
     let la : length a ≤ 2 = spell-short 1 own (omega arith) in
-    let lp : length p ≤ 1 = spell-short 0 e.process.0 (omega arith) in
-    let lo : length o ≤ 2 = spell-short 1 e.object (omega arith) in
+    let lp : length p ≤ 1 = spell-short 0 e.process.0 (omega (arith, sound.process)) in
+    let lo : length o ≤ 2 = spell-short 1 e.object (omega (arith, sound.declared, n)) in
     let lw : length w ≤ 5 = op-short e.op in
-    let lv : length v ≤ 5 = value-short e.op e.value (and_right b₃ (good_value e.op e.value) g₄) in
-    let ls : length s ≤ 48 = answer-short x e.op e.answer (and_right b₄ (good_answer x e.op e.answer) g) in
+    let lv : length v ≤ 5 = value-short e.op e.value sound.value in
+    let ls : length s ≤ 48 = answer-short os e sound in
     omega (
       arith,
       join_more 32 a p (o ∷ w ∷ v ∷ s ∷ []),

@@ -17,6 +17,7 @@ use Rattle.history.specs.Faults.{object_line, event_line}
 use Rattle.history_reader.specs.ReadHistory.{read_as, events_from, objects_from, lines_from}
 use Rattle.history.specs.HistoryText.{lines_text, object_text, event_text, object_lines, event_lines, text_of}
 use Rattle.history.specs.Readable.{good_object, good_objects, good_event, good_events}
+use Rattle.history.proofs.LinesLaws.{Numbered, numbered_objects, numbered_events}
 use Rattle.history_theorems.proofs.ObjectRound.{object-written, object-not-heading, object-clean, object-read}
 use Rattle.event_reader.proofs.EventRound.{event-written, event-clean, event-read}
 
@@ -34,15 +35,13 @@ without-lines [] ms p q = q
 without-lines (l ∷ ls) ms p q =
     rw (and_left (without 10 l) (all_without 10 ls) p) (without-lines ls ms (and_right (without 10 l) (all_without 10 ls) p) q)
 
-objects-clean : (own : ℕ) (os : List Object) → all_without 10 (object_lines own os) ≡ true
-unfolding all_without object_lines
-objects-clean own [] = refl
-objects-clean own (o ∷ os) = rw (object-clean own o) (objects-clean (own + 1) os)
-
-events-clean : (own : ℕ) (es : List Event) → all_without 10 (event_lines own es) ≡ true
-unfolding all_without event_lines
-events-clean own [] = refl
-events-clean own (e ∷ es) = rw (event-clean own e) (events-clean (own + 1) es)
+-- numbered lines hold no line feed, where the line of no element does
+numbered-clean : {A : Type 0} {text : ℕ → A → List ℕ} {lines : ℕ → List A → List (List ℕ)} → Numbered text lines
+    → ((own : ℕ) (x : A) → without 10 (text own x) ≡ true) → (own : ℕ) (xs : List A) → all_without 10 (lines own xs) ≡ true
+unfolding all_without
+numbered-clean t clean own [] = ap (all_without 10) (t.none own)
+numbered-clean t clean own (x ∷ xs) =
+    rw (t.more own x xs, clean own x) (numbered-clean t clean (own + 1) xs)
 
 headed : (h : List ℕ) (ls : List (List ℕ)) → without 10 h ≡ true → all_without 10 ls ≡ true → all_without 10 (h ∷ ls) ≡ true
 unfolding all_without
@@ -69,8 +68,8 @@ text-parts os es =
     let ls : List (List ℕ) = object_heading ∷ object_lines 0 os in
     let ms : List (List ℕ) = event_heading ∷ event_lines 0 es in
     split-lines (ls ++ ms)
-    (without-lines ls ms (headed object_heading (object_lines 0 os) object-heading-clean (objects-clean 0 os))
-    (headed event_heading (event_lines 0 es) event-heading-clean (events-clean 0 es)))
+    (without-lines ls ms (headed object_heading (object_lines 0 os) object-heading-clean (numbered-clean numbered_objects object-clean 0 os))
+    (headed event_heading (event_lines 0 es) event-heading-clean (numbered-clean numbered_events event-clean 0 es)))
     ∙ append_assoc ls ms ([] ∷ [])
 
 -- ---- one line more, which is not the last part

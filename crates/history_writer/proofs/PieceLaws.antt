@@ -1,15 +1,11 @@
 -- The fields of the line of an object and of an event, as they are written. Assumes nothing.
-use Prim.Native.Nat.{ℕ, min}
-use native.Mathlib.Omega.{arith}
-use mathlib.Core.Path.{◌≡◌, refl, sym, ap, ◌∙◌}
+use Prim.Native.Nat.{ℕ}
+use mathlib.Core.Path.{◌≡◌, refl, ap, ◌∙◌}
 use mathlib.Core.Bool.{Bool, true, false, cond}
 use mathlib.Core.List.{List, [], ◌∷◌, ◌++◌, map}
-use lib.ListN.{length, take}
-use lib.Seq.{take_all}
 use Rattle.std.proofs.lemmas.List.{map-id}
 use Rattle.layout.specs.Word.{dash, question}
 use Rattle.layout.specs.List.{list_text}
-use Rattle.layout.proofs.Cases.{by-lt}
 use Rattle.layout.specs.Number.{spell}
 use Rattle.layout.specs.Fields.{pieces_text}
 use Rattle.layout.proofs.LineLaws.{pieces-join}
@@ -51,12 +47,6 @@ pub lost_is : (a : record_answer.Answer) → a.lost ≡ true → answer_text a �
 unfolding answer_text
 lost_is a e = rw e
 
-pub told_is : (a : record_answer.Answer) (n : ℕ) → a.lost ≡ false → n ≡ min a.count 8 → length a.values ≡ 8
-    → list_text (map (λ (v : ℕ). v) (take n a.values)) ≡ answer_text a
+pub told_is : (a : record_answer.Answer) (xs : List ℕ) → a.lost ≡ false → xs ≡ values_in a → list_text (map (λ (v : ℕ). v) xs) ≡ answer_text a
 unfolding answer_text
-told_is a n l q long =
-    let used : take n a.values ≡ values_in a =
-    by-lt 8 a.count
-    (λ h. let k : n ≡ 8 = omega arith in rw k (take_all 8 a.values (omega arith) ∙ sym (take_all a.count a.values (omega arith))))
-    (λ h. let k : n ≡ a.count = omega arith in rw k refl) in
-    rw l (ap list_text (map-id (take n a.values) ∙ used))
+told_is a xs l e = rw l (ap list_text (map-id xs ∙ e))

@@ -15,28 +15,15 @@ use Rattle.layout.specs.Word.{object_heading, event_heading}
 use Rattle.layout.proofs.FillLaws.{after-fits, after-short}
 use Rattle.history.specs.declared.record.History.{History}
 use Rattle.history.specs.Record.{no_object, no_event, objects_in, events_in}
-use Rattle.history.specs.HistoryText.{lines_text, object_text, event_text, object_lines, event_lines, text_of, history_text}
+use Rattle.history.specs.HistoryText.{lines_text, object_lines, event_lines, text_of, history_text}
 use Rattle.history.specs.Readable.{within}
-use Rattle.history.proofs.LinesLaws.{lines_none, lines_more, lines_append}
+use Rattle.history.proofs.LinesLaws.{lines_none, lines_more, lines_append, Numbered, numbered_objects, numbered_events}
 use Rattle.history.proofs.WithinLaws.{within-limits}
 use Rattle.history_writer.specs.declared.write.WriteFault.TheVariants.{OutsideLimits, TooShort}
 use Rattle.history_writer.specs.WriteHistory.{written_of, history_written, history_after}
 use Rattle.history_writer.specs.Steps.Lines.{text_bytes}
 
 -- ---- lines
--- `lines` are the lines of a list whose elements are numbered, and `text` is the line of one
-record Numbered {A : Type 0} (text : ℕ → A → List ℕ) (lines : ℕ → List A → List (List ℕ)) : Type 0 where
-  none : (own : ℕ) → lines own [] ≡ []
-  more : (own : ℕ) (x : A) (xs : List A) → lines own (x ∷ xs) ≡ text own x ∷ lines (own + 1) xs
-
-numbered_objects : Numbered object_text object_lines
-unfolding object_lines
-numbered_objects = record { none = λ own. refl; more = λ own x xs. refl }
-
-numbered_events : Numbered event_text event_lines
-unfolding event_lines
-numbered_events = record { none = λ own. refl; more = λ own x xs. refl }
-
 -- the pieces are these lines
 pieces_are : {A : Type 0} {text : ℕ → A → List ℕ} {lines : ℕ → List A → List (List ℕ)} → Numbered text lines → (xs : List A) (d : A) (k m : ℕ)
     → k + m ≡ length xs → pieces_from (λ i. text i (get_or xs i d) ++ 10 ∷ []) k m ≡ lines_text (lines k (drop k xs))

@@ -111,9 +111,9 @@ pub fn is_within(h: &History) -> bool
     if h.declared > 16 || h.count > 64 {
         return false;
     }
-    let objects = &h.objects[..h.declared];
+    let objects = h.declared_objects();
     good_objects(objects)
-        && good_events(objects, &h.events[..h.count])
+        && good_events(objects, h.recorded_events())
         && blank_objects(&h.objects[h.declared..])
         && blank_events(&h.events[h.count..])
 }

@@ -58,7 +58,7 @@ fn answer_len(a: Answer) -> usize
     if a.lost {
         return 1;
     }
-    list_len(&a.values[..usize::from(a.count).min(8)])
+    list_len(a.told_values())
 }
 
 // Writes an answer into a part that has room.
@@ -69,51 +69,36 @@ fn put_answer(part: &mut [u8], a: Answer) -> usize
     if a.lost {
         return put_bytes(part, b"?");
     }
-    put_list(part, &a.values[..usize::from(a.count).min(8)])
-}
-
-// How many bytes a field has.
-#[tactic(auto, unfolding(crate::specs::Steps::Lines::field_text))]
-fn field_len(field: Field) -> usize
-    ensures { (result ≡ length (field_text field)) × (result ≤ 704) }
-{
-    match field {
-        Field::Dash => 1,
-        Field::Number(n) => number_len(n),
-        Field::Kind(kind) => kind_word(kind).len(),
-        Field::Op(op) => op_word(op).len(),
-        Field::Answer(a) => answer_len(a),
-    }
-}
-
-// Writes a field into a part that has room.
-#[tactic(auto, unfolding(crate::specs::Steps::Lines::field_text))]
-fn put_field(part: &mut [u8], field: Field) -> usize
-    requires { length (field_text field) ≤ length part.old }
-    ensures { (result ≡ length (field_text field)) × (part.new ≡ fill (field_text field) part.old) }
-{
-    match field {
-        Field::Dash => put_bytes(part, b"-"),
-        Field::Number(n) => put_number(part, n),
-        Field::Kind(kind) => put_bytes(part, kind_word(kind)),
-        Field::Op(op) => put_bytes(part, op_word(op)),
-        Field::Answer(a) => put_answer(part, a),
-    }
+    put_list(part, a.told_values())
 }
 
 impl fields::Field for Field {
     ghost text = { field_text };
 
+    #[tactic(auto, unfolding(crate::specs::Steps::Lines::field_text))]
     fn put(&self, part: &mut [u8]) -> usize {
-        put_field(part, *self)
+        match *self {
+            Field::Dash => put_bytes(part, b"-"),
+            Field::Number(n) => put_number(part, n),
+            Field::Kind(kind) => put_bytes(part, kind_word(kind)),
+            Field::Op(op) => put_bytes(part, op_word(op)),
+            Field::Answer(a) => put_answer(part, a),
+        }
     }
 }
 
 impl fields::CountedField for Field {
     ghost longest = { 704 };
 
+    #[tactic(auto, unfolding(crate::specs::Steps::Lines::field_text))]
     fn text_len(&self) -> usize {
-        field_len(*self)
+        match *self {
+            Field::Dash => 1,
+            Field::Number(n) => number_len(n),
+            Field::Kind(kind) => kind_word(kind).len(),
+            Field::Op(op) => op_word(op).len(),
+            Field::Answer(a) => answer_len(a),
+        }
     }
 
     ghost short = { lit< tt };

@@ -167,10 +167,10 @@ pub fn write_history(buf: &mut [u8], h: History) -> Result<usize, WriteFault>
         return Err(WriteFault::OutsideLimits);
     }
     let objects = RowLines {
-        rows: &h.objects[..h.declared],
+        rows: h.declared_objects(),
     };
     let events = RowLines {
-        rows: &h.events[..h.count],
+        rows: h.recorded_events(),
     };
     let lines = Lines { objects, events };
     let n = history_len(&lines);

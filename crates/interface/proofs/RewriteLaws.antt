@@ -1,4 +1,5 @@
 -- Laws of a text read and written back: the answer, the bytes and the length in each case. Assumes nothing.
+use Rattle.std.specs.Prelude.{Result, Ok, Err, MatchResult, IsOkAnd, IsErrAnd}
 use Prim.Native.Nat.{ℕ}
 use mathlib.Core.Path.{◌≡◌, refl, sym, ap, ◌∙◌}
 use mathlib.Core.Bool.{Bool, true, false, cond}
@@ -11,18 +12,32 @@ use Rattle.history.specs.HistoryText.{history_text}
 use Rattle.history.specs.Record.{events_in}
 use Rattle.history.specs.Readable.{within}
 use Rattle.history_reader.specs.ReadHistory.{HistoryRead, read_history}
-use Rattle.history_writer.specs.WriteHistory.{Written, history_written, history_after}
+use Rattle.history_writer.specs.declared.write.WriteFault.{WriteFault}
+use Rattle.history_writer.specs.WriteHistory.{Written, write_fault_number, written_of, history_written, history_after}
 use Rattle.history_theorems.proofs.Theorems as HistoryTheorems
 use Rattle.certificate.specs.CertificateText.{certificate_text}
 use Rattle.certificate_reader.specs.ReadCertificate.{CertificateRead, read_certificate, rows_read}
 use Rattle.certificate_writer.specs.WriteCertificate.{writable, certificate_written, certificate_after}
 use Rattle.certificate_theorems.proofs.Theorems.{no-fault-history, read_as, read-written, read_fits}
 use Rattle.interface.specs.Rewrite.{rewritten, rewritten_bytes, rewritten_length}
+use Rattle.interface.specs.Steps.{number_given, length_given}
 
 -- the answer, the bytes and the length are those of the text written back, where its reading has this fault
 abbrev pub Rewritten : ℕ → List ℕ → List ℕ → ℕ → List ℕ → ℕ → Type 0
 Rewritten fault text buffer number bytes many =
     (number ≡ rewritten fault text buffer) × (bytes ≡ rewritten_bytes fault text buffer) × (many ≡ rewritten_length fault text buffer)
+
+-- ---- what a writer answers, its length as it is and its refusal as the documents' number
+pub told : (w m : Result ℕ WriteFault) (answer : Result ℕ ℕ) (P : ℕ → ℕ → Type 0) (Q : WriteFault → ℕ → Type 0)
+    → MatchResult w (λ n. IsOkAnd m (P n)) (λ f. m ≡ Err f) → MatchResult m (λ n. answer ≡ Ok n) (λ f. IsErrAnd answer (Q f))
+    → ((n x : ℕ) → P n x → x ≡ n) → ((f : WriteFault) (k : ℕ) → Q f k → k ≡ write_fault_number f)
+    → (number_given answer ≡ (written_of w).number) × (length_given answer ≡ (written_of w).length)
+told (Ok n) (Ok x) (Ok y) P Q h k p q = let same : y ≡ x = cc in (refl, same ∙ p n x h)
+told (Ok n) (Ok x) (Err y) P Q h k p q = absurd (cc)
+told (Ok n) (Err g) answer P Q h k p q = absurd h
+told (Err f) (Ok x) answer P Q h k p q = absurd (cc)
+told (Err f) (Err g) (Ok y) P Q h k p q = absurd k
+told (Err f) (Err g) (Err y) P Q h k p q = let same : g ≡ f = cc in (q g y k ∙ ap write_fault_number same, refl)
 
 -- ---- either text
 module _ (text buffer : List ℕ) where

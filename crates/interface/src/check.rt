@@ -12,11 +12,12 @@ ghost use Rattle.interface.specs.Steps.{SmallPlace};
 use certificate::record::Criterion;
 use checker::answer::{criterion_in, event_in, number_in, place_in, view_in};
 use checker::check::{Checked, check};
+use checker::place::line_of;
 use history_reader::place::Text;
 use history_reader::read::Refusal;
 
 // The number of a criterion, as in the criterion wanted of a weakening.
-// Kept: the C interface has numbers alone.
+// Kept: a function and no `From`, which would stand in certificate, below `criterion_number` of specs/Places, the definition that states it.
 fn criterion_number(c: Criterion) -> u32
     ensures { result ≡ criterion_number c }
 {
@@ -31,13 +32,14 @@ fn criterion_number(c: Criterion) -> u32
 }
 
 // The number of a text: 1 for the history, 2 for the certificate. 0 stands for none.
-// Kept: the C interface has numbers alone.
+// Kept: a function and no `From`, which would stand in history_reader, below `text_number` of specs/Places, the definition that states it.
 fn text_number(t: Text) -> u32
     ensures { result ≡ text_number (text_in t) }
 {
     match t {
         Text::History => 1,
         Text::Certificate => 2,
+        Text::Neither => 0,
     }
 }
 
@@ -60,15 +62,16 @@ fn places_of(answer: Result<Checked, Refusal>) -> [u32; 7]
     let criterion = or_none(criterion_in(answer).map(criterion_number));
     let view = or_none(view_in(answer).map(u32::from));
     let event = or_none(event_in(answer).map(|e| u32::from(e.0)));
-    match place_in(answer) {
+    let place = place_in(answer);
+    let line = or_none(line_of(place).map(|line| line as u32));
+    match place {
         Some(place) => {
             let text = text_number(place.text);
-            let line = place.line as u32;
             let start = place.start as u32;
             let length = (place.end - place.start) as u32;
             [criterion, text, line, view, event, start, length]
         }
-        None => [criterion, 0, NONE, view, event, 0, 0],
+        None => [criterion, 0, line, view, event, 0, 0],
     }
 }
 

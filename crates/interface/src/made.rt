@@ -1,13 +1,13 @@
 // What an operation answers, as a number and a length.
 ghost use Rattle.std.specs.Prelude.{◌≡◌, Err};
-ghost use Rattle.weakener.specs.Made.{verdict_made};
+ghost use Rattle.weakener.specs.Made.{verdict_made, length_of};
 ghost use Rattle.interface.specs.Steps.{number_given, length_given};
 
 use checker::answer::number_in;
-use weakener::made::Unmade;
+use weakener::made::{Made, Unmade};
 
 // The documents' number of why no text was made.
-// Kept: the C interface has numbers alone.
+// Kept: a function here and no method of `Unmade`, since the C interface alone asks for the number.
 pub(crate) fn unmade_number(unmade: Unmade) -> u32
     ensures { result ≡ (verdict_made (Err unmade)).number }
 {
@@ -22,12 +22,12 @@ pub(crate) fn unmade_number(unmade: Unmade) -> u32
 
 // The answer of an operation as the documents' number, 0 where there is a text, and the length of the text, 0 where there is none.
 // Kept: the C interface has a number and a length.
-pub(crate) fn give(answer: Result<usize, u32>, length: &mut u64) -> u32
+pub(crate) fn give(answer: Result<u64, u32>, length: &mut u64) -> u32
     ensures { (result ≡ number_given answer) × (length.new ≡ length_given answer) }
 {
     match answer {
         Ok(n) => {
-            *length = n as u64;
+            *length = n;
             0
         }
         Err(number) => {
@@ -35,4 +35,11 @@ pub(crate) fn give(answer: Result<usize, u32>, length: &mut u64) -> u32
             number
         }
     }
+}
+
+// The same of an operation that makes a text.
+pub(crate) fn give_made(made: Result<Made, Unmade>, length: &mut u64) -> u32
+    ensures { (result ≡ (verdict_made made).number) × (length.new ≡ length_of made) }
+{
+    give(made.map(|m| m.length as u64).map_err(unmade_number), length)
 }

@@ -2,9 +2,8 @@
 ghost use Rattle.std.specs.Prelude.{◌≡◌};
 ghost use Rattle.history_reader.specs.ReadHistory.{read_history};
 ghost use Rattle.certificate_reader.specs.ReadCertificate.{read_certificate};
-ghost use Rattle.history_writer.specs.WriteHistory.{written_of};
+ghost use Rattle.history_writer.specs.WriteHistory.{write_fault_number};
 ghost use Rattle.interface.specs.Rewrite.{rewritten, rewritten_bytes, rewritten_length};
-ghost use Rattle.interface.specs.Steps.{number_given, length_given};
 
 use crate::made::give;
 use certificate_reader::read::read_certificate;
@@ -12,21 +11,24 @@ use certificate_writer::write::write_certificate;
 use history_reader::read::{Refusal, read_history};
 use history_writer::write::{WriteFault, write_history};
 
-// What a writer answers, its refusal as the documents' number.
-fn numbered(written: Result<usize, WriteFault>) -> Result<usize, u32>
-    ensures { (number_given result ≡ (written_of written).number) × (length_given result ≡ (written_of written).length) }
+// The documents' number of why a text was not written, as both functions give it.
+fn unwritten_number(fault: WriteFault) -> u32
+    ensures { result ≡ write_fault_number fault }
 {
-    written.map_err(|fault| u32::from(fault.number()))
+    u32::from(fault.number())
 }
 
 // A history text, into a lent buffer.
 pub fn walnutgleam_rewrite_history(history: &[u8], buffer: &mut [u8], length: &mut u64) -> u32
     ensures { (result ≡ rewritten (read_history history.now).fault history.now buffer.old) × (buffer.new ≡ rewritten_bytes (read_history history.now).fault history.now buffer.old) × (length.new ≡ rewritten_length (read_history history.now).fault history.now buffer.old) }
 {
-    match read_history(history) {
-        Ok(record) => give(numbered(write_history(buffer, record)), length),
-        Err(refusal) => give(Err(u32::from(refusal.fault.number())), length),
-    }
+    let answer = match read_history(history) {
+        Ok(record) => write_history(buffer, record)
+            .map(|n| n as u64)
+            .map_err(unwritten_number),
+        Err(refusal) => Err(u32::from(refusal.fault.number())),
+    };
+    give(answer, length)
 }
 
 // A certificate text of a history text, into a lent buffer.
@@ -39,11 +41,12 @@ pub fn walnutgleam_rewrite_certificate(
     ensures { (result ≡ rewritten (read_certificate history.now certificate.now).fault certificate.now buffer.old) × (buffer.new ≡ rewritten_bytes (read_certificate history.now certificate.now).fault certificate.now buffer.old) × (length.new ≡ rewritten_length (read_certificate history.now certificate.now).fault certificate.now buffer.old) }
 {
     let mut rows = [[0u8; 64]; 64];
-    match read_certificate(history, certificate, &mut rows) {
+    let answer = match read_certificate(history, certificate, &mut rows) {
         Ok(read) => {
             let written = write_certificate(buffer, read.history, read.certificate, &rows);
-            give(numbered(written), length)
+            written.map(|n| n as u64).map_err(unwritten_number)
         }
-        Err(unread) => give(Err(u32::from(Refusal::from(unread).fault.number())), length),
-    }
+        Err(unread) => Err(u32::from(Refusal::from(unread).fault.number())),
+    };
+    give(answer, length)
 }

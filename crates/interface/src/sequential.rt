@@ -2,7 +2,7 @@
 ghost use Rattle.std.specs.Prelude.{◌≡◌};
 ghost use Rattle.checker.specs.OneLine.{line_answer, line_length, line_bytes};
 
-use crate::made::{give, unmade_number};
+use crate::made::give_made;
 use weakener::sequential::sequential;
 
 // The answer of putting a certificate text in one line, into a lent buffer.
@@ -15,5 +15,5 @@ pub fn walnutgleam_sequential(
     ensures { (result ≡ (line_answer history.now certificate.now buffer.old).number) × (buffer.new ≡ line_bytes history.now certificate.now buffer.old) × (length.new ≡ line_length history.now certificate.now buffer.old) }
 {
     let made = sequential(history, certificate, buffer);
-    give(made.map(|m| m.length).map_err(unmade_number), length)
+    give_made(made, length)
 }

@@ -2,7 +2,7 @@
 ghost use Rattle.std.specs.Prelude.{◌≡◌};
 ghost use Rattle.checker.specs.WeakenText.{weaken_answer, weaken_length, weaken_bytes};
 
-use crate::made::{give, unmade_number};
+use crate::made::give_made;
 use weakener::weaken::weaken;
 
 // The answer of weakening a certificate text to the criterion wanted, into a lent buffer.
@@ -16,5 +16,5 @@ pub fn walnutgleam_weaken(
     ensures { (result ≡ (weaken_answer history.now certificate.now wanted buffer.old).number) × (buffer.new ≡ weaken_bytes history.now certificate.now wanted buffer.old) × (length.new ≡ weaken_length history.now certificate.now wanted buffer.old) }
 {
     let made = weaken(history, certificate, wanted, buffer);
-    give(made.map(|m| m.length).map_err(unmade_number), length)
+    give_made(made, length)
 }

@@ -6,20 +6,18 @@ use mathlib.Core.Path.{◌≡◌, refl, sym, ap, ap₂, ◌∙◌}
 use mathlib.Core.Bool.{true, false}
 use mathlib.Core.List.{List, [], ◌∷◌, ◌++◌}
 use lib.ListN.{length, get_or, take, drop, take-append-drop}
-use lib.Seq.{drop-cons}
-use lib.Dec.{eqb}
-use lib.Pointwise.{pointwise}
-use Rattle.std.specs.Result.{result_ok}
+use lib.Seq.{drop-cons, drop-drop}
 use Rattle.std.specs.Prelude.{Option, Some, None, Result, Ok, Err}
 use Rattle.layout.specs.declared.number.NumberFault.{NumberFault}
 use Rattle.layout.specs.Word.{same}
-use Rattle.layout.specs.Number.{number_of, spell}
+use Rattle.layout.specs.Number.{starts_well, is_number, value, below, number_of, spell}
 use Rattle.layout.specs.Steps.Number.{digits}
+use Rattle.layout.specs.Steps.Stands.{stands_at}
 use Rattle.layout.specs.Steps.Leading.{told, leading_number, behind_space, number_before_space}
 use Rattle.layout.proofs.Cases.{by_bool}
 use Rattle.layout.proofs.FillLaws.{tail-part}
-use Rattle.layout.proofs.WordLaws.{same_true, same_is_pointwise}
-use Rattle.layout.proofs.NumberLaws.{digits-prefix, value-number}
+use Rattle.layout.proofs.WordLaws.{same_true}
+use Rattle.layout.proofs.NumberLaws.{below-value, below-not, digits-prefix, digits-few, digits-number, starts-not, number-not, number-below, value-number}
 use Rattle.layout.proofs.SpellLaws.{spell-value}
 
 -- ---- a byte, and what stands behind it
@@ -47,28 +45,29 @@ module _ (bound : ℕ) (text : List ℕ) where
       sym (take-append-drop (length ds) text) ∙ ap (λ (l : List ℕ). l ++ drop (length ds) text) (digits-prefix text) in
       (d ∙ ap₂ (λ (f l : List ℕ). f ++ l) (sym (spell-value ds n.0) ∙ ap spell n.1) t.1, n.2)
 
-  -- the digits, cut off and read
-  module _ (k : ℕ) (front back : List ℕ) (q : Result ℕ NumberFault) (long : k ≡ length (digits text)) (before : front ≡ take k text)
-      (behind : back ≡ drop k text) (read : q ≡ number_of bound front) where
-    told-is : leading_number bound text ≡ told q back
+  -- what its digits say below the bound, as v says it, and where they end
+  module _ (v n : ℕ) (says : below bound v ≡ below bound (value (digits text))) (long : n ≡ length (digits text)) where
+    told-is : v < bound → starts_well (take n text) ≡ true → leading_number bound text ≡ Some (v, drop n text)
     unfolding leading_number
-    told-is = rw (behind, read, before, long, digits-prefix text)
+    told-is h e =
+        let is = digits-number text (rw (long, digits-prefix text) at e) in
+        rw (number-below bound (digits text) is, ← says, below-value bound v h, long) refl
 
-    told-no : (r : Result ℕ NumberFault) → None ≡ result_ok r → told r back ≡ None
-    told-no (Ok v) p = absurd (cc)
-    told-no (Err f) p = refl
+    pub leads : v < bound → starts_well (take n text) ≡ true → (leading_number bound text ≡ Some (v, drop n text)) × (v < bound) × (n ≤ length text)
+    leads h e = (told-is h e, h, omega (arith, long, digits-few text))
 
-    told-yes : (v : ℕ) (r : Result ℕ NumberFault) → Some v ≡ result_ok r → told r back ≡ Some (v, back)
-    told-yes v (Ok w) p = let t : v ≡ w = cc in rw t refl
-    told-yes v (Err f) p = absurd (cc)
+    none-by : (f : NumberFault) → number_of bound (digits text) ≡ Err f → leading_number bound text ≡ None
+    unfolding leading_number
+    none-by f e = rw e refl
 
-    pub leads-not : None ≡ result_ok q → leading_number bound text ≡ None
-    leads-not p = told-is ∙ told-no q p
+    pub leads-over : bound ≤ v → leading_number bound text ≡ None
+    leads-over h =
+        by_bool (is_number (digits text))
+        (λ e. none-by _ (number-below bound (digits text) e ∙ sym says ∙ below-not bound v h))
+        (λ e. none-by _ (number-not bound (digits text) e))
 
-    pub leads : (v : ℕ) → Some v ≡ result_ok q → (leading_number bound text ≡ Some (v, back)) × (v < bound)
-    leads v p =
-        let e = told-is ∙ told-yes v q p in
-        (e, (number-leads v back e).1)
+    pub leads-not : starts_well (take n text) ≡ false → leading_number bound text ≡ None
+    leads-not e = none-by _ (number-not bound (digits text) (starts-not (digits text) (rw (long, digits-prefix text) at e)))
 
 -- ---- with a space behind it
 behind-some : (o : Option (ℕ × List ℕ)) (v : ℕ) (rest : List ℕ) → behind_space o ≡ Some (v, rest)
@@ -98,11 +97,12 @@ module _ (bound : ℕ) (text : List ℕ) where
   unfolding number_before_space
   spaced-none e = rw e refl
 
-  module _ (v : ℕ) (r : List ℕ) (leads : leading_number bound text ≡ Some (v, r)) where
-    pub spaced-not : pointwise eqb (take 1 r) (32 ∷ []) ≡ false → number_before_space bound text ≡ None
-    unfolding number_before_space
-    spaced-not e = rw (leads, same_is_pointwise, e) refl
+  -- the number's digits end at n
+  module _ (v n : ℕ) (leads : leading_number bound text ≡ Some (v, drop n text)) where
+    pub spaced-not : stands_at (32 ∷ []) n text ≡ false → number_before_space bound text ≡ None
+    unfolding number_before_space stands_at
+    spaced-not e = rw (leads, e) refl
 
-    pub spaced-is : pointwise eqb (take 1 r) (32 ∷ []) ≡ true → number_before_space bound text ≡ Some (v, drop 1 r)
-    unfolding number_before_space
-    spaced-is e = rw (leads, same_is_pointwise, e) refl
+    pub spaced-is : stands_at (32 ∷ []) n text ≡ true → number_before_space bound text ≡ Some (v, drop (n + 1) text)
+    unfolding number_before_space stands_at
+    spaced-is e = rw (leads, e, drop-drop 1 n text) refl

@@ -1,12 +1,12 @@
 -- Laws of lists as they are read. Assumes nothing.
-use Prim.Native.Nat.{ℕ, zero, suc, ◌+◌, ◌≤◌, ◌<◌, zero-le}
+use Prim.Native.Nat.{ℕ, zero, suc, ◌+◌, ◌-◌, ◌≤◌, ◌<◌, zero-le}
 use native.Mathlib.Nat.{add-zero, zero-add, not-suc-le-zero, le_of_suc-le-suc}
 use native.Mathlib.Omega.{arith}
 use mathlib.Core.Path.{◌≡◌, refl, sym, ap, ◌∙◌}
 use mathlib.Core.Bool.{true, false, cond}
 use mathlib.Core.List.{List, [], ◌∷◌, map}
 use native.Mathlib.Numerals.{add-one}
-use lib.ListN.{length, get_or, drop, set, length-set, length-map, drop_of_length-le}
+use lib.ListN.{length, get_or, take, drop, set, length-set, length-map, drop_of_length-le}
 use lib.Seq.{drop-cons}
 use lib.Dec.{leb, ltb}
 use borrow.Author.Tests.{le-leb, lt-leb, lt-ltb, le-ltb, leb-true, ltb-true}
@@ -17,12 +17,15 @@ use Rattle.std.proofs.lemmas.Iterator.Consumers.{YieldsList-from_shown}
 use Rattle.layout.specs.declared.number.NumberFault.TheVariants as number
 use Rattle.layout.specs.declared.list.ListFault.{ListFault}
 use Rattle.layout.specs.declared.list.ListFault.TheVariants.{NotList, Over, Many}
+use Rattle.layout.specs.Split.{find, split}
+use Rattle.layout.specs.Word.{same, dash}
 use Rattle.layout.specs.Number.{is_number, value, number_of}
 use Rattle.layout.specs.Fill.{fill}
 use Rattle.layout.specs.List.{items_of, all_numbers, all_below, judged, list_of, numbers_of, leading}
 use Rattle.layout.specs.Steps.List.{joined, held, pushed, kept, answer_from, places_from}
 use Rattle.layout.specs.Steps.Fill.{fill_at}
 use Rattle.layout.proofs.Cases.{by_bool, by-lt, and_left, and_right}
+use Rattle.layout.proofs.SplitLaws.{part-here}
 use Rattle.layout.proofs.NumberLaws.{number-not, number-over, number-value}
 use Rattle.layout.proofs.FillLaws.{fill_at-set, fill_at-none, fill_at-zero}
 
@@ -128,6 +131,14 @@ module _ (bound max : ℕ) where
       → places_from bound max (Ok 0) ps xs ≡ fill (leading bound max ps) xs
   places-are ps xs h = places-listed 0 max ps xs (zero-add max) h ∙ fill_at-zero (leading bound max ps) xs
 
+  -- no item changes the answer or the places once one was no number
+  pub nothing-more : (r : Result ℕ ListFault) → r ≡ Err NotList → (ps : List (List ℕ)) (xs : List ℕ)
+      → (answer_from bound max r ps ≡ r) × (places_from bound max r ps xs ≡ xs)
+  nothing-more r is ps xs = rw is (answer-not ps, places-still NotList ps xs)
+
+pub no-list : (r : Result ℕ ListFault) (f : ListFault) → r ≡ Err f → f ≡ NotList → r ≡ Err NotList
+no-list r f is e = is ∙ ap Err e
+
 -- ---- the loop that reads items, which has read n of them
 -- a turn: p is the next one, and its answer q and the places ys are taken up
 module _ (bound max : ℕ) (r : Result ℕ ListFault) (xs : List ℕ) (fs : List (List ℕ)) (n : ℕ) where
@@ -152,7 +163,21 @@ leading_empty bound (suc max) = refl
 pub yields_items : (xs : List ℕ) → YieldsList list_steps (λ (x : ℕ). x) xs xs
 yields_items xs = YieldsList-from_shown list_steps (λ (x : ℕ). x) (λ (s : List ℕ). s) (λ s t e. ap length e) (λ s x t e. e) xs
 
+-- ---- the item at a place: the first of what is left of a field from there on
+abbrev pub item_at : List ℕ → ℕ → List ℕ
+item_at s a = take (find 44 (drop a s)) (drop a s)
+
+-- it is what `split` gives first
+pub item-first : (s : List ℕ) (a : ℕ) → a ≤ length s → get_or (split 44 (drop a s)) 0 [] ≡ item_at s a
+item-first s a h =
+    let k : a + find 44 (drop a s) - a ≡ find 44 (drop a s) = omega arith in
+    part-here 44 s a (a + find 44 (drop a s)) refl h ∙ ap (λ (n : ℕ). take n (drop a s)) k
+
 -- ---- a field as a list
+pub list-none : (bound max : ℕ) (f : List ℕ) → same f dash ≡ true → list_of bound max f ≡ Ok 0
+unfolding list_of items_of judged all_numbers all_below
+list-none bound max f e = rw (e, le-leb 0 max zero-le)
+
 -- what a field is that is a list of n numbers
 pub record IsList (bound max n : ℕ) (f : List ℕ) : Type 0 where
   pub numbers : all_numbers (items_of f) ≡ true

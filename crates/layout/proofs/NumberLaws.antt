@@ -1,23 +1,20 @@
 -- Laws of numbers as they are read. Assumes nothing.
-use Prim.Native.Nat.{ℕ, suc, ◌+◌, ◌-◌, ◌*◌, ◌≤◌, ◌<◌}
-use Rattle.std.proofs.Common.{one-add}
+use Prim.Native.Nat.{ℕ, ◌+◌, ◌-◌, ◌*◌, ◌≤◌, ◌<◌}
 use native.Mathlib.Nat.{le_trans, le_refl, suc-ne-zero}
 use native.Mathlib.Numerals.{add-one}
 use native.Mathlib.Omega.{arith}
 use mathlib.Core.Path.{◌≡◌, refl, sym, ap, ◌∙◌}
-use mathlib.Core.Bool.{true, false, not}
+use mathlib.Core.Bool.{true, false}
 use mathlib.Core.List.{List, [], ◌∷◌}
 use lib.ListN.{length, get_or, take, drop, drop_of_length-le, length-take, length-drop}
-use lib.Seq.{drop-cons}
+use lib.Seq.{drop-cons, take_all}
 use lib.Dec.{leb}
 use borrow.Author.Tests.{le-leb, lt-leb, lt-ltb, le-ltb, leb-true}
 use Rattle.std.specs.Prelude.{Ok, Err}
 use Rattle.layout.specs.declared.number.NumberFault.TheVariants.{NotNumber, Over}
-use Rattle.std.specs.List.{position_or_len}
-use Rattle.std.specs.Char.{is_ascii_digit}
 use Rattle.layout.specs.Number.{is_digit, all_digits, starts_well, is_number, value_from, value, below, number_of}
 use Rattle.layout.specs.Steps.Number.{digits, push_digit}
-use Rattle.layout.proofs.Cases.{by_bool, by-lt, and_left, and_right, and-false}
+use Rattle.layout.proofs.Cases.{by_bool, by-lt, and_left, and_right}
 
 -- ---- digits
 module _ (b : ℕ) where
@@ -37,19 +34,19 @@ module _ (b : ℕ) where
   unfolding is_digit
   digit-to e = leb-true b 57 (and_right (leb 48 b) (leb b 57) e)
 
--- ---- a turn of the loop that reads a number, at the place i
+-- ---- a turn of the loop that reads digits, at the place i
 module _ (s : List ℕ) (i : ℕ) (h : i < length s) where
-  pub digits-not : is_digit (get_or s i 0) ≡ false → all_digits (drop i s) ≡ false
-  unfolding all_digits
-  digits-not e = rw (drop-cons s i 0 h, e)
+  pub digits-stop : is_digit (get_or s i 0) ≡ false → digits (drop i s) ≡ []
+  unfolding digits
+  digits-stop e = rw (drop-cons s i 0 h, e)
 
-  pub digits-next : is_digit (get_or s i 0) ≡ true → all_digits (drop i s) ≡ all_digits (drop (i + 1) s)
-  unfolding all_digits
+  pub digits-next : is_digit (get_or s i 0) ≡ true → digits (drop i s) ≡ get_or s i 0 ∷ digits (drop (i + 1) s)
+  unfolding digits
   digits-next e = rw (add-one, drop-cons s i 0 h, e)
 
-pub digits-end : (s : List ℕ) → all_digits (drop (length s) s) ≡ true
-unfolding all_digits
-digits-end s = rw (drop_of_length-le s (le_refl (length s)))
+pub digits-end : (s : List ℕ) (i : ℕ) → length s ≤ i → digits (drop i s) ≡ []
+unfolding digits
+digits-end s i h = rw (drop_of_length-le s h)
 
 -- a value that is not below the bound stays so, whatever digits follow
 from-ge : (v : ℕ) (bs : List ℕ) → v ≤ value_from v bs
@@ -76,10 +73,6 @@ below-push bound v b bs =
     (below-not bound (value_from (v * 10 + (b - 48)) bs) (le_trans (omega arith) (from-ge (v * 10 + (b - 48)) bs))
     ∙ sym (below-not bound (value_from v bs) (le_trans h (from-ge v bs)))))
 
-pub below-next : (bound v : ℕ) (s : List ℕ) (i : ℕ) → i < length s → (w : ℕ) → w ≡ push_digit bound v (get_or s i 0)
-    → below bound (value_from v (drop i s)) ≡ below bound (value_from w (drop (i + 1) s))
-below-next bound v s i h w q = rw (add-one, drop-cons s i 0 h, q) (below-push bound v (get_or s i 0) (drop (suc i) s))
-
 pub below_none : (bound v : ℕ) → below bound (value_from v []) ≡ below bound v
 unfolding value_from
 below_none bound v = refl
@@ -102,15 +95,33 @@ digits-prefix (b ∷ s) =
 pub digits-few : (s : List ℕ) → length (digits s) ≤ length s
 digits-few s = omega (arith, ap length (digits-prefix s), length-take (length (digits s)) s)
 
--- how many there are is the library's word
-pub digits_is_position : (s : List ℕ) → length (digits s) ≡ position_or_len (λ x. not (is_ascii_digit x)) s
-unfolding digits is_digit
-digits_is_position [] = refl
-digits_is_position (b ∷ s) =
-    let ih = digits_is_position s in
-    by_bool (is_digit b)
-    (λ e. rw (e, ih) (sym (one-add (position_or_len (λ x. not (is_ascii_digit x)) s))))
-    (λ e. rw e)
+pub digits-whole : (s : List ℕ) → all_digits s ≡ true → digits s ≡ s
+unfolding digits all_digits
+digits-whole [] e = refl
+digits-whole (x ∷ s) e =
+    rw (and_left (is_digit x) (all_digits s) e) (ap (λ (l : List ℕ). x ∷ l) (digits-whole s (and_right (is_digit x) (all_digits s) e)))
+
+-- ---- a loop that reads digits, at the place i: the value v so far and the digits that are left say what all digits do
+pub record Reading (bound : ℕ) (s : List ℕ) (i v : ℕ) : Type 0 where
+  pub count : length (digits s) ≡ i + length (digits (drop i s))
+  pub says : below bound (value (digits s)) ≡ below bound (value_from v (digits (drop i s)))
+
+pub reading-begins : (bound : ℕ) (s : List ℕ) → Reading bound s 0 0
+reading-begins bound s = record { count = omega arith; says = refl }
+
+module _ {bound : ℕ} {s : List ℕ} {i v : ℕ} (r : Reading bound s i v) where
+  pub reading-next : i < length s → is_digit (get_or s i 0) ≡ true → (w : ℕ) → w ≡ push_digit bound v (get_or s i 0) → Reading bound s (i + 1) w
+  reading-next h e w q =
+      let more = digits-next s i h e in
+      record {
+        count = omega (arith, r.count, ap length more);
+        says = r.says ∙ rw (more, q) (below-push bound v (get_or s i 0) (digits (drop (i + 1) s)));
+      }
+
+  -- no digit is left
+  pub reading-over : digits (drop i s) ≡ [] → (below bound v ≡ below bound (value (digits s))) × (i ≡ length (digits s))
+  reading-over e =
+      (sym (r.says ∙ ap (λ (l : List ℕ). below bound (value_from v l)) e ∙ below_none bound v), omega (arith, r.count, ap length e))
 
 -- ---- how a number starts
 pub starts_none : (p : List ℕ) → length p ≡ 0 → starts_well p ≡ false
@@ -136,13 +147,24 @@ module _ (f : List ℕ) where
   unfolding is_number
   number_digits e = and_right (starts_well f) (all_digits f) e
 
-  pub all-not : all_digits f ≡ false → is_number f ≡ false
-  unfolding is_number
-  all-not e = rw e (and-false (starts_well f))
-
   pub number_is : starts_well f ≡ true → all_digits f ≡ true → is_number f ≡ true
   unfolding is_number
   number_is p q = rw (p, q)
+
+  -- its digits are all of it, or it is none
+  pub digits-short : length (digits f) < length f → is_number f ≡ false
+  digits-short h =
+      by_bool (is_number f)
+      (λ e. absurd (omega (arith, ap length (digits-whole f (number_digits e)))))
+      (λ e. e)
+
+  pub digits-full : length f ≤ length (digits f) → digits f ≡ f
+  digits-full h = sym (digits-prefix f) ∙ take_all (length (digits f)) f h
+
+  -- the digits that it begins with, where they start well
+  pub digits-number : starts_well (digits f) ≡ true → is_number (digits f) ≡ true
+  unfolding is_number
+  digits-number e = rw (e, digits-all f) refl
 
 module _ (bound : ℕ) (f : List ℕ) where
   pub number-not : is_number f ≡ false → number_of bound f ≡ Err NotNumber
@@ -153,12 +175,12 @@ module _ (bound : ℕ) (f : List ℕ) where
   unfolding number_of
   number-below e = rw e
 
-  -- the value of all its digits, and how it starts
-  pub number-read : (v : ℕ) → starts_well f ≡ true → all_digits f ≡ all_digits (drop (length f) f)
-      → below bound (value f) ≡ below bound (value_from v (drop (length f) f)) → number_of bound f ≡ below bound v
-  unfolding value_from
-  number-read v s a b =
-      number-below (number_is f s (a ∙ digits-end f)) ∙ b ∙ ap (λ (l : List ℕ). below bound (value_from v l)) (drop_of_length-le f (le_refl (length f)))
+  -- what its digits say, where there are no other bytes and it starts well
+  pub number-read : (v : ℕ) → below bound v ≡ below bound (value (digits f)) → length f ≤ length (digits f) → starts_well f ≡ true
+      → number_of bound f ≡ below bound v
+  number-read v says h e =
+      let d = digits-full f h in
+      number-below (rw d at (digits-number f (rw d e))) ∙ sym (rw d at says)
 
   pub number-value : is_number f ≡ true → value f < bound → number_of bound f ≡ Ok (value f)
   number-value e h = number-below e ∙ below-value bound (value f) h

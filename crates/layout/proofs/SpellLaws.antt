@@ -103,9 +103,12 @@ spell-long (suc k) n h =
     let q : 10 ≤ n = omega (arith, ten-power k) in
     omega (arith, length_high n q, spell-long k (n / 10) (omega arith))
 
--- the digits of 0, and of a number between two powers of ten
-pub spell_none : length (spell 0) ≡ 1
-spell_none = length-low 0 (omega arith)
+-- the digits of a number below ten, of one below a hundred, and of one between two powers of ten
+pub spell_one : (n : ℕ) → n < 10 → length (spell n) ≡ 1
+spell_one n h = length-low n h
+
+pub spell_two : (n : ℕ) → 10 ≤ n → n < 100 → length (spell n) ≡ 2
+spell_two n h l = omega (arith, length_high n h, length-low (n / 10) (omega arith))
 
 pub spell_counted : (k n : ℕ) → 10 ^ k ≤ n → n < 10 * 10 ^ k → length (spell n) ≡ k + 1
 spell_counted k n h l = omega (arith, spell-long k n h, spell-short k n (omega (arith, pow-suc 10 k)))

@@ -6,14 +6,19 @@ use mathlib.Core.Bool.{Bool, true, false, false≢true}
 use mathlib.Core.List.{List, [], ◌∷◌, ◌++◌, append_assoc}
 use lib.ListN.{length, take, drop, length-append, length-drop, take-append-drop}
 use lib.Seq.{drop-drop, take_all}
+use lib.Dec.{eqb}
+use lib.Pointwise.{pointwise}
 use Rattle.std.specs.Prelude.{Option, Some, None, Result, Ok, Err}
 use Rattle.layout.specs.declared.number.NumberFault.{NumberFault}
 use Rattle.layout.specs.Word.{same}
 use Rattle.layout.specs.Number.{is_number, value, number_of, spell}
 use Rattle.layout.specs.Steps.Number.{digits}
 use Rattle.layout.specs.Steps.Stands.{Stands, NumberAt, stands_at, told_at, number_at, spaced, spaced_number}
+use Rattle.layout.specs.Steps.Leading as leading
+use Rattle.layout.specs.Steps.Leading.{leading_number, behind_space, number_before_space}
 use Rattle.layout.proofs.Cases.{by_bool, by-lt, by-eq}
-use Rattle.layout.proofs.WordLaws.{same_true, same_false}
+use Rattle.layout.proofs.FillLaws.{tail-part}
+use Rattle.layout.proofs.WordLaws.{same_true, same_false, same_is_pointwise, same_is_flipped}
 use Rattle.layout.proofs.NumberLaws.{digits-prefix, digits-few, starts_none, number-starts, value-number}
 use Rattle.layout.proofs.SpellLaws.{spell-value}
 
@@ -47,6 +52,11 @@ module _ (s w : List ℕ) (from : ℕ) where
   pub word-compared : same (take (from + length w - from) (drop from s)) w ≡ stands_at w from s
   unfolding stands_at
   word-compared = let k : from + length w - from ≡ length w = omega arith in ap (λ (n : ℕ). same (take n (drop from s)) w) k
+
+  -- what the library compares: what is left begins with the word
+  pub word_begins : pointwise eqb w (take (length w) (take (length s - from) (drop from s))) ≡ stands_at w from s
+  unfolding stands_at
+  word_begins = rw (tail-part s from) (sym (same_is_flipped (take (length w) (drop from s)) w))
 
   -- a word that is longer than what is left does not stand there
   pub word-short : length s - from < length w → stands_at w from s ≡ false
@@ -127,3 +137,85 @@ module _ (s : List ℕ) (from bound : ℕ) where
       let t = spaced-some (number_at bound from s) r q in
       let p = number-stands t.0 t.1 in
       behind t.0 r t.3 t.4 (stands-then p (word_stands s (32 ∷ []) (t.0).end true (sym t.2) p.inside refl))
+
+-- ---- what the running code reads, by places of the whole text
+-- The functions go from left to right over what is left of a text, which is the text from a place on. So what they tell of it, by
+-- `leading_number` and `number_before_space` (Leading) and by the library's `strip_prefix`, is what `number_at`, `spaced_number` and
+-- `stands_at` tell of that place of the text, and the laws above are laws of what they read.
+-- a number at a place, with what is left behind it
+unfoldable pub cut_at : List ℕ → Option NumberAt → Option (ℕ × List ℕ)
+cut_at s None = None
+cut_at s (Some n) = Some (n.value, drop n.end s)
+
+module _ (s : List ℕ) (from : ℕ) where
+  told-cut : (n : ℕ) (q : Result ℕ NumberFault) → leading.told q (drop n (drop from s)) ≡ cut_at s (told_at from n q)
+  unfolding cut_at
+  told-cut n (Ok v) = ap (λ (l : List ℕ). Some (v, l)) (drop-drop n from s)
+  told-cut n (Err f) = refl
+
+  behind-cut : (t : Option NumberAt) → behind_space (cut_at s t) ≡ cut_at s (spaced s t)
+  unfolding cut_at spaced stands_at
+  behind-cut None = refl
+  behind-cut (Some n) =
+      by_bool (same (take 1 (drop n.end s)) (32 ∷ []))
+      (λ e. rw e (ap (λ (l : List ℕ). Some (n.value, l)) (drop-drop 1 n.end s)))
+      (λ e. rw e refl)
+
+  module _ (bound : ℕ) where
+    pub leading-at : leading_number bound (drop from s) ≡ cut_at s (number_at bound from s)
+    unfolding leading_number number_at
+    leading-at = told-cut (length (digits (drop from s))) (number_of bound (digits (drop from s)))
+
+    pub before-space-at : number_before_space bound (drop from s) ≡ cut_at s (spaced_number bound from s)
+    unfolding number_before_space spaced_number
+    before-space-at = ap behind_space leading-at ∙ behind-cut (number_at bound from s)
+
+  pub prefix-at : (w : List ℕ) → pointwise eqb (take (length w) (drop from s)) w ≡ stands_at w from s
+  unfolding stands_at
+  prefix-at w = sym (same_is_pointwise (take (length w) (drop from s)) w)
+
+-- f was read of what is left of s from the place `from` on, and `rest` is left behind it
+pub record Left (f : List ℕ) (from : ℕ) (rest s : List ℕ) : Type 0 where
+  pub end : ℕ
+  pub stands : Stands f from end s
+  pub left : rest ≡ drop end s
+
+cut-some : (s : List ℕ) (t : Option NumberAt) (v : ℕ) (rest : List ℕ) → cut_at s t ≡ Some (v, rest)
+    → (n : NumberAt) × (Some n ≡ t) × (n.value ≡ v) × (rest ≡ drop n.end s)
+unfolding cut_at
+cut-some s None v rest e = absurd (cc)
+cut-some s (Some n) v rest e =
+    let t : ◌≡◌ {A = ℕ × List ℕ} (n.value, drop n.end s) (v, rest) = cc in
+    (n, refl, ap (λ (p : ℕ × List ℕ). p.0) t, sym (ap (λ (p : ℕ × List ℕ). p.1) t))
+
+module _ (s : List ℕ) (from : ℕ) where
+  pub number-left : (bound v : ℕ) (rest : List ℕ) → leading_number bound (drop from s) ≡ Some (v, rest) → Left (spell v) from rest s
+  number-left bound v rest e =
+      let t = cut-some s (number_at bound from s) v rest (sym (leading-at s from bound) ∙ e) in
+      record { end = (t.0).end; stands = rw t.2 at (number-stands s from bound t.0 t.1); left = t.3 }
+
+  pub spaced-left : (bound v : ℕ) (rest : List ℕ) → number_before_space bound (drop from s) ≡ Some (v, rest) → Left (spell v ++ 32 ∷ []) from rest s
+  spaced-left bound v rest e =
+      let t = cut-some s (spaced_number bound from s) v rest (sym (before-space-at s from bound) ∙ e) in
+      record { end = (t.0).end; stands = rw t.2 at (spaced-stands s from bound t.0 t.1); left = t.3 }
+
+  pub word-left : (w rest : List ℕ) → from ≤ length s → pointwise eqb (take (length w) (drop from s)) w ≡ true → rest ≡ drop (length w) (drop from s) → Left w from rest s
+  word-left w rest start e r =
+      record { end = from + length w; stands = word_stands s w from true (sym e ∙ prefix-at s from w) start refl; left = r ∙ drop-drop (length w) from s }
+
+-- fields that are read one behind the other, each of what the one before left
+module _ {f s mid : List ℕ} {from : ℕ} (p : Left f from mid s) where
+  pub left-then : {g rest : List ℕ} → Left g p.end rest s → Left (f ++ g) from rest s
+  left-then q = record { end = q.end; stands = stands-then p.stands q.stands; left = q.left }
+
+  pub number-then : (bound v : ℕ) (rest : List ℕ) → leading_number bound mid ≡ Some (v, rest) → Left (f ++ spell v) from rest s
+  number-then bound v rest e = left-then (number-left s p.end bound v rest (rw p.left at e))
+
+  pub spaced-then : (bound v : ℕ) (rest : List ℕ) → number_before_space bound mid ≡ Some (v, rest) → Left (f ++ (spell v ++ 32 ∷ [])) from rest s
+  spaced-then bound v rest e = left-then (spaced-left s p.end bound v rest (rw p.left at e))
+
+  pub word-then : (w rest : List ℕ) → pointwise eqb (take (length w) mid) w ≡ true → rest ≡ drop (length w) mid → Left (f ++ w) from rest s
+  word-then w rest e r = left-then (word-left s p.end w rest p.stands.inside (rw p.left at e) (rw p.left at r))
+
+  pub left-end : from ≤ length s → p.end ≡ from + length f
+  left-end start = stands-end start p.stands

@@ -1,13 +1,13 @@
 -- Laws of `same`. Assumes nothing.
 use Prim.Native.Nat.{ℕ}
-use mathlib.Core.Path.{◌≡◌, refl, ap, ap₂}
+use mathlib.Core.Path.{◌≡◌, refl, sym, ap, ap₂, ◌∙◌}
 use mathlib.Core.Bool.{Bool, true, false, ◌&&◌, false≢true}
 use mathlib.Core.List.{List, [], ◌∷◌}
 use lib.Dec.{eqb}
 use lib.Pointwise.{pointwise}
-use borrow.Author.Tests.{eq-eqb, eqb-true}
+use borrow.Author.Tests.{eq-eqb, ne_eqb, eqb-true}
 use Rattle.layout.specs.Word.{same}
-use Rattle.layout.proofs.Cases.{by_bool, and_left, and_right}
+use Rattle.layout.proofs.Cases.{by_bool, by-eq, and_left, and_right}
 
 pub same_true : (s w : List ℕ) → same s w ≡ true → s ≡ w
 unfolding same
@@ -33,3 +33,14 @@ same_is_pointwise [] [] = refl
 same_is_pointwise [] (y ∷ w) = refl
 same_is_pointwise (x ∷ s) [] = refl
 same_is_pointwise (x ∷ s) (y ∷ w) = ap (λ (b : Bool). eqb x y && b) (same_is_pointwise s w)
+
+eqb_flipped : (x y : ℕ) → eqb x y ≡ eqb y x
+eqb_flipped x y = by-eq x y (λ e. eq-eqb x y e ∙ sym (eq-eqb y x (sym e))) (λ h. ne_eqb x y h ∙ sym (ne_eqb y x (λ e. h (sym e))))
+
+-- the same with the word first
+pub same_is_flipped : (s w : List ℕ) → same s w ≡ pointwise eqb w s
+unfolding same
+same_is_flipped [] [] = refl
+same_is_flipped [] (y ∷ w) = refl
+same_is_flipped (x ∷ s) [] = refl
+same_is_flipped (x ∷ s) (y ∷ w) = ap₂ (λ (a b : Bool). a && b) (eqb_flipped x y) (same_is_flipped s w)

@@ -46,7 +46,7 @@ fn push_item(
     }
 }
 
-// Reads items with commas between them.
+// Reads items with commas between them, up to one that is no number: nothing behind that changes the answer.
 fn read_items(field: &[u8], bound: u64, items: &mut [u32]) -> Result<usize, ListFault>
     requires { bound ≤ 4294967296 }
     ensures { (result ≡ judged bound (length items.old) (split 44 field.now)) × (items.new ≡ fill (leading bound (length items.old) (split 44 field.now)) items.old) }
@@ -54,6 +54,9 @@ fn read_items(field: &[u8], bound: u64, items: &mut [u32]) -> Result<usize, List
     let mut so_far = Ok(0);
     for item in field.split(|b| *b == b',') {
         so_far = push_item(items, so_far, item, bound);
+        if matches!(so_far, Err(ListFault::NotList)) {
+            return so_far;
+        }
     }
     so_far
 }
@@ -86,7 +89,9 @@ impl Item for u8 {
     ghost number = { λ n. n };
 
     fn number(&self) -> u32 {
-        u32::from(*self)
+        // The byte has a name, so that the edit `half_of_each_byte` changes it here alone.
+        let byte = *self;
+        u32::from(byte)
     }
 }
 

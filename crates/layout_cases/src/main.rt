@@ -10,6 +10,7 @@ use layout::list::{ListFault, read_list, write_list};
 use layout::number::{NumberFault, read_number};
 use std::io;
 use std::io::Write;
+use std::ops::Range;
 
 fn say_number<W: Write>(out: &mut W, field: &[u8]) -> io::Result<()> {
     match read_number(field, 65536) {
@@ -79,11 +80,11 @@ fn say_part<W: Write>(out: &mut W, items: &[u32], n: usize) -> io::Result<()>
     writeln!(out, "{}", adler(&buffer[..n + 2]))
 }
 
-// Writes a list into a part of every length from one up to another, which is left out.
-fn parts<W: Write>(out: &mut W, items: &[u32], from: usize, to: usize) -> io::Result<()>
-    requires { to ≤ 8191 }
+// Writes a list into a part of each of the lengths.
+fn parts<W: Write>(out: &mut W, items: &[u32], lengths: Range<usize>) -> io::Result<()>
+    requires { lengths.end ≤ 8191 }
 {
-    for n in from..to {
+    for n in lengths {
         say_part(out, items, n)?;
     }
     Ok(())
@@ -103,12 +104,12 @@ fn thousand() -> [u32; 1000] {
 // Lists of 0, 1, 64 and 1,000 numbers: their texts have 1, 10, 415 and 6,397 bytes.
 fn lists<W: Write>(out: &mut W) -> io::Result<()> {
     let items = thousand();
-    parts(out, &items[0..0], 0, 4)?;
-    parts(out, &items[0..1], 0, 13)?;
-    parts(out, &items[0..64], 0, 1)?;
-    parts(out, &items[0..64], 403, 419)?;
-    parts(out, &items, 0, 1)?;
-    parts(out, &items, 6394, 6401)
+    parts(out, &items[0..0], 0..4)?;
+    parts(out, &items[0..1], 0..13)?;
+    parts(out, &items[0..64], 0..1)?;
+    parts(out, &items[0..64], 403..419)?;
+    parts(out, &items, 0..1)?;
+    parts(out, &items, 6394..6401)
 }
 
 // Fields, good and damaged.

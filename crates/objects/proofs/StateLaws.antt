@@ -17,9 +17,9 @@ use Rattle.history.specs.declared.record.Op.{Op}
 use Rattle.history.specs.declared.record.Op.TheVariants.{Write, Read, Push, Pop, Peek}
 use Rattle.history.specs.declared.record.Object.{Object}
 use Rattle.history.specs.Kinds.{is_channel, has_op}
-use Rattle.criteria.specs.Object.{fresh_of, full, keeps, last_values, after, gives, top, untop}
-use Rattle.objects.specs.State.{value_in, contents_of, given_of, is_stack, limit_for, Fresh, Suits, Changed, Answered}
-use Rattle.objects.specs.Steps.State.{Starts, Names, Shows}
+use Rattle.criteria.specs.Object.{fresh_of, fresh, full, keeps, last_values, after, gives, top, untop}
+use Rattle.objects.specs.State.{value_in, contents_of, given_of, is_stack, limit_for, limit_of, Fresh, Suits, Changed, Answered}
+use Rattle.objects.specs.Steps.State.{Names, Shows}
 use Rattle.objects.specs.declared.state.State.{State}
 use Rattle.objects.specs.declared.state.Given.{Given}
 
@@ -130,16 +130,27 @@ take-replicate zero n x h = refl
 take-replicate (suc t) zero x h = absurd (not-suc-le-zero h)
 take-replicate (suc t) (suc n) x h = ap (λ (l : List ℕ). x ∷ l) (take-replicate t n x (le_of_suc-le-suc h))
 
-pub fresh-law : (o : Object) (k : Kind) (r : State) (t : ℕ) (b : Bool) (m : ℕ) → o.kind ≡ k → t ≤ 1 → Starts t b m r → is_stack k ≡ b
-    → limit_for k o.width ≡ m → fresh_of k o.width ≡ replicate t 0 → Fresh o r
+-- every value of the start is 0
+zeros : (o : Object) → replicate (length (fresh o)) 0 ≡ fresh o
+zeros o = by-kind o.kind
+  where
+    by-kind : (k : Kind) → replicate (length (fresh_of k o.width)) 0 ≡ fresh_of k o.width
+    by-kind Register = refl
+    by-kind Queue = refl
+    by-kind Stack = refl
+    by-kind Window = refl
+    by-kind Channel = refl
+
+pub fresh-law : (o : Object) (r : State) → r.newest ≡ is_stack o.kind → r.limit ≡ limit_of o → r.head ≡ 0 → r.tail ≡ length (fresh o) → r.tail ≤ 1
+    → r.numbers ≡ replicate 65 64 → Fresh o r
 unfolding contents_of
-fresh-law o k r t b m kind few g stack most start = record {
-  newest = g.newest ∙ sym (ap is_stack kind ∙ stack);
-  limit = g.limit ∙ sym (ap (λ (x : Kind). limit_for x o.width) kind ∙ most);
-  head = g.head;
-  tail = omega (arith, g.tail);
+fresh-law o r newest limit head tail few numbers = record {
+  newest = newest;
+  limit = limit;
+  head = head;
+  tail = few;
   contents = λ vs z.
-      rw (g.head, g.tail, g.numbers, take-replicate t 65 64 (omega arith), map-replicate (value_in vs) t 64, z, kind, start);
+      rw (head, tail, numbers, take-replicate (length (fresh o)) 65 64 (omega (arith, tail, few)), map-replicate (value_in vs) (length (fresh o)) 64, z, zeros o);
 }
 
 -- ---- one op on a state, said of the numbers it holds

@@ -31,7 +31,8 @@ pub struct EventOp {
 }
 
 // The first `count` of the numbers, at most eight: the events whose values are the answer.
-// Kept: no heap, fixed memory.
+// Kept: no heap, fixed memory; and no slice of the state's numbers: the push to a full channel answers a number that the state does not
+// hold.
 #[derive(Clone, Copy)]
 pub struct Given {
     pub numbers: [u8; 8],
@@ -70,32 +71,30 @@ impl Given {
 }
 
 impl State {
-    ghost use Rattle.objects.specs.State.{Fresh, Changed, Answered};
-    ghost use Rattle.objects.specs.Steps.State.{Starts, Shows};
+    ghost use Rattle.objects.specs.State.{limit_of, Fresh, Changed, Answered};
+    ghost use Rattle.objects.specs.Steps.State.{Shows};
 
-    // A state of so many values of the start, and of at most `limit` values.
-    fn started(tail: u8, newest: bool, limit: u8) -> State
-        requires { tail ≤ 1 }
-        ensures { Starts tail newest limit result }
+    // How many values an object holds at most.
+    fn limit_of(o: Object) -> u8
+        ensures { result ≡ limit_of o }
+    {
+        match o.kind {
+            Kind::Register => 1,
+            Kind::Queue | Kind::Stack => 255,
+            Kind::Window | Kind::Channel => o.width,
+        }
+    }
+
+    // The state at the start: a register holds a value of the start, and nothing else holds any.
+    pub fn fresh(o: Object) -> State
+        ensures { Fresh o result }
     {
         State {
             numbers: [START; 65],
             head: 0,
-            tail,
-            newest,
-            limit,
-        }
-    }
-
-    // The state at the start.
-    pub fn fresh(o: Object) -> State
-        ensures { Fresh o result }
-    {
-        match o.kind {
-            Kind::Register => State::started(1, false, 1),
-            Kind::Queue => State::started(0, false, 255),
-            Kind::Stack => State::started(0, true, 255),
-            Kind::Window | Kind::Channel => State::started(0, false, o.width),
+            tail: u8::from(o.kind == Kind::Register),
+            newest: o.kind == Kind::Stack,
+            limit: State::limit_of(o),
         }
     }
 
@@ -151,7 +150,8 @@ impl State {
     }
 
     // The state after the event.
-    // Kept: by value, here and in `step`: `Changed` speaks of the state before and the one after; `&mut self` would name both as well.
+    // Kept: by value, here and in `step`, and not by `&mut self` (tried, and proved): the customer's document names the form, a method by
+    // value that takes an event and hands back state and answer (docs/DECISIONS.md 27).
     pub fn changed(self, e: EventOp) -> State
         requires { self.tail < 65 }
         ensures { Changed self e.op e.no.0 result }

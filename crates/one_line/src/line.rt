@@ -28,8 +28,8 @@ fn place_of(order: &Order, e: usize) -> u8
 }
 
 // The places of the events.
-// Kept: `array::from_fn(|e| place_of(order, e))` captures the order, and `rt ci` cannot write the statements of such a crate for those
-// above (tried in `replays::visible::visible_views`).
+// Tried: `array::from_fn(|e| place_of(order, e))` captures the order, and `rt ci` refuses the crate, since it cannot write the statements
+// of such a crate for those above.
 pub(crate) fn places_of(order: &Order) -> [u8; 64]
     ensures { (length result ≡ 64) × ((e : ℕ) → e < order.now.size → get_or result e 0 ≡ place_in order.now.pasts order.now.updates e) }
 {

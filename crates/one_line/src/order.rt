@@ -29,7 +29,7 @@ pub(crate) fn order_of(h: &History, c: &Certificate) -> Order
 {
     Order {
         pasts: past_rows(&c.pasts[..h.count]),
-        updates: updates_of(&h.events[..h.count]),
+        updates: updates_of(h.recorded_events()),
         size: h.count,
     }
 }

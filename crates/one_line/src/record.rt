@@ -29,6 +29,6 @@ pub fn line_record(h: &History, c: &Certificate) -> ViewedRecord
 {
     let places = places_of(&order_of(h, c));
     let line = by_place(&places[..h.count]);
-    let views = whole_views(&line.events[..line.count], 1);
+    let views = whole_views(line.entries(), 1);
     record_of(Criterion::Sequential, no_pasts(), views)
 }

@@ -36,7 +36,7 @@ pub fn lacks_past(rows: &[u64; 64], e: usize) -> bool
 }
 
 // 13: the lowest such e below n.
-// Kept: an order is all its rows; n says how many events are asked.
+// Kept: an order is all its rows; n says how many events are asked: none where a criterion has no pasts.
 pub fn not_transitive(rows: &[u64; 64], n: usize) -> Option<usize>
     requires { n ≤ 64 }
     ensures found { option_in result ≡ lowest n (λ e. found_if (lacks_past 64 (in_rows rows.now) e) e) }

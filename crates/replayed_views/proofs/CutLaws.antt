@@ -2,7 +2,7 @@
 -- that is wrong in its own part. Assumes nothing.
 use Prim.Native.Nat.{ℕ, ◌≤◌, ◌<◌}
 use native.Mathlib.Omega.{arith}
-use mathlib.Core.Path.{◌≡◌, refl, sym, ap, ◌∙◌}
+use mathlib.Core.Path.{◌≡◌, refl, sym, ap, ap₂, ◌∙◌}
 use mathlib.Core.Bool.{Bool, true, ◌&&◌}
 use mathlib.Core.List.{List, [], ◌∷◌}
 use mathlib.Core.Option as math
@@ -12,17 +12,18 @@ use lib.Dec.{eqb}
 use borrow.Author.Tests.{eq-eqb}
 use Rattle.history.specs.declared.record.EventNo.{EventNo}
 use Rattle.criteria.specs.Tests.{lowest, keep_if, keep, mem, place}
-use Rattle.criteria.specs.History.{Event, event, only}
+use Rattle.criteria.specs.History.{Event, event, only, past_with}
 use Rattle.criteria.specs.Check.{first_wrong}
 use Rattle.criteria.proofs.Lists.{by-test, true-or-left, true-or-right, none-lowest, mem-keep, mem-get_or, place_in}
 use Rattle.criteria.proofs.Loops.{any-default, lowest-found}
 use Rattle.objects.specs.declared.state.State.{State}
 use Rattle.objects.specs.State.{no_state, contents_of}
-use Rattle.orders.specs.Rows.{in_row}
+use Rattle.orders.specs.Rows.{in_row, in_rows}
 use Rattle.replays.specs.declared.light.LightHistory.{LightHistory}
 use Rattle.replays.specs.Replay.{no_light, history_in, contents_in, found_event, Ready}
-use Rattle.replayed_views.specs.Steps.{one_wrong, ReadyKept}
-use Rattle.replays.proofs.ReplayLaws.{event-at, get_or-contents}
+use Rattle.replayed_views.specs.Cut.{wrong_cut}
+use Rattle.replayed_views.specs.Steps.{one_wrong, ObjectRows, ReadyKept}
+use Rattle.replays.proofs.ReplayLaws.{event-at, object-of, get_or-contents}
 use Rattle.replayed_views.proofs.ObjectLaws.{on_object, one-object}
 
 -- what passes two tests, and every entry
@@ -84,6 +85,19 @@ module _ {h : LightHistory} {starts : List State} {view : List ℕ} {e o : ℕ} 
   row-found long found d q =
       let small : o < 16 = rw on (r.parts.object e below) in
       rw (any-default starts o d no_state (omega (arith, small, long))) at q ∙ sym (row-wrong long)
+
+-- the row of the part of an event of the object o: its past and it, and of these the events of the object
+module _ {h : LightHistory} {starts : List State} {view : List ℕ} {e o : ℕ} (order : List ℕ) (past row : ℕ) (rows : List ℕ) (r : Ready h starts view) (below : e < h.size)
+    (on : o ≡ (get_or h.events e no_light).object) (past-is : (f : ℕ) → in_row past f ≡ past_with (in_rows order) e f)
+    (rows-are : ObjectRows h.events rows) (row-is : (f : ℕ) → in_row row f ≡ in_row past f && in_row (get_or rows o 0) f) where
+  -- its replay finds what that of the part finds
+  pub cut-found : length starts ≡ 16 → (found : Option EventNo) (d : State)
+      → found_event found ≡ one_wrong (history_in h) e (get_or h.events e no_light).object (contents_of h.values (get_or starts o d)) (keep (in_row row) view)
+      → found_event found ≡ wrong_cut (history_in h) (contents_in h.values starts) order view e
+  cut-found =
+      let small : o < 16 = object-of h r.parts below on in
+      row-found row r below on (past_with (in_rows order) e)
+      (λ f l. row-is f ∙ ap₂ ◌&&◌ (past-is f) (rows-are o small f (omega (arith, l, r.parts.small))))
 
 -- ---- the search
 pub found-some : {found : Option EventNo} {x : EventNo} {r : math.Option ℕ} → found ≡ Some x → found_event found ≡ r → math.some x.0 ≡ r

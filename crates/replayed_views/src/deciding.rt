@@ -5,6 +5,7 @@ ghost use Rattle.replays.specs.Replay.{no_light};
 ghost use Rattle.replayed_views.specs.Steps.{shows_of, GoesOn, Decides};
 
 use history::record::{EventNo, ProcessNo};
+use orders::views::View;
 use replays::light::LightHistory;
 use replays::replay::{Light, Visible};
 
@@ -22,10 +23,10 @@ fn goes_on(events: &[Light; 64], a: &[u8], b: &[u8], p: ProcessNo, e: EventNo) -
     requires { (e.0 < 64) × ((i : ℕ) → i < length b.now → get_or b.now i 0 < 64) }
     ensures { result ≡ true → GoesOn events.now a.now b.now p.0 e.0 }
 {
-    if events[usize::from(e.0)].process != p {
+    let Some(rest) = b.strip_prefix(a) else {
         return false;
-    }
-    b.starts_with(a) && alone(events, &b[a.len()..], p, e)
+    };
+    events[usize::from(e.0)].process == p && alone(events, rest, p, e)
 }
 
 // Whether the answers of process p are the visible ones.
@@ -36,11 +37,9 @@ fn shows(who: Visible, p: ProcessNo) -> bool
 }
 
 // A view, and whose answers are visible in it.
-// Kept: a slice, as `Ready` and `Decides` speak of its entries; `alone` asks about the rest behind the earlier view, and a `View` of that
-// rest would be made and proved again.
 #[derive(Clone, Copy)]
 pub(crate) struct ShownView<'a> {
-    pub view: &'a [u8],
+    pub view: View<'a>,
     pub seen: Visible,
 }
 
@@ -51,15 +50,21 @@ pub(crate) fn deciding(
     this: ShownView,
     k: usize,
 ) -> Option<EventNo>
-    requires { (history.now.size ≤ 64) × (k < 64) × ((i : ℕ) → i < length this.view.now → get_or this.view.now i 0 < history.now.size) }
-    ensures { MatchOption result Unit (λ e. (e.0 < history.now.size) × Decides history.now before.entry.seen before.entry.view.now this.entry.seen this.entry.view.now e.0) }
+    requires { (history.now.size ≤ 64) × (k < 64) × ((i : ℕ) → i < length this.view.events.now → get_or this.view.events.now i 0 < history.now.size) }
+    ensures { MatchOption result Unit (λ e. (e.0 < history.now.size) × Decides history.now before.entry.seen before.entry.view.events.now this.entry.seen this.entry.view.events.now e.0) }
 {
     let own = EventNo(k as u8);
     match this.seen {
         Visible::Of(p)
             if k < history.size
                 && shows(before.seen, p)
-                && goes_on(&history.events, before.view, this.view, p, own) => { Some(own) }
+                && goes_on(
+                    &history.events,
+                    before.view.events,
+                    this.view.events,
+                    p,
+                    own,
+                ) => { Some(own) }
         Visible::Only(e) => (usize::from(e.0) < history.size).then_some(e),
         _ => None,
     }

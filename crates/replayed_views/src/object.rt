@@ -65,5 +65,5 @@ pub(crate) fn replay_row(
         return None;
     }
     let cut = View { events: view }.cut_to(row);
-    replay_object(history, start, &cut.events[..cut.count], e)
+    replay_object(history, start, cut.entries(), e)
 }

@@ -35,7 +35,7 @@ use Rattle.replays.specs.declared.light.LightHistory.{LightHistory}
 use Rattle.replays.specs.declared.replay.Visible.{Visible}
 use Rattle.replays.specs.declared.replay.Visible.TheVariants.{All, Of, Only}
 use Rattle.replays.specs.Replay.{event_in, history_in, contents_in, is_visible, Silent, SoundParts, Ready}
-use Rattle.replays.specs.Light.{never_answers, is_silent, TakenApart}
+use Rattle.replays.specs.Light.{never_answers, is_silent, EventsApart}
 use Rattle.replays.proofs.ReplayLaws.{fresh-stands}
 
 -- an element of a list that is mapped
@@ -70,10 +70,11 @@ table-takes f g xs d (suc n) h e =
     ap₂ (λ l x. l ++ x ∷ []) (table-takes f g xs d n (omega arith) (λ k l. e k (omega arith))) (e n (omega arith))
     ∙ sym (ap (map g) (rw add-one at (take_more xs n d (omega arith))) ∙ map-append g (take n xs) (get_or xs n d ∷ []))
 
-module _ (h : WrittenHistory.History) (l : LightHistory) (t : TakenApart h l) where
+module _ (h : WrittenHistory.History) (l : LightHistory) (t : EventsApart h l)
+    (values : (e : ℕ) → e < h.count → get_or l.values e 0 ≡ (get_or h.events e no_event).value) where
   event-as : (e : ℕ) → e < h.count → event_in l e ≡ event_of (get_or h.events e no_event)
   unfolding event_of
-  event-as e b = rw (t.lights e b, t.values e b, t.answers e b)
+  event-as e b = rw (t.lights e b, values e b, t.answers e b)
 
   -- the events are those of the history
   events-are : h.count ≤ 64 → length h.events ≡ 64 → table h.count (event_in l) ≡ map event_of (events_in h)
@@ -141,7 +142,9 @@ starts-are os all states vs few z same fresh-as =
     ∙ sym (get_or-mapped fresh os o no_object l))
 
 -- ---- a replay of the history that was taken apart is a replay of the history
-module _ (h : WrittenHistory.History) (l : LightHistory) (t : TakenApart h l) (states : List State)
+module _ (h : WrittenHistory.History) (l : LightHistory) (t : EventsApart h l) (states : List State)
+    (values : (e : ℕ) → e < h.count → get_or l.values e 0 ≡ (get_or h.events e no_event).value)
+    (zero-value : get_or l.values 64 0 ≡ 0)
     (few : h.count ≤ 64)
     (long : length h.events ≡ 64)
     (places : length (objects_in h) ≤ length states)
@@ -153,11 +156,11 @@ module _ (h : WrittenHistory.History) (l : LightHistory) (t : TakenApart h l) (s
   same_start =
       sym (take-append-drop (length (objects_in h)) (contents_in l.values states))
       ∙ ap (λ (c : Contents). c ++ drop (length (objects_in h)) (contents_in l.values states))
-      (starts-are (objects_in h) h.objects states l.values places t.start (λ o b. agree o) fresh-as)
+      (starts-are (objects_in h) h.objects states l.values places zero-value (λ o b. agree o) fresh-as)
 
   same_history : history_in l ≡ record { objects = h.objects; events = map event_of (events_in h) }
   unfolding history_in
-  same_history = rw (t.objects, t.size, events-are h l t few long)
+  same_history = rw (t.objects, t.size, events-are h l t values few long)
 
   pub replay-is : first_wrong (history_in l) (is_visible (history_in l) who) (contents_in l.values states) v
       ≡ first_wrong (history_of h) (is_visible (history_of h) who) (start (history_of h)) v
@@ -173,7 +176,7 @@ module _ (h : WrittenHistory.History) (l : LightHistory) (t : TakenApart h l) (s
       (λ e m. omega (arith, named e m, length-map (objects_in h) fresh))
 
 -- ---- what a replay takes for granted is what the reader guarantees
-module _ (h : WrittenHistory.History) (s : Sound h) (l : LightHistory) (t : TakenApart h l) (states : List State) (view : List ℕ)
+module _ (h : WrittenHistory.History) (s : Sound h) (l : LightHistory) (t : EventsApart h l) (values-long : length l.values ≡ 65) (states : List State) (view : List ℕ)
     (agree : (o : ℕ) → get_or h.objects o no_object ≡ get_or (objects_in h) o no_object)
     (fresh-as : (o : ℕ) → o < 16 → Fresh (get_or h.objects o no_object) (get_or states o no_state))
     (narrow : (o : ℕ) → keeps (get_or h.objects o no_object).kind (get_or h.objects o no_object).width ≤ 8)
@@ -189,7 +192,7 @@ module _ (h : WrittenHistory.History) (s : Sound h) (l : LightHistory) (t : Take
 
   parts-of : SoundParts l
   parts-of = record {
-    values = t.long;
+    values = values-long;
     small = omega (arith, t.size, s.count);
     object = λ e b. let a = sound-at e (below e b) in rw (t.lights e (below e b)) (omega (arith, a.declared, s.objects, s.declared));
     op = λ e b. rw (t.objects, t.lights e (below e b), agree (get_or h.events e no_event).object) (sound-at e (below e b)).op;

@@ -1,4 +1,4 @@
--- Laws of an array that is made of another, an element at a time, and of a history that is taken apart an event at a time. Assumes nothing.
+-- Laws of an array that is made of another, an element at a time. Assumes nothing.
 use Prim.Native.Nat.{ℕ, ◌+◌, ◌<◌}
 use native.Mathlib.Omega.{arith}
 use mathlib.Core.Path.{◌≡◌}
@@ -6,12 +6,6 @@ use mathlib.Core.List.{List}
 use lib.ListN.{length, get_or, set}
 use lib.Seq.{get_or-set_same, get_or-set_other}
 use Rattle.layout.proofs.Cases.{by-eq}
-use Rattle.history.specs.declared.record.Event.{Event}
-use Rattle.history.specs.declared.record.History.{History}
-use Rattle.history.specs.Record.{no_event}
-use Rattle.replays.specs.declared.light.LightHistory.{LightHistory}
-use Rattle.replays.specs.Replay.{no_light, unused_answer}
-use Rattle.replays.specs.Light.{light_of}
 
 -- one element more of an array whose element k is to be g k
 pub made_at : {B : Type 0} (g : ℕ → B) (b : B) (ys : List B) (i : ℕ) (y : B) → i < length ys → y ≡ g i
@@ -24,13 +18,3 @@ made_at g b ys i y h q m k l =
 -- the first i elements are made from those of another array
 abbrev pub Made : {A B : Type 0} → (A → B) → A → B → List A → List B → ℕ → Type 0
 Made f d b xs ys i = (k : ℕ) → k < i → get_or ys k b ≡ f (get_or xs k d)
-
--- ---- the first i events of a history are taken apart
-pub record Apart (h : History) (i : ℕ) (r : LightHistory) : Type 0 where
-  pub objects : r.objects ≡ h.objects
-  pub size : r.size ≡ h.count
-  pub places : (length r.events ≡ 64) × (length r.values ≡ 65) × (length r.answers ≡ 64)
-  pub start : get_or r.values 64 0 ≡ 0
-  pub lights : Made (light_of h.objects) no_event no_light h.events r.events i
-  pub values : Made (λ (e : Event). e.value) no_event 0 h.events r.values i
-  pub answers : Made (λ (e : Event). e.answer) no_event unused_answer h.events r.answers i

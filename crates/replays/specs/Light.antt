@@ -28,13 +28,17 @@ light_with k e = record { process = e.process; object = e.object; op = e.op; sil
 abbrev pub light_of : List Object → Event → Light
 light_of os e = light_with (get_or os e.object no_object).kind e
 
+-- The events of a history taken apart: of each the light record and the answer; and its objects.
+pub record EventsApart (h : History) (r : LightHistory) : Type 0 where
+  pub objects : r.objects ≡ h.objects
+  pub size : r.size ≡ h.count
+  pub lights : (e : ℕ) → e < h.count → get_or r.events e no_light ≡ light_of h.objects (get_or h.events e no_event)
+  pub answers : (e : ℕ) → e < h.count → get_or r.answers e unused_answer ≡ (get_or h.events e no_event).answer
+
 -- A history taken apart for its replays: of each of its events the light record, the value and the answer; the last of the values is 0,
 -- for the start.
 pub record TakenApart (h : History) (r : LightHistory) : Type 0 where
-  pub objects : r.objects ≡ h.objects
-  pub size : r.size ≡ h.count
+  pub events : EventsApart h r
   pub long : length r.values ≡ 65
   pub start : get_or r.values 64 0 ≡ 0
-  pub lights : (e : ℕ) → e < h.count → get_or r.events e no_light ≡ light_of h.objects (get_or h.events e no_event)
   pub values : (e : ℕ) → e < h.count → get_or r.values e 0 ≡ (get_or h.events e no_event).value
-  pub answers : (e : ℕ) → e < h.count → get_or r.answers e unused_answer ≡ (get_or h.events e no_event).answer

@@ -52,7 +52,9 @@ fn asks(who: Visible, e: Light, no: EventNo) -> bool
 }
 
 // The first event of the view whose visible answer the replay does not give.
-// Kept: `Ready` in four contracts: a ghost field for its part on the history would ask `within` of `light_history`, which asks less.
+// Kept: `Ready` in four contracts. A ghost field of `LightHistory` for its part on the history would ask `within` of `light_history`, which
+// asks less; a struct of history and states would be built in `replay_fault` and opened in each, and the part on the view would stand in
+// each contract still.
 pub fn replay(
     history: &LightHistory,
     starts: [State; 16],

@@ -24,7 +24,8 @@ pub fn visible_views(c: Criterion, numbers: &[u8], events: &[Light; 64]) -> [Vis
     requires { length numbers.now ≤ 64 }
     ensures { (k : ℕ) → k < length numbers.now → get_or result k no_visible ≡ visible_at c numbers.now events.now k }
 {
-    // Kept: tried as `array::from_fn`: it captures, and `rt ci` cannot write the statements of such a crate for those above.
+    // Tried: `array::from_fn`: it captures, and `rt ci` refuses the crate, since it cannot write the statements of such a crate for those
+    // above.
     let mut views = [Visible::All; 64];
     for (k, number) in numbers.iter().enumerate() {
         views[k] = visible_in(c, *number, events[k].process, k as u8);

@@ -32,12 +32,14 @@ pub enum Field {
 }
 
 // The word of a text.
+// Kept: a match gives each text its word, as `kind_word` of history_writer does; a table could find none.
 fn text_word(t: Text) -> &'static [u8]
     ensures { result.now ≡ text_word (text_in t) }
 {
     match t {
         Text::History => b"history",
         Text::Certificate => b"certificate",
+        Text::Neither => b"-",
     }
 }
 
@@ -55,6 +57,8 @@ impl fields::Field for Field {
 }
 
 // A number, or a dash for none.
+// Kept: `≤ 11` in six contracts: a number is so short as it is a u32, which is known only where its field is made. A struct of a field and
+// that fact would hold the enum and be opened at once.
 #[tactic(auto, using(crate::proofs::PieceLaws::number_short))]
 fn number_field(n: Option<u32>) -> Field
     ensures { (result ≡ number_field (option_in n)) × (length (field_text result) ≤ 11) }
@@ -88,7 +92,10 @@ fn criterion_field(c: Option<Criterion>) -> Field
 fn text_field(place: Option<Place>) -> Field
     ensures { (result ≡ text_field (place_in place).text) × (length (field_text result) ≤ 11) }
 {
-    place.map_or(Field::Dash, |place| Field::Text(place.text))
+    match place.map(|place| place.text) {
+        None | Some(Text::Neither) => Field::Dash,
+        Some(text) => Field::Text(text),
+    }
 }
 
 // The line of a place, or a dash for none.

@@ -1,5 +1,5 @@
 // The two lines of the check of two texts.
-ghost use Rattle.std.specs.Prelude.{◌≡◌};
+ghost use Rattle.std.specs.Prelude.{◌≡◌, ◌≤◌, take};
 ghost use Rattle.checker.specs.CheckText.{check_text};
 ghost use Rattle.verdict_lines.specs.Printed.{printed_in};
 
@@ -12,6 +12,16 @@ use checker::check::check;
 pub struct Printed {
     pub length: usize,
     pub bytes: [u8; 128],
+}
+
+impl Printed {
+    // The two lines.
+    pub fn text(&self) -> &[u8]
+        requires { self.now.length ≤ 128 }
+        ensures { result.now ≡ take self.now.length self.now.bytes }
+    {
+        &self.bytes[..self.length]
+    }
 }
 
 // Checks a certificate text for a history text, and gives the two lines of the verdict.

@@ -44,5 +44,5 @@ fn main(rt: HostRuntime) -> io::Result<()> {
     let n = read_file(&rt, "history.txt", &mut history);
     let m = read_file(&rt, "certificate.txt", &mut certificate);
     let lines = print_check(&history[..n], &certificate[..m]);
-    io::writer(&rt).write_all(&lines.bytes[..lines.length])
+    io::writer(&rt).write_all(lines.text())
 }

@@ -41,6 +41,8 @@ fn completed_view(view: &View, n: usize) -> EventList
 }
 
 // The view of the last event, by the processes of the events, that is of process p, completed; the first view where there is none.
+// Kept: what is asked of the views (as many as the events, entries below, none twice) stands in two contracts, this one and that of
+// `completed_views`; `completed_view` asks it of one view. A struct for two functions would be opened in each.
 fn completed_last(processes: &[u8], views: &Views, p: u8) -> EventList
     requires { (length processes.now ≤ length views.now.numbers.now) × (0 < length processes.now) × EventViews views.now.rows.now views.now.lengths.now (length processes.now) (length processes.now) × ((k : ℕ) → k < length processes.now → (e : ℕ) → count e (view_at views.now.rows.now views.now.lengths.now k) ≤ 1) }
     ensures { (result ≡ event_list_of (completed (length processes.now) (view_at views.now.rows.now views.now.lengths.now (last_in (length processes.now) processes.now p)))) × (result.count ≤ 64) }

@@ -31,7 +31,7 @@ pub(crate) fn place_of(numbers: &[u8], e: u8) -> Option<usize>
 }
 
 // The part of the view before the event; the whole view where it does not stand there.
-// Kept: not one function with `up_to_event`: it would take a flag.
+// Kept: not one function with `up_to_event`: what both have is one match of three lines.
 #[tactic(auto, using(crate::proofs::ListLaws::before_none))]
 pub(crate) fn before_event(view: &[u8], e: u8) -> &[u8]
     ensures { (result.now ≡ take (place e view.now) view.now) × (length result.now ≤ length view.now) }

@@ -24,9 +24,10 @@ use Rattle.orders.specs.Rows.{in_row, in_rows, IsOrder}
 use Rattle.weakened.specs.declared.views.ViewRows.{ViewRows}
 use Rattle.weakened.specs.Steps.{lengths_of, view_rows_of}
 use Rattle.weakened_records.specs.declared.records.ViewedRecord.{ViewedRecord}
+use Rattle.weakened_records.specs.declared.records.Passing.{Passing}
 use Rattle.weakened_records.proofs.PassedLaws.{size-passed, few_passed, pasts-passed, one-begins}
 use Rattle.weakened_records.proofs.RecordLaws.{record-made, same-criterion, pasts-order}
-use Rattle.weakened_records.specs.Steps.{Passed, IsRecordOf}
+use Rattle.weakened_records.specs.Steps.{IsWeakened}
 
 -- ---- the weakened certificate
 abbrev cut_views : ℕ → (ℕ → ℕ → Bool) → List ℕ → List (List ℕ)
@@ -43,23 +44,32 @@ converge-weak : (h : History) (c : Certificate) → c.criterion ≡ Converge
 unfolding weakened
 converge-weak h c q = ap (λ (w : Criterion). weakened_from w Weak h c) q
 
-module _ (h : WrittenHistory.History) (c : WrittenCertificate.Certificate) (rows : List (List ℕ)) (q : c.criterion ≡ Converge) (p : Passed h c rows) where
+module _ (p : Passing) (q : p.of.now.certificate.criterion ≡ Converge) where
+  abbrev h : WrittenHistory.History
+  h = p.h.now
+
+  abbrev c : WrittenCertificate.Certificate
+  c = p.of.now.certificate
+
+  abbrev rows : List (List ℕ)
+  rows = p.of.now.views
+
   module _ (rows_of_lem : List ℕ) (o : IsOrder rows_of_lem (listed (map entries_in (take h.count c.pasts)))) where
     views-are : cut_views h.count (in_rows rows_of_lem) (take h.count (get_or rows 0 []))
         ≡ cut_views (size (history_of h)) (order (history_of h) (certificate_of h c rows)) (get_or (certificate_of h c rows).views 0 [])
     views-are =
-        ap (λ (n : ℕ). cut_views n (in_rows rows_of_lem) (take h.count (get_or rows 0 []))) (sym (size-passed h c rows p))
-        ∙ ap₂ (cut_views (size (history_of h))) (pasts-order h c rows p.history (ap has_pasts q) rows_of_lem o) (one-begins h c rows p Converge q refl)
+        ap (λ (n : ℕ). cut_views n (in_rows rows_of_lem) (take h.count (get_or rows 0 []))) (sym (size-passed h c rows p.passed))
+        ∙ ap₂ (cut_views (size (history_of h))) (pasts-order h c rows p.passed.history (ap has_pasts q) rows_of_lem o) (one-begins h c rows p.passed Converge q refl)
 
     pub converge-record : (r : ViewedRecord) (made : ViewRows)
         → (r.certificate ≡ record { criterion = Weak; pasts = c.pasts; lengths = made.lengths }) × (r.views ≡ made.rows)
         → length rows_of_lem ≡ 64
         → made ≡ view_rows_of (cut_views (length (take h.count rows_of_lem)) (in_rows (take h.count rows_of_lem)) (take h.count (get_or rows 0 [])))
-        → IsRecordOf (weakened Weak (history_of h) (certificate_of h c rows)) r.certificate r.views
+        → IsWeakened Weak h p.of.now r
     converge-record r made built long m =
         let all =
-        ap (λ (n : ℕ). cut_views n (in_rows (take h.count rows_of_lem)) (take h.count (get_or rows 0 []))) (length-take-le h.count rows_of_lem (omega (arith, long, few_passed h c rows p)))
+        ap (λ (n : ℕ). cut_views n (in_rows (take h.count rows_of_lem)) (take h.count (get_or rows 0 []))) (length-take-le h.count rows_of_lem (omega (arith, long, few_passed h c rows p.passed)))
         ∙ rows-first h.count rows_of_lem (take h.count (get_or rows 0 []))
         ∙ views-are in
         record-made _ Weak _ _ r c.pasts made built (converge-weak (history_of h) (certificate_of h c rows) (same-criterion h c rows Converge q))
-        (pasts-passed h c rows p) (ap (λ (x : ViewRows). x.rows) m ∙ ap rows_of all) (ap (λ (x : ViewRows). x.lengths) m ∙ ap lengths_of all)
+        (pasts-passed h c rows p.passed) (ap (λ (x : ViewRows). x.rows) m ∙ ap rows_of all) (ap (λ (x : ViewRows). x.lengths) m ∙ ap lengths_of all)

@@ -26,11 +26,12 @@ use Rattle.certificate.specs.declared.numbers.ViewNumbers.{ViewNumbers}
 use Rattle.certificate.specs.Steps.Numbers.{view_numbers_of, event_each}
 use Rattle.orders.specs.Rows.{in_rows, IsOrder}
 use Rattle.faults.proofs.CheckLaws.{size_of}
-use Rattle.faults.proofs.RecordFacts.{number-count}
+use Rattle.certificate.proofs.NumberingLaws.{counted}
 use Rattle.weakened.specs.declared.views.ViewRows.{ViewRows}
 use Rattle.weakened.specs.Steps.{lengths_of, view_rows_of}
 use Rattle.weakened_records.specs.declared.records.ViewedRecord.{ViewedRecord}
-use Rattle.weakened_records.specs.Steps.{Passed, IsRecordOf}
+use Rattle.weakened_records.specs.declared.records.Passing.{Passing}
+use Rattle.weakened_records.specs.Steps.{IsRecordOf, IsWeakened}
 use Rattle.weakened_records.proofs.PassedLaws.{size-passed, fits-passed, rows-passed, one-begins, one-long}
 
 -- ---- the record of lists
@@ -175,14 +176,22 @@ unfolding certificate_of
 same-criterion h c rows w q = q
 
 -- the criterion wanted is the one that was matched
-pub wanted-as : (w x : Criterion) (h : History) (c : Certificate) (r : WrittenCertificate.Certificate) (rows : List (List ℕ)) → w ≡ x
-    → IsRecordOf (weakened x h c) r rows → IsRecordOf (weakened w h c) r rows
-wanted-as w x h c r rows q i = subst (λ (y : Criterion). IsRecordOf (weakened y h c) r rows) (sym q) i
+pub wanted-as : (h : WrittenHistory.History) (of r : ViewedRecord) {w x : Criterion} → w ≡ x → IsWeakened x h of r → IsWeakened w h of r
+wanted-as h of r {w} {x} q i = subst (λ (y : Criterion). IsWeakened y h of r) (sym q) i
 
-module _ (h : WrittenHistory.History) (c : WrittenCertificate.Certificate) (rows : List (List ℕ)) (passed : Passed h c rows) where
+module _ (p : Passing) where
+  abbrev h : WrittenHistory.History
+  h = p.h.now
+
+  abbrev c : WrittenCertificate.Certificate
+  c = p.of.now.certificate
+
+  abbrev rows : List (List ℕ)
+  rows = p.of.now.views
+
   own-record : IsRecordOf (some (certificate_of h c rows)) c rows
   unfolding certificate_of
-  own-record = ((fits-passed h c rows passed).record_is, rows-passed h c rows passed)
+  own-record = ((fits-passed h c rows p.passed).record_is, rows-passed h c rows p.passed)
 
   itself-is : (o : Option Certificate) → ((d : Certificate) → o ≡ some d → d ≡ certificate_of h c rows) → IsRecordOf o c rows
   itself-is none f = tt
@@ -190,7 +199,7 @@ module _ (h : WrittenHistory.History) (c : WrittenCertificate.Certificate) (rows
 
   -- the same record, where the criterion wanted is the one named or the two are no pair
   pub stays-record : (named w : Criterion) → c.criterion ≡ named → (is_pair named w ≡ true → w ≡ named)
-      → IsRecordOf (weakened w (history_of h) (certificate_of h c rows)) c rows
+      → IsWeakened w h p.of.now p.of.now
   stays-record named w q same =
       itself-is (weakened w (history_of h) (certificate_of h c rows))
       (only-itself named w (history_of h) (certificate_of h c rows) (same-criterion h c rows named q) same)
@@ -203,10 +212,10 @@ module _ (h : WrittenHistory.History) (c : WrittenCertificate.Certificate) (rows
 
     pub other-record : ps ≡ pad 64 no_list (map event_list_of (cond (has_pasts w) (pasts_of (length order-line) (precedes order-line)) []))
         → made ≡ view_rows_of (cond (event_each w) (table (length order-line) (up_to_in order-line)) (table named.count (λ _. order-line)))
-        → IsRecordOf (weakened w (history_of h) (certificate_of h c rows)) r.certificate r.views
-    other-record p e =
+        → IsWeakened w h p.of.now r
+    other-record pasts e =
         record-made _ w _ _ r ps made built
         (other-lists w other (history_of h) (certificate_of h c rows) order-line (length order-line) named.count (same-criterion h c rows Sequential is)
-        (one-begins h c rows passed Sequential is refl) (one-long h c rows passed Sequential is refl ∙ sym (size-passed h c rows passed))
-        (number-count named _ numbered ∙ sym (view-count w h)))
-        p (ap (λ (m : ViewRows). m.rows) e) (ap (λ (m : ViewRows). m.lengths) e)
+        (one-begins h c rows p.passed Sequential is refl) (one-long h c rows p.passed Sequential is refl ∙ sym (size-passed h c rows p.passed))
+        (counted named _ numbered ∙ sym (view-count w h)))
+        pasts (ap (λ (m : ViewRows). m.rows) e) (ap (λ (m : ViewRows). m.lengths) e)

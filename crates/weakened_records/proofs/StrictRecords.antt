@@ -33,9 +33,10 @@ use Rattle.faults.proofs.CheckLaws.{few-of, process-at, view-same}
 use Rattle.weakened.specs.declared.views.ViewRows.{ViewRows}
 use Rattle.weakened.specs.Steps.{lengths_of, view_rows_of}
 use Rattle.weakened_records.specs.declared.records.ViewedRecord.{ViewedRecord}
-use Rattle.weakened_records.specs.Steps.{Passed, IsRecordOf}
+use Rattle.weakened_records.specs.declared.records.Passing.{Passing}
+use Rattle.weakened_records.specs.Steps.{IsWeakened}
 use Rattle.weakened_records.proofs.PassedLaws.{size-passed, few-numbers, processes-passed, pasts-passed, lengths-passed, rows-passed}
-use Rattle.weakened_records.proofs.RecordLaws.{record-made, same-criterion}
+use Rattle.weakened_records.proofs.RecordLaws.{record-parts, is-record, record-made, same-criterion}
 
 -- ---- the weakened certificates
 strict-pram : (h : History) (c : Certificate) → c.criterion ≡ Strict → weakened Pram h c ≡ some record { criterion = Pram; pasts = []; views = c.views }
@@ -55,18 +56,25 @@ strict-event w h c t q = ap (λ (x : Criterion). weakened_from x w h c) q ∙ go
     go Sequential e = absurd (false≢true e)
     go Strict e = absurd (false≢true e)
 
-module _ (h : WrittenHistory.History) (c : WrittenCertificate.Certificate) (rows : List (List ℕ)) (q : c.criterion ≡ Strict) (p : Passed h c rows) where
+module _ (p : Passing) (q : p.of.now.certificate.criterion ≡ Strict) where
+  abbrev h : WrittenHistory.History
+  h = p.h.now
+
+  abbrev c : WrittenCertificate.Certificate
+  c = p.of.now.certificate
+
+  abbrev rows : List (List ℕ)
+  rows = p.of.now.views
+
   abbrev vs : List (List ℕ)
   vs = (certificate_of h c rows).views
 
   -- ---- to pram
-  pub pram-record : (r : ViewedRecord) (pasts : List EventList) (made : ViewRows)
-      → (r.certificate ≡ record { criterion = Pram; pasts = pasts; lengths = made.lengths }) × (r.views ≡ made.rows)
-      → pasts ≡ replicate 64 no_list → made.rows ≡ rows → made.lengths ≡ c.lengths
-      → IsRecordOf (weakened Pram (history_of h) (certificate_of h c rows)) r.certificate r.views
-  pram-record r pasts made built e a b =
-      record-made _ Pram [] _ r pasts made built (strict-pram (history_of h) (certificate_of h c rows) (same-criterion h c rows Strict q))
-      (e ∙ sym (pad-none 64 no_list)) (a ∙ rows-passed h c rows p) (b ∙ lengths-passed h c rows p)
+  pub pram-record : (pasts : List EventList) → pasts ≡ replicate 64 no_list
+      → IsWeakened Pram h p.of.now (record { certificate = record { criterion = Pram; pasts = pasts; lengths = c.lengths }; views = rows })
+  pram-record pasts e =
+      is-record _ Pram [] _ _ rows (strict-pram (history_of h) (certificate_of h c rows) (same-criterion h c rows Strict q))
+      (record-parts Pram pasts c.lengths [] _ (e ∙ sym (pad-none 64 no_list)) (lengths-passed h c rows p.passed)) (rows-passed h c rows p.passed)
 
   -- ---- to weak and causal
   module _ (named : ViewNumbers) (numbered : named ≡ view_numbers_of (view_numbers Strict (events_in h)))
@@ -78,7 +86,7 @@ module _ (h : WrittenHistory.History) (c : WrittenCertificate.Certificate) (rows
     qs = take h.count ps
 
     events-long : length qs ≡ h.count
-    events-long = length-take-le h.count ps (omega (arith, long, few-of h p.history))
+    events-long = length-take-le h.count ps (omega (arith, long, few-of h p.passed.history))
 
     numbers-are : ns ≡ processes (history_of h)
     unfolding view_numbers
@@ -92,20 +100,20 @@ module _ (h : WrittenHistory.History) (c : WrittenCertificate.Certificate) (rows
     slot_at e = place (get_or qs e 0) ns
 
     slot_is : (e : ℕ) → e < h.count → slot_at e ≡ place (process (history_of h) e) (processes (history_of h))
-    slot_is e l = ap₂ place (get_or-take h.count ps e 0 l ∙ process-at h p.history ps agree e (omega (arith, l, size-passed h c rows p))) numbers-are
+    slot_is e l = ap₂ place (get_or-take h.count ps e 0 l ∙ process-at h p.passed.history ps agree e (omega (arith, l, size-passed h c rows p.passed))) numbers-are
 
     pub slot_small : (e : ℕ) → e < length qs → slot_at e < length ns
     slot_small e i =
         let l : e < h.count = omega (arith, i, events-long) in
         let z = place_in (process (history_of h) e) (processes (history_of h))
-        (process-listed (history_of h) e (processes-passed h c rows p) (omega (arith, l, size-passed h c rows p))) in
+        (process-listed (history_of h) e (processes-passed h c rows p.passed) (omega (arith, l, size-passed h c rows p.passed))) in
         omega (arith, z.0, slot_is e l, views-count)
 
     view-is : (k : ℕ) → k < length ns → view_at (take (length ns) rows) (take (length ns) c.lengths) k ≡ get_or vs k []
     unfolding certificate_of
     view-is k l =
         view-first rows c.lengths (length ns) k l
-        ∙ view-same h p.history c rows p.certificate (few-numbers h c rows p c.criterion) (length ns)
+        ∙ view-same h p.passed.history c rows p.passed.certificate (few-numbers h c rows p.passed c.criterion) (length ns)
         (ap length (numbers-in named _ numbered) ∙ ap (λ (w : Criterion). length (view_numbers w (events_in h))) (sym q)) k l
 
     abbrev made_at : ℕ → List ℕ
@@ -118,12 +126,12 @@ module _ (h : WrittenHistory.History) (c : WrittenCertificate.Certificate) (rows
         (λ e l.
         ap (λ (v : List ℕ). up_to_in v e)
         (view-is (slot_at e) (slot_small e l) ∙ ap (λ (k : ℕ). get_or vs k []) (slot_is e (omega (arith, l, events-long)))))
-        ∙ ap (λ (n : ℕ). table n (own_part (history_of h) vs)) (events-long ∙ sym (size-passed h c rows p))
+        ∙ ap (λ (n : ℕ). table n (own_part (history_of h) vs)) (events-long ∙ sym (size-passed h c rows p.passed))
 
     pub events-record : (w : Criterion) → event_each w ≡ true → (r : ViewedRecord) (made : ViewRows)
         → (r.certificate ≡ record { criterion = w; pasts = c.pasts; lengths = made.lengths }) × (r.views ≡ made.rows)
         → made ≡ view_rows_of (table (length qs) made_at)
-        → IsRecordOf (weakened w (history_of h) (certificate_of h c rows)) r.certificate r.views
+        → IsWeakened w h p.of.now r
     events-record w t r made built m =
         record-made _ w _ _ r c.pasts made built (strict-event w (history_of h) (certificate_of h c rows) t (same-criterion h c rows Strict q))
-        (pasts-passed h c rows p) (ap (λ (x : ViewRows). x.rows) m ∙ ap rows_of views-are) (ap (λ (x : ViewRows). x.lengths) m ∙ ap lengths_of views-are)
+        (pasts-passed h c rows p.passed) (ap (λ (x : ViewRows). x.rows) m ∙ ap rows_of views-are) (ap (λ (x : ViewRows). x.lengths) m ∙ ap lengths_of views-are)

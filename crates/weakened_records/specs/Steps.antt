@@ -9,7 +9,10 @@ use Rattle.certificate.specs.Record as TextRecord
 use Rattle.certificate.specs.Readable.{fits}
 use Rattle.criteria.specs.Certificate.{Certificate}
 use Rattle.criteria.specs.Check.{check}
+use Rattle.criteria.specs.Weaken.{weakened}
 use Rattle.criteria.specs.Records.{history_of, certificate_of}
+use Rattle.certificate.specs.declared.record.Criterion.{Criterion}
+use Rattle.weakened_records.specs.declared.records.ViewedRecord.{ViewedRecord}
 
 -- A record and its rows within their limits, of which the check finds nothing.
 pub record Passed (h : History) (c : WrittenCertificate.Certificate) (rows : List (List ℕ)) : Type 0 where
@@ -22,3 +25,7 @@ abbrev pub IsRecordOf : Option Certificate → WrittenCertificate.Certificate �
 IsRecordOf none c rows = Unit {0}
 IsRecordOf (some d) c rows =
     (c ≡ TextRecord.certificate_of d.criterion d.pasts d.views) × (rows ≡ TextRecord.rows_of d.views)
+
+-- A record is that of the criterion wanted, made of another record of the history.
+abbrev pub IsWeakened : Criterion → History → ViewedRecord → ViewedRecord → Type 0
+IsWeakened wanted h of r = IsRecordOf (weakened wanted (history_of h) (certificate_of h of.certificate of.views)) r.certificate r.views

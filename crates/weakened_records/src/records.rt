@@ -9,7 +9,7 @@ ghost use Rattle.criteria.specs.Tests.{table, mem};
 ghost use Rattle.criteria.specs.Weaken.{precedes, pasts_of, up_to_in, weakened};
 ghost use Rattle.criteria.specs.Records.{history_of, certificate_of};
 ghost use Rattle.weakened.specs.Steps.{view_rows_of};
-ghost use Rattle.weakened_records.specs.Steps.{Passed, IsRecordOf};
+ghost use Rattle.weakened_records.specs.Steps.{Passed, IsRecordOf, IsWeakened};
 
 use certificate::criterion::has_pasts;
 use certificate::list::no_list;
@@ -40,7 +40,6 @@ pub fn no_pasts() -> [EventList; 64]
 }
 
 // The record of a criterion, pasts and views.
-// Kept: rows and lengths are named first: tried with `made.rows` in the literal, and the borrow checker does not cover it yet.
 pub fn record_of(criterion: Criterion, pasts: [EventList; 64], made: ViewRows) -> ViewedRecord
     ensures { (result.certificate ≡ record { criterion = criterion; pasts = pasts; lengths = made.lengths }) × (result.views ≡ made.rows) }
 {
@@ -52,16 +51,6 @@ pub fn record_of(criterion: Criterion, pasts: [EventList; 64], made: ViewRows) -
             lengths,
         },
         views: rows,
-    }
-}
-
-// The views of a record.
-fn views_of(of: &ViewedRecord) -> ViewRows
-    ensures { (result.rows ≡ of.now.views) × (result.lengths ≡ of.now.certificate.lengths) }
-{
-    ViewRows {
-        rows: of.views,
-        lengths: of.certificate.lengths,
     }
 }
 
@@ -118,19 +107,19 @@ impl Passing<'_> {
     #[tactic(auto, using(crate::proofs::PassedLaws::one_few, crate::proofs::PassedLaws::one_entries))]
     fn sequential_to_other(&self, wanted: Criterion) -> ViewedRecord
         requires { (self.now.of.now.certificate.criterion ≡ Sequential) × (wanted ≡ Sequential → ⊥) }
-        ensures { IsRecordOf (weakened wanted (history_of self.now.h.now) (certificate_of self.now.h.now self.now.of.now.certificate self.now.of.now.views)) result.certificate result.views }
+        ensures { IsWeakened wanted self.now.h.now self.now.of.now result }
     {
         let n = self.h.count;
         let line = &self.of.views[0];
         let order = View { events: &line[..n] };
-        let named = view_numbers(wanted, &self.h.events[..n]);
+        let named = view_numbers(wanted, self.h.recorded_events());
         let pasts = order_pasts(wanted, &order);
         record_of(wanted, pasts, order_views(wanted, &order, named.count))
     }
 
     fn from_sequential(&self, wanted: Criterion) -> ViewedRecord
         requires { self.now.of.now.certificate.criterion ≡ Sequential }
-        ensures { IsRecordOf (weakened wanted (history_of self.now.h.now) (certificate_of self.now.h.now self.now.of.now.certificate self.now.of.now.views)) result.certificate result.views }
+        ensures { IsWeakened wanted self.now.h.now self.now.of.now result }
     {
         match wanted {
             Criterion::Sequential => *self.of,
@@ -142,7 +131,7 @@ impl Passing<'_> {
     #[tactic(auto, using(crate::proofs::PassedLaws::one_few, crate::proofs::PassedLaws::one_entries))]
     fn converge_to_weak(&self) -> ViewedRecord
         requires { self.now.of.now.certificate.criterion ≡ Converge }
-        ensures { IsRecordOf (weakened Weak (history_of self.now.h.now) (certificate_of self.now.h.now self.now.of.now.certificate self.now.of.now.views)) result.certificate result.views }
+        ensures { IsWeakened Weak self.now.h.now self.now.of.now result }
     {
         let n = self.h.count;
         let order = past_rows(&self.of.certificate.pasts[..n]);
@@ -155,49 +144,52 @@ impl Passing<'_> {
     // From causal to pram: the view of the process's last event, then all other events rising.
     fn causal_to_pram(&self) -> ViewedRecord
         requires { self.now.of.now.certificate.criterion ≡ Causal }
-        ensures { IsRecordOf (weakened Pram (history_of self.now.h.now) (certificate_of self.now.h.now self.now.of.now.certificate self.now.of.now.views)) result.certificate result.views }
+        ensures { IsWeakened Pram self.now.h.now self.now.of.now result }
     {
         let n = self.h.count;
-        let own = view_numbers(Criterion::Causal, &self.h.events[..n]);
-        let named = view_numbers(Criterion::Pram, &self.h.events[..n]);
+        let events = self.h.recorded_events();
+        let own = view_numbers(Criterion::Causal, events);
+        let named = view_numbers(Criterion::Pram, events);
         let processes = processes_of(&self.h.events);
-        let views = self.views(&own.numbers[..n]);
-        let made = completed_views(&processes[..n], &views, &named.numbers[..named.count]);
+        let views = self.views(own.all());
+        let made = completed_views(&processes[..n], &views, named.all());
         record_of(Criterion::Pram, no_pasts(), made)
     }
 
     // From strict to weak or causal: the same pasts, and each event's view is its process's view up to and with it.
     fn strict_to_events(&self, wanted: Criterion) -> ViewedRecord
         requires { (self.now.of.now.certificate.criterion ≡ Strict) × (event_each wanted ≡ true) }
-        ensures { IsRecordOf (weakened wanted (history_of self.now.h.now) (certificate_of self.now.h.now self.now.of.now.certificate self.now.of.now.views)) result.certificate result.views }
+        ensures { IsWeakened wanted self.now.h.now self.now.of.now result }
     {
         let n = self.h.count;
-        let named = view_numbers(Criterion::Strict, &self.h.events[..n]);
+        let named = view_numbers(Criterion::Strict, self.h.recorded_events());
         let processes = processes_of(&self.h.events);
         let pasts = self.of.certificate.pasts;
-        let views = self.views(&named.numbers[..named.count]);
+        let views = self.views(named.all());
         record_of(wanted, pasts, own_parts(&processes[..n], &views))
     }
 
     // From causal: to weak the same lists.
     fn from_causal(&self, wanted: Criterion) -> ViewedRecord
         requires { self.now.of.now.certificate.criterion ≡ Causal }
-        ensures { IsRecordOf (weakened wanted (history_of self.now.h.now) (certificate_of self.now.h.now self.now.of.now.certificate self.now.of.now.views)) result.certificate result.views }
+        ensures { IsWeakened wanted self.now.h.now self.now.of.now result }
     {
         match wanted {
             Criterion::Pram => self.causal_to_pram(),
-            Criterion::Weak => record_of(
-                Criterion::Weak,
-                self.of.certificate.pasts,
-                views_of(self.of),
-            ),
+            Criterion::Weak => ViewedRecord {
+                certificate: Certificate {
+                    criterion: Criterion::Weak,
+                    ..self.of.certificate
+                },
+                ..*self.of
+            },
             _ => *self.of,
         }
     }
 
     fn from_converge(&self, wanted: Criterion) -> ViewedRecord
         requires { self.now.of.now.certificate.criterion ≡ Converge }
-        ensures { IsRecordOf (weakened wanted (history_of self.now.h.now) (certificate_of self.now.h.now self.now.of.now.certificate self.now.of.now.views)) result.certificate result.views }
+        ensures { IsWeakened wanted self.now.h.now self.now.of.now result }
     {
         match wanted {
             Criterion::Weak => self.converge_to_weak(),
@@ -208,10 +200,17 @@ impl Passing<'_> {
     // From strict: to pram the same views.
     fn from_strict(&self, wanted: Criterion) -> ViewedRecord
         requires { self.now.of.now.certificate.criterion ≡ Strict }
-        ensures { IsRecordOf (weakened wanted (history_of self.now.h.now) (certificate_of self.now.h.now self.now.of.now.certificate self.now.of.now.views)) result.certificate result.views }
+        ensures { IsWeakened wanted self.now.h.now self.now.of.now result }
     {
         match wanted {
-            Criterion::Pram => record_of(Criterion::Pram, no_pasts(), views_of(self.of)),
+            Criterion::Pram => ViewedRecord {
+                certificate: Certificate {
+                    criterion: Criterion::Pram,
+                    pasts: no_pasts(),
+                    ..self.of.certificate
+                },
+                ..*self.of
+            },
             Criterion::Weak | Criterion::Causal => self.strict_to_events(wanted),
             _ => *self.of,
         }

@@ -1,5 +1,5 @@
 -- Laws of the answer with which a text is made. Assumes nothing.
-use Rattle.std.specs.Prelude.{Result, Ok, Err}
+use Rattle.std.specs.Prelude.{Result, Ok, Err, MatchResult, IsErrAnd}
 use Prim.Native.Nat.{ℕ}
 use native.Mathlib.Omega.{arith}
 use mathlib.Core.Path.{◌≡◌, refl, sym, ap, ap₂, ◌∙◌, subst}
@@ -14,6 +14,7 @@ use Rattle.history.specs.declared.record.History as WrittenHistory
 use Rattle.history.specs.Record.{events_in}
 use Rattle.history.specs.Readable.{within}
 use Rattle.history_reader.specs.Place.{nowhere}
+use Rattle.history_reader.proofs.ReadLaws.{kept}
 use Rattle.certificate.specs.declared.record.Criterion.{Criterion}
 use Rattle.certificate.specs.declared.record.Certificate as WrittenCertificate
 use Rattle.certificate.specs.Criteria.{has_pasts}
@@ -33,9 +34,9 @@ use Rattle.criteria.proofs.Weaken.{is_some, weaken-accepted, pair-weakened}
 use Rattle.criteria.proofs.OneLine.{one-line-accepted}
 use Rattle.faults.specs.declared.finding.Finding.{Finding}
 use Rattle.faults.specs.declared.finding.Finding.TheVariants.{LacksOwn, InOwnPast, LacksPast, NotItsSet, Against, Wrong, OutsidePast}
-use Rattle.faults.specs.Finding.{fault_in}
+use Rattle.faults.specs.Finding.{fault_in, finding_of}
 use Rattle.checker.specs.CheckText.{Verdict, checked, found_in}
-use Rattle.checker.specs.declared.check.Checked.{Checked}
+use Rattle.checker.specs.declared.checked.Checked.{Checked}
 use Rattle.checker.specs.Verdict.{checked_as}
 use Rattle.checker.specs.MadeText.{text_of_lists, text_if_some, made_answer}
 use Rattle.checker.proofs.ListTexts.{lists-fit, text-lists}
@@ -47,7 +48,7 @@ use Rattle.weakener.specs.declared.made.Wanted.{Wanted}
 use Rattle.weakener.specs.declared.made.Wanted.TheVariants.{Named, OneLine}
 use Rattle.weakener.specs.declared.made.Unmade.{Unmade}
 use Rattle.weakener.specs.declared.made.Unmade.TheVariants.{NotPair, Faulty, Crossing, TooShort}
-use Rattle.weakener.specs.Steps.{IsMade, may_be_made, lists_wanted, crosses_wanted, OrderWanted}
+use Rattle.weakener.specs.Steps.{IsMade, may_be_made, lists_wanted, crosses_wanted, OrderWanted, IsMadeOf}
 
 -- ---- the answers
 -- a fault is no acceptance
@@ -156,10 +157,28 @@ module _ (h : WrittenHistory.History) (c : WrittenCertificate.Certificate) (rows
   after_text = rw (w, f, says) refl
 
 -- ---- a record that was read
--- within its limits, and nothing is found of it
-pub passed : (h : WrittenHistory.History) (c : WrittenCertificate.Certificate) (rows : List (List ℕ))
-    → (within h ≡ true) × (fits (events_in h) c rows ≡ true) → none ≡ check (history_of h) (certificate_of h c rows) → Passed h c rows
-passed h c rows p e = record { history = p.0; certificate = p.1; passes = sym e }
+-- within its limits, and nothing is found of it; and what is wanted can be made of it
+pub record Makeable (h : WrittenHistory.History) (c : WrittenCertificate.Certificate) (rows : List (List ℕ)) (w : Wanted) : Type 0 where
+  pub may : may_be_made c.criterion w ≡ true
+  pub passed : Passed h c rows
+
+-- so where the answer of the check, with what it finds made an answer on texts, is none
+pub makeable : {h : WrittenHistory.History} {c : WrittenCertificate.Certificate} {rows : List (List ℕ)} {w : Wanted}
+    → (within h ≡ true) × (fits (events_in h) c rows ≡ true) → true ≡ may_be_made c.criterion w
+    → (r : Result (Unit {0}) Finding) (m : Result (Unit {0}) Checked) (Q : Finding → Checked → Type 0) → finding_of r ≡ check (history_of h) (certificate_of h c rows)
+    → MatchResult r (λ x. m ≡ Ok x) (λ e. IsErrAnd m (Q e)) → m ≡ Ok tt → Makeable h c rows w
+makeable p may r m Q e d was = record {
+  may = sym may;
+  passed = record { history = p.0; certificate = p.1; passes = sym e ∙ ap finding_of (kept r m Q tt d was) };
+}
+
+-- where one line is wanted, the order was read
+pub order-read : {h : WrittenHistory.History} {c : WrittenCertificate.Certificate} {rows : List (List ℕ)} {w : Wanted} → Makeable h c rows w → OrderWanted w h c
+order-read {h} {c} {rows} {w} m = go w m.may
+  where
+    go : (w : Wanted) → may_be_made c.criterion w ≡ true → OrderWanted w h c
+    go (Named w) t = tt
+    go OneLine t = record { history = m.passed.history; has = t; pasts = λ k l. short-passed h c rows m.passed k }
 
 module _ (history : List ℕ) (h : WrittenHistory.History) (c : WrittenCertificate.Certificate) (rows : List (List ℕ)) (w : Wanted) (buffer : List ℕ) where
   -- the lists, the text, whether updates cross, and the verdict of the check
@@ -175,89 +194,92 @@ module _ (history : List ℕ) (h : WrittenHistory.History) (c : WrittenCertifica
   abbrev verdict : Verdict
   verdict = found_in history h.declared c.criterion (check (history_of h) (certificate_of h c rows))
 
-  abbrev pub Answers : Result Made Unmade → List ℕ → Type 0
-  Answers r then = IsMade (made_answer verdict c.criterion cross text buffer) text buffer r then
+  abbrev Answers : Result Made Unmade → List ℕ → Type 0
+  Answers r then = IsMadeOf history h c rows w buffer r then
 
   -- the criterion is not of the sort: 17
-  pub refused-record : may_be_made c.criterion w ≡ false → Answers (Err (NotPair c.criterion)) buffer
+  pub refused-record : false ≡ may_be_made c.criterion w → Answers (Err (NotPair c.criterion)) buffer
   unfolding certificate_of
-  refused-record e =
-      answers-seventeen verdict c.criterion cross text buffer
-      (no_text (events_in h) lists (lists-some w (history_of h) (certificate_of h c rows) ∙ e))
+  refused-record e = record {
+    is =
+        answers-seventeen verdict c.criterion cross text buffer
+        (no_text (events_in h) lists (lists-some w (history_of h) (certificate_of h c rows) ∙ sym e));
+  }
 
-  module _ (may : may_be_made c.criterion w ≡ true) where
-    text-of : (t : List ℕ) × (text ≡ some t)
-    unfolding certificate_of
-    text-of = some-text (events_in h) lists (lists-some w (history_of h) (certificate_of h c rows) ∙ may)
+  text-of : may_be_made c.criterion w ≡ true → (t : List ℕ) × (text ≡ some t)
+  unfolding certificate_of
+  text-of may = some-text (events_in h) lists (lists-some w (history_of h) (certificate_of h c rows) ∙ may)
 
-    -- a fault of the check
-    pub faulty-record : (f : Finding) → some (fault_in f) ≡ check (history_of h) (certificate_of h c rows) → (k : Checked)
-        → checked_as k ≡ found_in history h.declared c.criterion (some (fault_in f)) → Answers (Err (Faulty k)) buffer
-    faulty-record f q k e =
-        answers-found verdict c.criterion cross text buffer text-of.0 f k text-of.1
-        (e ∙ ap (found_in history h.declared c.criterion) q)
-        (ap (λ (x : Option Fault). (answer_of x).number) (sym q))
+  -- a fault of the check
+  pub faulty-record : true ≡ may_be_made c.criterion w → (f : Finding) → some (fault_in f) ≡ check (history_of h) (certificate_of h c rows) → (k : Checked)
+      → checked_as k ≡ found_in history h.declared c.criterion (some (fault_in f)) → Answers (Err (Faulty k)) buffer
+  faulty-record may f q k e =
+      let t = text-of (sym may) in
+      record {
+        is =
+            answers-found verdict c.criterion cross text buffer t.0 f k t.1
+            (e ∙ ap (found_in history h.declared c.criterion) q)
+            (ap (λ (x : Option Fault). (answer_of x).number) (sym q));
+      }
 
-    module _ (p : Passed h c rows) where
-      -- where one line is wanted, the order was read
-      pub order-read : OrderWanted w h c
-      order-read = go w may
+  module _ (m : Makeable h c rows w) where
+    p : Passed h c rows
+    p = m.passed
+
+    wanted-text : (t : List ℕ) × (text ≡ some t)
+    wanted-text = text-of m.may
+
+    accepted : verdict ≡ checked nowhere c.criterion (answer_of none)
+    accepted = ap (found_in history h.declared c.criterion) p.passes
+
+    -- updates cross: 26
+    pub crossed-record : true ≡ cross → Answers (Err (Crossing c.criterion)) buffer
+    crossed-record z = record { is = answers-crossed verdict c.criterion cross text buffer wanted-text.0 wanted-text.1 accepted (sym z) }
+
+    -- the lists are those of a readable certificate
+    lists-readable : cross ≡ false → (d : Certificate) → lists ≡ some d → Readable (history_of h) d
+    lists-readable = go w
+      where
+        go : (w : Wanted) → crosses_wanted w (history_of h) (certificate_of h c rows) ≡ false
+            → (d : Certificate) → lists_wanted w (history_of h) (certificate_of h c rows) ≡ some d → Readable (history_of h) d
+        go (Named w) z d e =
+            (weaken-accepted (history_of h) w (certificate_of h c rows) d (processes-passed h c rows p) (readable-passed h c rows p) p.passes e).readable
+        go OneLine z d e =
+            (one-line-accepted (history_of h) (certificate_of h c rows) d (processes-passed h c rows p) (readable-passed h c rows p) p.passes z e).readable
+
+    -- the record of the lists, written: what the writer answers and leaves in the buffer is of the text of the lists
+    module _ (z : false ≡ cross) (r : WrittenCertificate.Certificate) (made : List (List ℕ)) (is : IsRecordOf lists r made) (then : List ℕ)
+        (b : then ≡ certificate_after h r made buffer) where
+      abbrev Told : List ℕ → Written → Type 0
+      Told t x = x ≡ cond (leb (length t) (length buffer)) record { number = 0; length = length t } record { number = 18; length = 0 }
+
+      told : (x : Written) → x ≡ certificate_written h r made buffer → (t : List ℕ) × (text ≡ some t) × (then ≡ after t buffer) × Told t x
+      unfolding certificate_of
+      told x q = go lists refl
         where
-          go : (w : Wanted) → may_be_made c.criterion w ≡ true → OrderWanted w h c
-          go (Named w) t = tt
-          go OneLine t = record { history = p.history; has = t; pasts = λ k l. short-passed h c rows p k }
+          go : (o : Option Certificate) → lists ≡ o → (t : List ℕ) × (text ≡ some t) × (then ≡ after t buffer) × Told t x
+          go none e = absurd (false≢true (sym (ap is_some e) ∙ lists-some w (history_of h) (certificate_of h c rows) ∙ m.may))
+          go (some d) e =
+              let readable = lists-readable (sym z) d e in
+              let fit = lists-fit h (few-events h c rows p) d readable in
+              let says = text-lists h (few-events h c rows p) d readable in
+              let same = subst (λ (o : Option Certificate). IsRecordOf o r made) e is in (
+                text_of_lists (events_in h) d,
+                ap (text_if_some (events_in h)) e,
+                b ∙ ap₂ (λ (x : WrittenCertificate.Certificate) (l : List (List ℕ)). certificate_after h x l buffer) same.0 same.1
+                    ∙ after_text h _ _ p.history fit (text_of_lists (events_in h) d) says buffer,
+                q ∙ ap₂ (λ (x : WrittenCertificate.Certificate) (l : List (List ℕ)). certificate_written h x l buffer) same.0 same.1
+                    ∙ written-text h _ _ p.history fit (text_of_lists (events_in h) d) says buffer,
+              )
 
-      accepted : verdict ≡ checked nowhere c.criterion (answer_of none)
-      accepted = ap (found_in history h.declared c.criterion) p.passes
+      pub made-record : (n : ℕ) → ◌≡◌ {A = Written} (record { number = 0; length = n }) (certificate_written h r made buffer)
+          → Answers (Ok record { criterion = c.criterion; length = n }) then
+      made-record n q =
+          let s = told record { number = 0; length = n } q in
+          record { is = answers-made verdict c.criterion cross text buffer s.0 then s.1 accepted (sym z) s.2 n s.3 }
 
-      -- updates cross: 26
-      pub crossed-record : cross ≡ true → Answers (Err (Crossing c.criterion)) buffer
-      crossed-record z = answers-crossed verdict c.criterion cross text buffer text-of.0 text-of.1 accepted z
-
-      -- the lists are those of a readable certificate
-      lists-readable : cross ≡ false → (d : Certificate) → lists ≡ some d → Readable (history_of h) d
-      lists-readable = go w
-        where
-          go : (w : Wanted) → crosses_wanted w (history_of h) (certificate_of h c rows) ≡ false
-              → (d : Certificate) → lists_wanted w (history_of h) (certificate_of h c rows) ≡ some d → Readable (history_of h) d
-          go (Named w) z d e =
-              (weaken-accepted (history_of h) w (certificate_of h c rows) d (processes-passed h c rows p) (readable-passed h c rows p) p.passes e).readable
-          go OneLine z d e =
-              (one-line-accepted (history_of h) (certificate_of h c rows) d (processes-passed h c rows p) (readable-passed h c rows p) p.passes z e).readable
-
-      -- the record of the lists, written: what the writer answers and leaves in the buffer is of the text of the lists
-      module _ (z : cross ≡ false) (r : WrittenCertificate.Certificate) (made : List (List ℕ)) (is : IsRecordOf lists r made) (then : List ℕ)
-          (b : then ≡ certificate_after h r made buffer) where
-        abbrev Told : List ℕ → Written → Type 0
-        Told t x = x ≡ cond (leb (length t) (length buffer)) record { number = 0; length = length t } record { number = 18; length = 0 }
-
-        told : (x : Written) → x ≡ certificate_written h r made buffer → (t : List ℕ) × (text ≡ some t) × (then ≡ after t buffer) × Told t x
-        unfolding certificate_of
-        told x q = go lists refl
-          where
-            go : (o : Option Certificate) → lists ≡ o → (t : List ℕ) × (text ≡ some t) × (then ≡ after t buffer) × Told t x
-            go none e = absurd (false≢true (sym (ap is_some e) ∙ lists-some w (history_of h) (certificate_of h c rows) ∙ may))
-            go (some d) e =
-                let readable = lists-readable z d e in
-                let fit = lists-fit h (few-events h c rows p) d readable in
-                let says = text-lists h (few-events h c rows p) d readable in
-                let same = subst (λ (o : Option Certificate). IsRecordOf o r made) e is in (
-                  text_of_lists (events_in h) d,
-                  ap (text_if_some (events_in h)) e,
-                  b ∙ ap₂ (λ (x : WrittenCertificate.Certificate) (l : List (List ℕ)). certificate_after h x l buffer) same.0 same.1
-                      ∙ after_text h _ _ p.history fit (text_of_lists (events_in h) d) says buffer,
-                  q ∙ ap₂ (λ (x : WrittenCertificate.Certificate) (l : List (List ℕ)). certificate_written h x l buffer) same.0 same.1
-                      ∙ written-text h _ _ p.history fit (text_of_lists (events_in h) d) says buffer,
-                )
-
-        pub made-record : (n : ℕ) → ◌≡◌ {A = Written} (record { number = 0; length = n }) (certificate_written h r made buffer)
-            → Answers (Ok record { criterion = c.criterion; length = n }) then
-        made-record n q =
-            let s = told record { number = 0; length = n } q in
-            answers-made verdict c.criterion cross text buffer s.0 then s.1 accepted z s.2 n s.3
-
-        pub short-record : (f : WriteFault) → ◌≡◌ {A = Written} (record { number = write_fault_number f; length = 0 }) (certificate_written h r made buffer)
-            → Answers (Err (TooShort c.criterion)) then
-        short-record f q =
-            let s = told record { number = write_fault_number f; length = 0 } q in
-            answers-short verdict c.criterion cross text buffer s.0 then s.1 accepted z s.2 f s.3
+      pub short-record : (f : WriteFault) → ◌≡◌ {A = Written} (record { number = write_fault_number f; length = 0 }) (certificate_written h r made buffer)
+          → Answers (Err (TooShort c.criterion)) then
+      short-record f q =
+          let s = told record { number = write_fault_number f; length = 0 } q in
+          record { is = answers-short verdict c.criterion cross text buffer s.0 then s.1 accepted (sym z) s.2 f s.3 }

@@ -20,12 +20,10 @@ use Rattle.certificate.specs.Record.{no_row}
 use Rattle.certificate_reader.specs.declared.read.Unread.{Unread}
 use Rattle.certificate_reader.specs.declared.read.Unread.TheVariants.{NoHistory, NoCertificate}
 use Rattle.certificate_reader.specs.ReadCertificate.{CertificateRead, texts_read, refusal_in, read_certificate, rows_read}
-use Rattle.criteria.specs.Check.{check}
 use Rattle.criteria.specs.Records.{history_of, certificate_of}
-use Rattle.checker.specs.CheckText.{Verdict, refused, found_in, history_read, certificate_read, check_text}
+use Rattle.checker.specs.CheckText.{Verdict, refused, history_read, certificate_read, check_text}
 use Rattle.checker.specs.MadeText.{text_if_some, plain, made_answer, made_verdict, length_made, bytes_made}
 use Rattle.checker.specs.WeakenText.{weakened_text, wanted_of, weakened_wanted, weaken_answer, weaken_length, weaken_bytes}
-use Rattle.checker.specs.OneLine.{one_line_text, crossing, line_answer, line_length, line_bytes}
 use Rattle.checker.proofs.VerdictLaws.{unread-fault, no-fault, of-texts, checked-read}
 use Rattle.weakener.specs.declared.made.Made.{Made}
 use Rattle.weakener.specs.declared.made.Wanted.{Wanted}
@@ -33,7 +31,7 @@ use Rattle.weakener.specs.declared.made.Wanted.TheVariants.{OneLine}
 use Rattle.weakener.specs.declared.made.Unmade.{Unmade}
 use Rattle.weakener.specs.declared.made.Unmade.TheVariants.{Refused, NotPair}
 use Rattle.weakener.specs.Made.{verdict_made, length_of}
-use Rattle.weakener.specs.Steps.{IsMade, wanted_in, lists_wanted, crosses_wanted, text_wanted, crossing_wanted}
+use Rattle.weakener.specs.Steps.{IsMade, IsMadeOf, wanted_in, lists_wanted, crosses_wanted, text_wanted, crossing_wanted}
 
 -- ---- the answer of two texts
 module _ (wanted : code.Option Wanted) (history text buffer : List ℕ) where
@@ -97,19 +95,14 @@ module _ (wanted : code.Option Wanted) (history text buffer : List ℕ) where
             (λ (h : History) (c : Certificate) (l : List (List ℕ)). crosses_wanted w (history_of h) (certificate_of h c l))
 
         pub texts-read : wanted ≡ code.Some w → (k : Result Made Unmade) (then : List ℕ)
-            → IsMade (made_answer (found_in history r.history.declared r.certificate.criterion
-            (check (history_of r.history) (certificate_of r.history r.certificate rows))) r.certificate.criterion
-            (crosses_wanted w (history_of r.history) (certificate_of r.history r.certificate rows))
-            (text_if_some (events_in r.history) (lists_wanted w (history_of r.history) (certificate_of r.history r.certificate rows))) buffer)
-            (text_if_some (events_in r.history) (lists_wanted w (history_of r.history) (certificate_of r.history r.certificate rows))) buffer k then
-            → AnswersTexts k then
+            → IsMadeOf history r.history r.certificate rows w buffer k then → AnswersTexts k then
         texts-read q k then p =
             subst (λ (x : code.Option Wanted). Answers x k then) (sym q)
             (rw readable
             (subst (As (check_text history text) (certificate_read history text).criterion (crossing_wanted (code.Some w) history text)) lists-read
             (subst (λ (x : Bool). As (check_text history text) (certificate_read history text).criterion x made) cross-read
             (subst (λ (c : Criterion). As (check_text history text) c cross made) criterion-read
-            (subst (λ (v : Verdict). As v r.certificate.criterion cross made) (checked-read history text r read z rows rows-read) p)))))
+            (subst (λ (v : Verdict). As v r.certificate.criterion cross made) (checked-read history text r read z rows rows-read) p.is)))))
           where
             As : Verdict → Criterion → Bool → Option (List ℕ) → Type 0
             As v c x t = IsMade (made_answer v c x t buffer) t buffer k then
@@ -147,9 +140,3 @@ weakens-to history text wanted buffer w q k then p =
         (verdict_made k ≡ v) × (is_ok k ≡ eqb v.number 0) × (length_of k ≡ length_made v (weakened_wanted history text o)) × (then ≡ bytes_made v (weakened_wanted history text o) buffer)
     go none p = (p.answer, p.made, p.long, p.bytes)
     go (some w) p = (p.answer, p.made, p.long, p.bytes)
-
--- ---- one line
-pub in-line : (history text buffer : List ℕ) (k : Result Made Unmade) (then : List ℕ) → AnswersTexts (code.Some OneLine) history text buffer k then
-    → (verdict_made k ≡ line_answer history text buffer) × (is_ok k ≡ eqb (line_answer history text buffer).number 0) × (length_of k ≡ line_length history text buffer) × (then ≡ line_bytes history text buffer)
-unfolding line_answer line_length line_bytes one_line_text crossing
-in-line history text buffer k then p = (p.answer, p.made, p.long, p.bytes)

@@ -12,8 +12,10 @@ use Rattle.criteria.specs.History.{History}
 use Rattle.criteria.specs.Certificate.{Certificate, order}
 use Rattle.criteria.specs.Weaken.{is_pair, weakened}
 use Rattle.criteria.specs.OneLine.{crosses, in_one_line}
-use Rattle.checker.specs.CheckText.{Verdict, history_read, certificate_read}
-use Rattle.checker.specs.MadeText.{text_if_some, length_made, bytes_made}
+use Rattle.criteria.specs.Check.{check}
+use Rattle.criteria.specs.Records.{history_of, certificate_of}
+use Rattle.checker.specs.CheckText.{Verdict, found_in, history_read, certificate_read}
+use Rattle.checker.specs.MadeText.{text_if_some, made_answer, length_made, bytes_made}
 use Rattle.one_line.specs.Steps.{OrderRead}
 use Rattle.weakener.specs.declared.made.Made.{Made}
 use Rattle.weakener.specs.declared.made.Wanted.{Wanted}
@@ -61,3 +63,10 @@ pub record IsMade (v : Verdict) (t : Option (List ℕ)) (buffer : List ℕ) (r :
   pub made : is_ok r ≡ eqb v.number 0
   pub long : length_of r ≡ length_made v t
   pub bytes : after ≡ bytes_made v t buffer
+
+-- The same of the record of a certificate that was read, whatever is wanted of it; h is the record of the history text.
+pub record IsMadeOf (history : List ℕ) (h : WrittenHistory.History) (c : WrittenCertificate.Certificate) (rows : List (List ℕ)) (w : Wanted)
+    (buffer : List ℕ) (r : Result Made Unmade) (after : List ℕ) : Type 0 where
+  pub is : IsMade (made_answer (found_in history h.declared c.criterion (check (history_of h) (certificate_of h c rows))) c.criterion
+      (crosses_wanted w (history_of h) (certificate_of h c rows)) (text_if_some (events_in h) (lists_wanted w (history_of h) (certificate_of h c rows))) buffer)
+      (text_if_some (events_in h) (lists_wanted w (history_of h) (certificate_of h c rows))) buffer r after

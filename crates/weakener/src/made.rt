@@ -1,17 +1,15 @@
 // A certificate text made of an accepted one: both texts are read, the certificate is checked, and the text of the lists that are wanted is
 // written.
-ghost use Rattle.std.specs.Prelude.{◌≡◌, true, List, ℕ, Option};
+ghost use Rattle.std.specs.Prelude.{◌≡◌, true, List, ℕ};
 ghost use Rattle.history.specs.Record.{events_in};
 ghost use Rattle.history.specs.Readable.{within};
 ghost use Rattle.certificate.specs.Readable.{fits};
-ghost use Rattle.criteria.specs.Check.{check};
 ghost use Rattle.criteria.specs.Records.{history_of, certificate_of};
-ghost use Rattle.checker.specs.CheckText.{found_in};
-ghost use Rattle.checker.specs.MadeText.{text_if_some, made_answer, made_verdict};
+ghost use Rattle.checker.specs.MadeText.{made_verdict};
 ghost use Rattle.weakened_records.specs.Steps.{Passed, IsRecordOf};
 ghost use Rattle.certificate_reader.specs.ReadCertificate.{refusal_in};
-ghost use Rattle.weakener.specs.declared.made.Unmade.TheVariants.{Refused};
-ghost use Rattle.weakener.specs.Steps.{may_be_made, lists_wanted, crosses_wanted, text_wanted, crossing_wanted, OrderWanted, IsMade};
+ghost use Rattle.weakener.specs.declared.made.Unmade.TheVariants.{Refused, Faulty};
+ghost use Rattle.weakener.specs.Steps.{may_be_made, lists_wanted, crosses_wanted, text_wanted, crossing_wanted, OrderWanted, IsMade, IsMadeOf};
 
 use crate::pairs::is_pair;
 use certificate::criterion::has_pasts;
@@ -55,7 +53,17 @@ impl From<Unread> for Unmade {
     }
 }
 
+impl From<Checked> for Unmade {
+    ghost from_gives = { λ k r. r ≡ Faulty k };
+
+    fn from(checked: Checked) -> Unmade {
+        Unmade::Faulty(checked)
+    }
+}
+
 // What is wanted of a certificate: to be weakened to a criterion, or to be put in one line.
+// Kept: no `Option` of a criterion, since one line is a wish too; no trait or closures, since `lists_wanted`, `crosses_wanted` and
+// `OrderWanted` of specs/Steps speak of this enum.
 #[derive(Clone, Copy)]
 pub enum Wanted {
     Named(Criterion),
@@ -105,16 +113,15 @@ fn make_record(
     history: &[u8],
 ) -> Result<Made, Unmade>
     requires { (within h.now ≡ true) × (fits (events_in h.now) of.now.certificate of.now.views ≡ true) }
-    ensures { IsMade (made_answer (found_in history.now h.now.declared of.now.certificate.criterion (check (history_of h.now) (certificate_of h.now of.now.certificate of.now.views))) of.now.certificate.criterion (crosses_wanted wanted (history_of h.now) (certificate_of h.now of.now.certificate of.now.views)) (text_if_some (events_in h.now) (lists_wanted wanted (history_of h.now) (certificate_of h.now of.now.certificate of.now.views))) buffer.old) (text_if_some (events_in h.now) (lists_wanted wanted (history_of h.now) (certificate_of h.now of.now.certificate of.now.views))) buffer.old result buffer.new }
+    ensures { IsMadeOf history.now h.now of.now.certificate of.now.views wanted buffer.old result buffer.new }
 {
     let criterion = of.certificate.criterion;
     if !may_be_made(criterion, wanted) {
         return Err(Unmade::NotPair(criterion));
     }
-    if let Err(finding) = check_records(h, &of.certificate, &of.views) {
-        let checked = found(history, h.declared, criterion, Some(finding));
-        return Err(Unmade::Faulty(checked));
-    }
+    check_records(h, &of.certificate, &of.views).map_err(|finding| {
+        found(history, h.declared, criterion, Some(finding))
+    })?;
     if crosses_wanted(h, &of.certificate, wanted) {
         return Err(Unmade::Crossing(criterion));
     }

@@ -7,6 +7,7 @@ ghost use Rattle.weakener.specs.Made.{verdict_made, length_of};
 use crate::made::{Made, Unmade, Wanted, make};
 
 // The sequential certificate text of a certificate text for a history text whose causal order orders every two updates, into a lent buffer.
+#[tactic(auto, unfolding(checker::specs::OneLine::line_answer, checker::specs::OneLine::line_length, checker::specs::OneLine::line_bytes, checker::specs::OneLine::one_line_text, checker::specs::OneLine::crossing))]
 pub fn sequential(history: &[u8], text: &[u8], buffer: &mut [u8]) -> Result<Made, Unmade>
     ensures answer { verdict_made result ≡ line_answer history.now text.now buffer.old }
     ensures made { is_ok result ≡ eqb (line_answer history.now text.now buffer.old).number 0 }

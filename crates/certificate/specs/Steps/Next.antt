@@ -1,8 +1,8 @@
 -- What the reader keeps of the line of a list that a text begins with.
-use Rattle.std.specs.Prelude.{ℕ, ◌≤◌, ◌≡◌, Bool, true, cond, not, ◌||◌, List, ◌∷◌, ◌++◌, length, take, ltb}
-use Rattle.layout.specs.Split.{find}
+use Rattle.std.specs.Prelude.{ℕ, ◌≤◌, ◌≡◌, Bool, true, not, ◌||◌, List, ◌∷◌, ◌++◌, length}
 use Rattle.layout.specs.List.{list_text}
 use Rattle.history.specs.Readable.{all_less}
+use Rattle.history.specs.Steps.Next.{line_read}
 use Rattle.certificate.specs.declared.record.EventList.{EventList}
 use Rattle.certificate.specs.Record.{no_list, event_list_of}
 use Rattle.certificate.specs.Faults.{rising}
@@ -10,9 +10,8 @@ use Rattle.certificate.specs.CertificateText.{list_line}
 use Rattle.certificate.specs.Steps.Lists.{ListLine, list_read}
 
 -- What the line is that a text begins with: its list, or its first fault. A line without a line feed has fault 2.
-unfoldable pub next_read : Bool → ℕ → ℕ → List ℕ → ListLine
-next_read past count own text =
-    cond (ltb (find 10 text) (length text)) (list_read past count own (take (find 10 text) text)) (record { fault = 2; list = no_list })
+abbrev pub next_read : Bool → ℕ → ℕ → List ℕ → ListLine
+next_read past count own text = line_read (list_read past count own) (record { fault = 2; list = no_list }) text
 
 -- A list that a line may say without a fault: no more entries than events, each an event, and a past strictly rising.
 pub record Good (past : Bool) (count : ℕ) (xs : List ℕ) : Type 0 where

@@ -1,15 +1,14 @@
 -- The lines as they are written, and the limits of so many pasts and views.
 use Rattle.std.specs.Prelude.{ℕ, Bool, cond, ◌&&◌, List, [], ◌∷◌, ◌++◌, length, get_or, take, drop, eqb}
-use Rattle.layout.specs.Word.{criterion_word, past_heading, view_heading}
-use Rattle.layout.specs.Number.{spell}
-use Rattle.layout.specs.List.{list_text}
+use Rattle.layout.specs.Word.{past_heading, view_heading}
 use Rattle.layout.specs.Pieces.{pieces_from}
 use Rattle.history.specs.Readable.{all_zero}
 use Rattle.certificate.specs.declared.record.Criterion.{Criterion}
 use Rattle.certificate.specs.declared.record.EventList.{EventList}
 use Rattle.certificate.specs.declared.record.Certificate.{Certificate}
 use Rattle.certificate.specs.Record.{no_list, entries_in}
-use Rattle.certificate.specs.Criteria.{word_of, has_pasts}
+use Rattle.certificate.specs.Criteria.{has_pasts}
+use Rattle.certificate.specs.CertificateText.{list_line, criterion_text}
 use Rattle.certificate.specs.Readable.{good_pasts, blank_lists, good_rows, blank_rows}
 
 -- The limits of a record with k pasts and m views, of a history with `count` events.
@@ -22,13 +21,13 @@ parts_fit count k m c rows =
     && all_zero (drop m c.lengths)
     && blank_rows (drop m rows)
 
--- The first line, its line feed too: the heading and its space, and the word and its line feed.
+-- The first line, its line feed too.
 abbrev pub first_bytes : Criterion → List ℕ
-first_bytes c = (criterion_word ++ 32 ∷ []) ++ (word_of c ++ 10 ∷ [])
+first_bytes c = criterion_text c ++ 10 ∷ []
 
--- The line of a number and a list, its line feed too: the number and its space, and the list and its line feed.
+-- The line of a number and a list, its line feed too.
 abbrev pub line_bytes : ℕ → List ℕ → List ℕ
-line_bytes own xs = (spell own ++ 32 ∷ []) ++ (list_text xs ++ 10 ∷ [])
+line_bytes own xs = list_line own xs ++ 10 ∷ []
 
 -- The line of the past i.
 abbrev pub past_piece : List EventList → ℕ → List ℕ

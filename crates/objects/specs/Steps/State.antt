@@ -1,18 +1,10 @@
 -- What the parts of a step tell of a state and of an answer. Assumes nothing.
-use Rattle.std.specs.Prelude.{ℕ, ◌≡◌, Bool, List, take, replicate}
+use Rattle.std.specs.Prelude.{ℕ, ◌≡◌, List, take}
 use Rattle.history.specs.declared.record.Object.{Object}
 use Rattle.criteria.specs.Object.{top}
 use Rattle.objects.specs.State.{contents_of, given_of, is_stack}
 use Rattle.objects.specs.declared.state.State.{State}
 use Rattle.objects.specs.declared.state.Given.{Given}
-
--- A state of t values of the start, of which pop takes the newest if b is true, and of at most m values.
-pub record Starts (t : ℕ) (b : Bool) (m : ℕ) (r : State) : Type 0 where
-  pub newest : r.newest ≡ b
-  pub limit : r.limit ≡ m
-  pub head : r.head ≡ 0
-  pub tail : r.tail ≡ t
-  pub numbers : r.numbers ≡ replicate 65 64
 
 -- An answer of these numbers.
 pub record Names (l : List ℕ) (r : Given) : Type 0 where

@@ -21,8 +21,8 @@ returns-in_err-history c =
       history-refused-rows c.args.history.now c.args.text.now c.args.rows.now f.0 q,
     )
 
-pub shared_ref_as_front-read_text : goal.shared_ref_as_front-read_text
-shared_ref_as_front-read_text c =
+pub recorded_events-requires : goal.recorded_events-requires
+recorded_events-requires c =
     let k = kept c.read_history.result c.map_err.result _ c.in_ok-history.history c.map_err.ensures.cases c.in_ok-history.was in
     let q = ap history_read (sym k) ∙ c.read_history.ensures in
     subst (λ (h : HistoryRead). h.history.count ≤ 64) (sym q) (few-counted c.args.history.now)
@@ -35,7 +35,7 @@ returns-in_err-certificate c =
     let f = failed c.read_text.result c.map_err-2.result _ c.in_err-certificate.field-0.0 c.map_err-2.ensures.cases c.in_err-certificate.was in
     let learnt = f.1.1 in
     let is : c.in_err-certificate.field-0.0 ≡ NoCertificate c.in_ok-history.history f.0 = search rules in
-    let w = rw f.1.0 at c.read_text.ensures in
+    let w = rw (f.1.0, c.recorded_events.ensures.events) at c.read_text.ensures in
     rw (p.1, p.2, is) (
       lines-refused-answer c.args.history.now c.args.text.now c.args.rows.now c.in_ok-history.history q f.0 w.0,
       w.1 ∙ lines-refused-rows c.args.history.now c.args.text.now c.args.rows.now c.in_ok-history.history q f.0 w.0,
@@ -46,7 +46,7 @@ returns c =
     let k = kept c.read_history.result c.map_err.result _ c.in_ok-history.history c.map_err.ensures.cases c.in_ok-history.was in
     let q = ap history_read (sym k) ∙ c.read_history.ensures in
     let l = kept c.read_text.result c.map_err-2.result _ c.in_ok-certificate.certificate c.map_err-2.ensures.cases c.in_ok-certificate.was in
-    let d = rw l at c.read_text.ensures in (
+    let d = rw (l, c.recorded_events.ensures.events) at c.read_text.ensures in (
       both-answer c.args.history.now c.args.text.now c.args.rows.now c.in_ok-history.history q c.in_ok-certificate.certificate c.read_text.new.rows d,
       both-rows c.args.history.now c.args.text.now c.args.rows.now c.in_ok-history.history q c.in_ok-certificate.certificate c.read_text.new.rows d,
     )

@@ -9,11 +9,11 @@ use Rattle.faults.proofs.RecordFacts.{process-small, numbers-long}
 use Rattle.faults.proofs.CheckLaws.{few-of, short-past, short-views, event-views, few-views, order-stops, views-stop, replay-stops, take-few, taken}
 use Rattle.faults.proofs.check.check_records.Goals as goal
 
-pub shared_ref_as_front-view_numbers : goal.shared_ref_as_front-view_numbers
-shared_ref_as_front-view_numbers c = few-of c.args.h.now c.requires.0
+pub recorded_events-requires : goal.recorded_events-requires
+recorded_events-requires c = few-of c.args.h.now c.requires.0
 
 pub view_numbers-named-requires : goal.view_numbers-named-requires
-view_numbers-named-requires c = take-few c.args.h.now.count c.args.h.now.events (few-of c.args.h.now c.requires.0)
+view_numbers-named-requires c = omega (arith, c.recorded_events.ensures.count, few-of c.args.h.now c.requires.0)
 
 pub slice_bounds-processes-end : goal.slice_bounds-processes-end
 slice_bounds-processes-end c =
@@ -49,7 +49,7 @@ program_rows-program-requires c =
 
 pub order_rows-rows-requires : goal.order_rows-rows-requires
 order_rows-rows-requires c =
-    let views = few-views c.args.h.now c.args.c.now c.args.views.now c.requires c.view_numbers-named.result c.view_numbers-named.ensures in (
+    let views = few-views _ _ _ c.requires _ (rw c.recorded_events.ensures.events at c.view_numbers-named.ensures) in (
       take-few c.args.h.now.count c.args.c.now.pasts (few-of c.args.h.now c.requires.0),
       λ e k l.
           let i : k < c.args.h.now.count = taken c.args.h.now.count c.args.c.now.pasts k l in
@@ -58,7 +58,7 @@ order_rows-rows-requires c =
 
 pub invariant_of-views-clause-events : goal.invariant_of-views-clause-events
 invariant_of-views-clause-events c =
-    let views = few-views c.args.h.now c.args.c.now c.args.views.now c.requires c.view_numbers-named.result c.view_numbers-named.ensures in
+    let views = few-views _ _ _ c.requires _ (rw c.recorded_events.ensures.events at c.view_numbers-named.ensures) in
     let m = c.view_numbers-named.result.count in
     rw (c.all.ensures.first, numbers-long c.view_numbers-named.result _ c.view_numbers-named.ensures.0)
     (views-first c.args.views.now c.args.c.now.lengths m 64 (short-views c.args.h.now c.requires.0 c.args.c.now c.args.views.now c.requires.1 views m c.view_numbers-named.ensures.1))
@@ -66,35 +66,28 @@ invariant_of-views-clause-events c =
 pub returns-in_err-order_fault : goal.returns-in_err-order_fault
 returns-in_err-order_fault c =
     let back = err_from_is_err_and c.from_residual.result c.from_residual.ensures.1 in
-    let is = order-stops c.args.h.now c.args.c.now c.args.views.now c.requires c.view_numbers-named.result c.view_numbers-named.ensures
-    c.processes_of-processes.result (search rules) c.processes_of-processes.ensures c.program_rows-program.result c.program_rows-program.ensures
-    c.order_rows-rows.result c.order_rows-rows.ensures c.past_count.result c.past_count.ensures
-    c.order_fault.result c.order_fault.ensures c.in_err-order_fault.field-0.0 c.in_err-order_fault.was in
+    let is = order-stops _ _ _ c.requires _ (rw c.recorded_events.ensures.events at c.view_numbers-named.ensures) _ (search rules) c.processes_of-processes.ensures _ c.program_rows-program.ensures _ c.order_rows-rows.ensures _ c.past_count.ensures
+    _ c.order_fault.ensures c.in_err-order_fault.was in
     rw (back.1, back.2) (ap finding_of (sym c.in_err-order_fault.was) ∙ is)
 
 pub returns-in_err-view_fault : goal.returns-in_err-view_fault
 returns-in_err-view_fault c =
     let back = err_from_is_err_and c.from_residual-in_err-view_fault.result c.from_residual-in_err-view_fault.ensures.1 in
-    let is = views-stop c.args.h.now c.args.c.now c.args.views.now c.requires c.view_numbers-named.result c.view_numbers-named.ensures
-    c.processes_of-processes.result (search rules) c.processes_of-processes.ensures c.program_rows-program.result c.program_rows-program.ensures
-    c.order_rows-rows.result c.order_rows-rows.ensures c.past_count.result c.past_count.ensures
-    c.order_fault.result c.order_fault.ensures _ c.in_ok-order_fault.was c.view_fault.result (rw c.all.ensures.first at c.view_fault.ensures) c.in_err-view_fault.field-0.0 c.in_err-view_fault.was in
+    let is = views-stop _ _ _ c.requires _ (rw c.recorded_events.ensures.events at c.view_numbers-named.ensures) _ (search rules) c.processes_of-processes.ensures _ c.program_rows-program.ensures _ c.order_rows-rows.ensures _ c.past_count.ensures
+    _ c.order_fault.ensures c.in_ok-order_fault.was _ (rw c.all.ensures.first at c.view_fault.ensures) c.in_err-view_fault.was in
     rw (back.1, back.2) (ap finding_of (sym c.in_err-view_fault.was) ∙ is)
 
 pub replay_fault-requires : goal.replay_fault-requires
 replay_fault-requires c =
-    let views = few-views c.args.h.now c.args.c.now c.args.views.now c.requires c.view_numbers-named.result c.view_numbers-named.ensures in
+    let views = few-views _ _ _ c.requires _ (rw c.recorded_events.ensures.events at c.view_numbers-named.ensures) in
     let m = c.view_numbers-named.result.count in
     let long = numbers-long c.view_numbers-named.result _ c.view_numbers-named.ensures.0 in (
       c.requires.0,
-      c.all.ensures.all _ c.view_numbers-named.ensures.0,
+      c.all.ensures.all _ (rw c.recorded_events.ensures.events at c.view_numbers-named.ensures).0,
       rw (c.all.ensures.first, long) (views-first c.args.views.now c.args.c.now.lengths m c.args.h.now.count (event-views c.args.h.now c.requires.0 c.args.c.now c.args.views.now c.requires.1 views m c.view_numbers-named.ensures.1)),
     )
 
 pub returns : goal.returns
 returns c =
-    replay-stops c.args.h.now c.args.c.now c.args.views.now c.requires c.view_numbers-named.result c.view_numbers-named.ensures
-    c.processes_of-processes.result (search rules) c.processes_of-processes.ensures c.program_rows-program.result c.program_rows-program.ensures
-    c.order_rows-rows.result c.order_rows-rows.ensures c.past_count.result c.past_count.ensures
-    c.order_fault.result c.order_fault.ensures _ c.in_ok-order_fault.was c.view_fault.result (rw c.all.ensures.first at c.view_fault.ensures) _ c.in_ok-view_fault.was
-    c.replay_fault.result c.replay_fault.ensures
+    replay-stops _ _ _ c.requires _ (rw c.recorded_events.ensures.events at c.view_numbers-named.ensures) _ (search rules) c.processes_of-processes.ensures _ c.program_rows-program.ensures _ c.order_rows-rows.ensures _ c.past_count.ensures
+    _ c.order_fault.ensures c.in_ok-order_fault.was _ (rw c.all.ensures.first at c.view_fault.ensures) c.in_ok-view_fault.was _ c.replay_fault.ensures

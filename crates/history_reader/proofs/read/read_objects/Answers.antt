@@ -22,17 +22,15 @@ loop-line-init c = record { to = omega arith; filled = filled_none 16 no_object 
 
 pub returns-in_default : goal.returns-in_default
 returns-in_default c =
-    let found = part-last 10 c.args.text.now c.loop-line.start c.loop-line.invariant.to c.in_default.ensures.0 in
+    let found = part-last 10 c.args.text.now c.loop-line.start c.loop-line.invariant.to (search rules) in
     c.loop-line.invariant.says
     ∙ objects-end (c.loop-line.declared + 2) c.args.text.now c.loop-line.start (length c.args.text.now) found c.loop-line.invariant.to (omega arith) _ (omega arith)
     ∙ sym c.refuse.ensures
 
 pub returns-then-is_word : goal.returns-then-is_word
 returns-then-is_word c =
-    let p = part-told 10 c.args.text.now c.loop-line.start c.in-Some.line.now c.loop-line.invariant.to c.in-Some.ensures.0 c.in-Some.ensures.1 in
+    let p = part-told 10 c.args.text.now c.loop-line.start c.in-Some.line.now c.loop-line.invariant.to (search rules) (search rules) in
     record {
-      few = c.loop-line.invariant.filled.few;
-      pads = c.loop-line.invariant.filled.pads;
       to = omega (arith, p.1);
       says =
           c.loop-line.invariant.says
@@ -42,7 +40,7 @@ returns-then-is_word c =
 
 pub returns-in_err-objects : goal.returns-in_err-objects
 returns-in_err-objects c =
-    let p = part-told 10 c.args.text.now c.loop-line.start c.in-Some.line.now c.loop-line.invariant.to c.in-Some.ensures.0 c.in-Some.ensures.1 in
+    let p = part-told 10 c.args.text.now c.loop-line.start c.in-Some.line.now c.loop-line.invariant.to (search rules) (search rules) in
     let r = err_from_is_err_and c.from_residual.result c.from_residual.ensures.1 in
     let f = failed c.read_object.result c.map_err.result _ c.in_err-objects.field-0.0 c.map_err.ensures.cases c.in_err-objects.was in
     let l = f.1.1 in
@@ -60,7 +58,7 @@ bounds-objects-declared c =
 
 pub loop-line-preserved : goal.loop-line-preserved
 loop-line-preserved c =
-    let p = part-told 10 c.args.text.now c.loop-line.start c.in-Some.line.now c.loop-line.invariant.to c.in-Some.ensures.0 c.in-Some.ensures.1 in
+    let p = part-told 10 c.args.text.now c.loop-line.start c.in-Some.line.now c.loop-line.invariant.to (search rules) (search rules) in
     let o = kept c.read_object.result c.map_err.result _ c.in_ok-objects.field-0 c.map_err.ensures.cases c.in_ok-objects.was in
     let few : c.loop-line.declared < 16 = object-few c.read_object.result c.in_ok-objects.field-0 c.loop-line.declared _ (rw p.2 at c.read_object.ensures) o in record {
       to = omega (arith, p.1);

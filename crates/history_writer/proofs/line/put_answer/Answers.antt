@@ -1,5 +1,5 @@
 -- `put_answer` meets its contract. Assumes nothing.
-use Rattle.std.proofs.Common.{◌≡◌, List, ℕ, sym, ap, ◌∙◌, arith, rules, length, min}
+use Rattle.std.proofs.Common.{List, ℕ, sym, ap, ◌∙◌, arith, length}
 use Rattle.layout.specs.Fill.{fill}
 use Rattle.history_writer.proofs.PieceLaws.{lost_is, told_is}
 use Rattle.history_writer.proofs.line.put_answer.Goals as goal
@@ -13,14 +13,9 @@ returns-then-a c =
     (c.put_bytes.ensures.0 ∙ ap length e, c.put_bytes.ensures.1 ∙ ap (λ (t : List ℕ). fill t c.args.part.now) e)
 
 pub put_list-requires : goal.put_list-requires
-put_list-requires c =
-    let n : c.min.result ≡ min c.args.a.count 8 = rw c.from.ensures at c.min.ensures in
-    let long : length c.args.a.values ≡ 8 = search rules in
-    omega (arith, c.requires, ap length (told_is c.args.a c.min.result c.if-a.false n long))
+put_list-requires c = omega (arith, c.requires, ap length (told_is c.args.a _ c.if-a.false c.told_values.ensures))
 
 pub returns : goal.returns
 returns c =
-    let n : c.min.result ≡ min c.args.a.count 8 = rw c.from.ensures at c.min.ensures in
-    let long : length c.args.a.values ≡ 8 = search rules in
-    let e = told_is c.args.a c.min.result c.if-a.false n long in
+    let e = told_is c.args.a _ c.if-a.false c.told_values.ensures in
     (c.put_list.ensures.0 ∙ ap length e, c.put_list.ensures.1 ∙ ap (λ (t : List ℕ). fill t c.args.part.now) e)

@@ -23,4 +23,4 @@ returns c =
     ∙ ap event_list_of (first-places places h.count (omega (arith, few, c.places_of-places.ensures.0))
     ∙ line-is h c.requires.history o.pasts o.updates c.order_of.ensures.updates places its
     ∙ ap (one_line (history_of h)) (pasts-order h c.args.c.now views c.requires.history c.requires.has o.pasts c.order_of.ensures.pasts)))
-    _ c.no_pasts.ensures _ c.whole_views-views.ensures c.record_of.result c.record_of.ensures
+    _ c.no_pasts.ensures _ (rw c.entries.ensures at c.whole_views-views.ensures) c.record_of.result c.record_of.ensures

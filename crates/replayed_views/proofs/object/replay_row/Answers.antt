@@ -2,7 +2,7 @@
 use native.Mathlib.Omega.{arith}
 use mathlib.Core.Path.{◌≡◌, ap, ◌∙◌}
 use mathlib.Core.Bool.{true}
-use lib.ListN.{get_or, length-take}
+use lib.ListN.{length, get_or, length-take}
 use Rattle.objects.specs.State.{contents_of}
 use Rattle.replays.specs.Replay.{no_light, history_in}
 use Rattle.orders.proofs.CutLaws.{entries-listed}
@@ -18,11 +18,11 @@ returns-then-history-from c =
 
 pub replay_object-requires : goal.replay_object-requires
 replay_object-requires c =
-    let kept = entries-listed c.cut_to-cut.result _ c.cut_to-cut.ensures.list in
-    part-ready c.args.row c.requires kept (omega (arith, length-take c.cut_to-cut.result.count c.cut_to-cut.result.events, c.cut_to-cut.ensures.few))
+    let kept = c.entries.ensures ∙ entries-listed c.cut_to-cut.result _ c.cut_to-cut.ensures.list in
+    part-ready c.args.row c.requires kept (omega (arith, ap length c.entries.ensures, length-take c.cut_to-cut.result.count c.cut_to-cut.result.events, c.cut_to-cut.ensures.few))
 
 pub returns : goal.returns
 returns c =
-    let kept = entries-listed c.cut_to-cut.result _ c.cut_to-cut.ensures.list in
+    let kept = c.entries.ensures ∙ entries-listed c.cut_to-cut.result _ c.cut_to-cut.ensures.list in
     c.replay_object.ensures
     ∙ ap (one_wrong (history_in c.args.history.now) c.args.e.0 (get_or c.args.history.now.events c.args.e.0 no_light).object (contents_of c.args.history.now.values c.args.start)) kept

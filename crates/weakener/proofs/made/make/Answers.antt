@@ -1,15 +1,13 @@
 -- `make` meets its contract: a reading refusal, or what is made of the records. Assumes nothing.
 use Rattle.std.proofs.Common.{refl}
 use Rattle.std.proofs.lemmas.Result.{err_from_is_err_and}
-use Rattle.checker.proofs.VerdictLaws.{within-read, fits_read}
+use Rattle.checker.proofs.VerdictLaws.{limits-read}
 use Rattle.weakener.proofs.TextLaws.{texts-refused, texts-none, texts-read}
 use Rattle.weakener.proofs.made.make.Goals as goal
 
 pub make_record-requires : goal.make_record-requires
-make_record-requires c = (
-  within-read c.args.history.now c.args.text.now _ c.in_ok-read.ensures.0 refl _ c.in_ok-read.ensures.1,
-  fits_read c.args.history.now c.args.text.now _ c.in_ok-read.ensures.0 refl _ c.in_ok-read.ensures.1,
-)
+make_record-requires c =
+    limits-read c.args.history.now c.args.text.now _ c.in_ok-read.ensures.0 refl _ c.in_ok-read.ensures.1
 
 pub returns-in_default : goal.returns-in_default
 returns-in_default c =

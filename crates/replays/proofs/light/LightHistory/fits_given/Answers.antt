@@ -1,4 +1,4 @@
--- An answer that was not lost is compared: its first values, and an array of eight has no more of them.
+-- An answer that was not lost is compared. Assumes nothing.
 use native.Mathlib.Omega.{arith}
 use mathlib.Core.Path.{◌≡◌}
 use mathlib.Core.Bool.{false}

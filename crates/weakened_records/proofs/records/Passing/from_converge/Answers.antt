@@ -5,5 +5,5 @@ use Rattle.weakened_records.proofs.records.Passing.from_converge.Goals as goal
 
 pub returns-in_default : goal.returns-in_default
 returns-in_default c =
-    stays-record c.args.self.now.h.now c.args.self.now.of.now.certificate c.args.self.now.of.now.views c.args.self.now.passed Converge c.args.wanted c.requires
+    stays-record c.args.self.now Converge c.args.wanted c.requires
     (converge-stays c.args.wanted c.in_default.not-Weak)

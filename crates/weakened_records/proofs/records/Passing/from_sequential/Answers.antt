@@ -5,4 +5,4 @@ use Rattle.weakened_records.proofs.records.Passing.from_sequential.Goals as goal
 
 pub returns-in-Sequential : goal.returns-in-Sequential
 returns-in-Sequential c =
-    stays-record c.args.self.now.h.now c.args.self.now.of.now.certificate c.args.self.now.of.now.views c.args.self.now.passed Sequential c.args.wanted c.requires (λ _. c.in-Sequential.is)
+    stays-record c.args.self.now Sequential c.args.wanted c.requires (λ _. c.in-Sequential.is)

@@ -7,10 +7,11 @@ use Rattle.weakened_records.proofs.records.Passing.sequential_to_other.Goals as 
 
 pub order_pasts-pasts-requires : goal.order_pasts-pasts-requires
 order_pasts-pasts-requires c =
-    one_holds c.args.self.now.h.now c.args.self.now.of.now.certificate c.args.self.now.of.now.views c.args.self.now.passed Sequential c.requires.0 refl
+    let p = c.args.self.now in
+    one_holds p.h.now p.of.now.certificate p.of.now.views p.passed Sequential c.requires.0 refl
 
 pub returns : goal.returns
 returns c =
-    other-record c.args.self.now.h.now c.args.self.now.of.now.certificate c.args.self.now.of.now.views c.args.self.now.passed c.requires.0 c.args.wanted c.requires.1
-    c.view_numbers-named.result c.view_numbers-named.ensures.0 c.record_of.result c.order_pasts-pasts.result c.order_views.result c.record_of.ensures
+    other-record c.args.self.now c.requires.0 c.args.wanted c.requires.1
+    c.view_numbers-named.result (rw c.recorded_events.ensures.events at c.view_numbers-named.ensures.0) c.record_of.result c.order_pasts-pasts.result c.order_views.result c.record_of.ensures
     c.order_pasts-pasts.ensures c.order_views.ensures

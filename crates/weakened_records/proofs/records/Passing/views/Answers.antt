@@ -6,6 +6,6 @@ use Rattle.weakened_records.proofs.records.Passing.views.Goals as goal
 
 pub invariant_of-result-clause-events : goal.invariant_of-result-clause-events
 invariant_of-result-clause-events c =
+    let p = c.args.self.now in
     let m = length c.args.numbers.now in
-    views-first c.args.self.now.of.now.views c.args.self.now.of.now.certificate.lengths m 64
-    (views-passed c.args.self.now.h.now c.args.self.now.of.now.certificate c.args.self.now.of.now.views c.args.self.now.passed m c.requires)
+    views-first p.of.now.views p.of.now.certificate.lengths m 64 (views-passed p.h.now p.of.now.certificate p.of.now.views p.passed m c.requires)
