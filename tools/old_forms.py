@@ -63,7 +63,7 @@ def enums_of_the_shape():
 
 def flags_with_values():
     for name, line, struct, body in types("struct"):
-        found = [f for f in body if re.match(r"(pub )?(fault|number|refusal): u8|(pub )?(known|spelt|below|few|dash|lost): bool", f)]
+        found = [f for f in body if re.match(r"(pub(\(crate\))? )?(fault|number|refusal): u8|(pub(\(crate\))? )?(known|spelt|below|few|dash|lost): bool", f)]
         if found and len(body) > 1:
             yield f"{name}:{line}: struct {struct}"
 
@@ -140,7 +140,7 @@ def arrays_with_lengths():
 
 def counts_beside_arrays():
     for name, line, struct, body in types("struct"):
-        count = any(re.match(r"(pub )?(count|length|declared|size|head|tail): ", f) for f in body)
+        count = any(re.match(r"(pub(\(crate\))? )?(count|length|declared|size|head|tail): ", f) for f in body)
         if count and any("; " in f and "[" in f for f in body):
             yield f"{name}:{line}: struct {struct}"
 

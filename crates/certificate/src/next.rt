@@ -40,8 +40,8 @@ fn quick_entry(text: &[u8]) -> Option<(usize, &[u8])>
 // A function of its own to the compiler too: as part of its callers the loop has too few registers, and takes up to 1.4 times as long.
 // Kept: no one loop with `leading_values` (event_reader::next): here an entry is judged by the one before it, so the step would change what
 // it captures, and the laws of the two differ in that too.
-// Kept: `EventList::push` in place of `events[k]` was tried: it proves, and bench's pair causal-full is then read in 1.27 of the time before
-// the design pass or more, wherever the linker puts the loop; with `events[k]` in 1.06 at two places of four. The bar is a quarter more.
+// Kept: `EventList::push` in place of `events[k]` was tried: it proves, and where the linker puts the loop well (two places of four) bench's
+// pair causal-full is read in 1.24 to 1.27 of the time before the design pass, with `events[k]` in 1.06 to 1.13; the bar is a quarter more.
 #[inline(never)]
 fn quick_entries(text: &[u8], part: Part) -> Option<(EventList, &[u8])>
     ensures { IfSome result (λ r. ListFirst (is_past part.sort) part.count text.now r.0 r.1.now) }

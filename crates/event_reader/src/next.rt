@@ -28,8 +28,8 @@ fn op_behind<'a>(text: &'a [u8], word: &[u8], op: Op) -> Option<(Op, &'a [u8])>
 }
 
 // The op whose word a text begins with, with a space behind it, and what stands behind the space.
-// Kept: the words one after the other; no plainer by `split_once` and `read_op`, where a word is cut off, looked up and then judged by what
-// stands behind it (tried: and to read a history took a seventh more instructions).
+// Kept: `split_once` and `read_op` (two lines) were tried: they prove, and `walnutgleam_sequential` answered 17 of bench's pair sequential then
+// takes 1.38 of the time before the design pass, with these words 1.19; the bar is a quarter more.
 #[tactic(auto, unfolding(history::specs::Kinds::op_word))]
 fn leading_op(text: &[u8]) -> Option<(Op, &[u8])>
     ensures { IfSome result (λ r. text.now ≡ op_word r.0 ++ 32 ∷ r.1.now) }

@@ -12,6 +12,7 @@ use history::record::History;
 use orders::listed::past_rows;
 
 // The past of each event, the updates, and how many events there are.
+// Kept: no heap, fixed memory; the rows are the 64 that `past_rows` gives, of which the first `size` are of events.
 #[derive(Clone, Copy)]
 pub(crate) struct Order {
     pub(crate) pasts: [u64; 64],
