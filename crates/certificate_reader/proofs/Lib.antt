@@ -1,3 +1,4 @@
+pub mod EachReading
 pub mod ReadLaws
 pub mod KeepLaws
 pub mod PlaceLaws

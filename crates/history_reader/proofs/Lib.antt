@@ -1,3 +1,4 @@
+pub mod EachReading
 pub mod ReadLaws
 pub mod PlaceLaws
 pub mod EventPlaceLaws
